@@ -5,7 +5,7 @@ use Rattle.std.proofs.lemmas.Int.{ints}
 use Rattle.rept_isa.specs.Numbers.{plus, word, beside}
 use Rattle.rept_partial.specs.declared.range.Range.{Range}
 use Rattle.rept_alias.specs.declared.addresses.Access.{Access}
-use Rattle.rept_alias.specs.Accesses.{hits, distance, between, everywhere, stays_inside, access_of, IsWithin}
+use Rattle.rept_alias.specs.Accesses.{hits, distance, between, everywhere, stays_inside, access_of, IsRangeWithin}
 
 -- an address that whole numbers give
 plus-whole : (v : ℕ) (imm : ℤ) → v < 2 ^ 32 → pos 0 ≤ℤ (pos v +ℤ imm) → (pos v +ℤ imm) <ℤ pos (2 ^ 32) → pos (plus v imm) ≡ (pos v +ℤ imm)
@@ -113,10 +113,10 @@ exact base imm width a some few one fits t = elim (forms base imm width) [
         (o.0, omega (arith, o.1), o.2)
 
 -- a narrower range stays inside too
-inside_within : (base wider : Range) (imm : ℤ) (last : ℕ) → IsWithin base wider → IsInside wider imm last → IsInside base imm last
+inside_within : (base wider : Range) (imm : ℤ) (last : ℕ) → IsRangeWithin base wider → IsInside wider imm last → IsInside base imm last
 inside_within base wider imm last w h = record { low = omega (arith, ints, h.low, w.0); high = omega (arith, ints, h.high, w.1) }
 
-within_row : (base wider : Range) (imm : ℤ) (width a : ℕ) → 0 < width → width ≤ 4 → a < 2 ^ 32 → IsWithin base wider → IsInside wider imm (width - 1) → hits (bytes_from_to base imm width) a ≡ true → hits (bytes_from_to wider imm width) a ≡ true
+within_row : (base wider : Range) (imm : ℤ) (width a : ℕ) → 0 < width → width ≤ 4 → a < 2 ^ 32 → IsRangeWithin base wider → IsInside wider imm (width - 1) → hits (bytes_from_to base imm width) a ≡ true → hits (bytes_from_to wider imm width) a ≡ true
 within_row base wider imm width a some few fits w h t =
     let g = inside_within base wider imm (width - 1) w h in
     let o = base.ordered in
@@ -135,7 +135,7 @@ hits_at x a = hits x a ≡ true
 any_address : (lo a : ℕ) → lo < 2 ^ 32 → distance lo a ≡ distance lo (a % 2 ^ 32)
 any_address lo a fits = omega arith
 
-wider_form : (base wider : Range) (imm : ℤ) (width a : ℕ) → 0 < width → width ≤ 4 → a < 2 ^ 32 → IsWithin base wider → hits (access_of base imm width) a ≡ true → hits (access_of wider imm width) a ≡ true
+wider_form : (base wider : Range) (imm : ℤ) (width a : ℕ) → 0 < width → width ≤ 4 → a < 2 ^ 32 → IsRangeWithin base wider → hits (access_of base imm width) a ≡ true → hits (access_of wider imm width) a ≡ true
 wider_form base wider imm width a some few fits w t = elim (forms wider imm width) [
   | inl (one, is) ↦
       let o = base.ordered in
@@ -165,7 +165,7 @@ modulo : (x : Access) (a : ℕ) → x.lo < 2 ^ 32 → hits x a ≡ hits x (a % 2
 modulo x a fits = rw (any_address x.lo a fits) refl
 
 -- a narrower range gives no more addresses
-pub narrower : (base wider : Range) (imm : ℤ) (width a : ℕ) → 0 < width → width ≤ 4 → IsWithin base wider → hits (access_of base imm width) a ≡ true → hits (access_of wider imm width) a ≡ true
+pub narrower : (base wider : Range) (imm : ℤ) (width a : ℕ) → 0 < width → width ≤ 4 → IsRangeWithin base wider → hits (access_of base imm width) a ≡ true → hits (access_of wider imm width) a ≡ true
 narrower base wider imm width a some few w t =
     modulo (access_of wider imm width) a (lo-fits wider imm width) ∙ wider_form base wider imm width (a % 2 ^ 32) some few (omega arith) w (sym (modulo (access_of base imm width) a (lo-fits base imm width)) ∙ t)
 

@@ -39,5 +39,5 @@ abbrev pub access_of : Range → ℤ → ℕ → Access
 access_of base imm width = if base.lo == base.hi || stays_inside base imm (width - 1) then between (plus base.lo imm) (beside (plus base.hi imm) (width - 1)) else everywhere
 
 -- each value of the one range is in the other
-abbrev pub IsWithin : Range → Range → Type 0
-IsWithin narrow wide = (wide.lo ≤ narrow.lo) × (narrow.hi ≤ wide.hi)
+abbrev pub IsRangeWithin : Range → Range → Type 0
+IsRangeWithin narrow wide = (wide.lo ≤ narrow.lo) × (narrow.hi ≤ wide.hi)

@@ -3,7 +3,7 @@
 ghost use Rattle.std.specs.Prelude.{◌≡◌, ◌⊎◌, ℕ, ◌<◌, ◌≤◌, ◌^◌, true, pos, ◌+ℤ◌, int_lt, not};
 ghost use Rattle.rept_isa.specs.Numbers.{plus, beside};
 ghost use Rattle.rept_partial.specs.declared.range.Range.{Range};
-ghost use Rattle.rept_alias.specs.Accesses.{hits, stays_inside, access_of, IsWithin};
+ghost use Rattle.rept_alias.specs.Accesses.{hits, stays_inside, access_of, IsRangeWithin};
 
 use crate::addresses::Access;
 use rept_isa::number::plus;
@@ -17,7 +17,7 @@ pub fn access(base: Range, imm: i32, width: u8) -> Access
     ensures value { result ≡ access_of base imm width }
     ensures covers { (v k : ℕ) → base.lo ≤ v → v ≤ base.hi → k < width → hits result (beside (plus v imm) k) ≡ true }
     ensures exact { base.lo ≡ base.hi → (a : ℕ) → a < 2 ^ 32 → hits result a ≡ true → (k : ℕ) × (k < width) × (a ≡ beside (plus base.lo imm) k) }
-    ensures monotone { (wider : Range) (a : ℕ) → IsWithin base wider → hits result a ≡ true → hits (access_of wider imm width) a ≡ true }
+    ensures monotone { (wider : Range) (a : ℕ) → IsRangeWithin base wider → hits result a ≡ true → hits (access_of wider imm width) a ≡ true }
 {
     let last = u32::from(width) - 1;
     if base.lo() == base.hi() || stays_inside(base, imm, last) {

@@ -18,7 +18,7 @@ use Rattle.rept_rules.specs.Operands.{less}
 use Rattle.rept_amo.specs.declared.form.WordDrawn.{WordDrawn}
 use Rattle.rept_amo.specs.declared.form.Form.{Form}
 use Rattle.rept_amo.specs.declared.form.Access.{Access}
-use Rattle.rept_rules.specs.Conclusions.{IsKnown, AreKnown, Says}
+use Rattle.rept_rules.specs.Conclusions.{IsKnown, AreKnown, IsOnRegister}
 
 -- an atomic instruction's operation and registers
 abbrev pub form_of : Instr → Option Form
@@ -26,7 +26,7 @@ form_of (Amo op rd rs1 rs2) = Some (record { op = op; rd = rd; rs1 = rs1; rs2 = 
 form_of _ = None
 
 -- the row is of this form, and its address is known before it
-pub record IsAccess (row : StepRow) (s : Seen) (x : Access) : Type 0 where
+pub record IsAtomicAccess (row : StepRow) (s : Seen) (x : Access) : Type 0 where
   pub is_row : form_of row.instr ≡ Some x.form
   pub base : IsKnown s Before x.form.rs1 x.base
 
@@ -86,18 +86,18 @@ undone atomic.Max written one = Unknown
 undone atomic.Minu written one = Unknown
 undone atomic.Maxu written one = Unknown
 
-pub data Concludes (row : StepRow) (s : Seen) (d : Drawn) : Type 0 where
+pub data AtomicConcludes (row : StepRow) (s : Seen) (d : Drawn) : Type 0 where
   -- 19: the register takes the word that was there
-  read : (x : Access) (m : ℕ → ℕ) → IsAccess row s x → ReadsWord x.form.op → AreKnown s Before x.base 4 m → Says d 19 After x.form.rd (word_at m x.base) → Concludes row s d
+  read : (x : Access) (m : ℕ → ℕ) → IsAtomicAccess row s x → ReadsWord x.form.op → AreKnown s Before x.base 4 m → IsOnRegister d 19 After x.form.rd (word_at m x.base) → AtomicConcludes row s d
   -- 20: an atomic memory operation on a known word and a known source gives each byte after it
-  written : (x : Access) (m : ℕ → ℕ) (v k : ℕ) → IsAccess row s x → IsOperation x.form.op → IsKnown s Before x.form.rs2 v → AreKnown s Before x.base 4 m → k < 4 → d ≡ byte_drawn (word_after x.base (combined x.form.op (word_at m x.base) v)) k → Concludes row s d
+  written : (x : Access) (m : ℕ → ℕ) (v k : ℕ) → IsAtomicAccess row s x → IsOperation x.form.op → IsKnown s Before x.form.rs2 v → AreKnown s Before x.base 4 m → k < 4 → d ≡ byte_drawn (word_after x.base (combined x.form.op (word_at m x.base) v)) k → AtomicConcludes row s d
   -- 21: the bytes that were read are those of the value in the register
-  read_back : (x : Access) (v k : ℕ) → IsAccess row s x → ReadsWord x.form.op → x.form.rd ≢ 0 → IsKnown s After x.form.rd v → k < 4 → d ≡ byte_drawn (word_before 21 x.base v) k → Concludes row s d
+  read_back : (x : Access) (v k : ℕ) → IsAtomicAccess row s x → ReadsWord x.form.op → x.form.rd ≢ 0 → IsKnown s After x.form.rd v → k < 4 → d ≡ byte_drawn (word_before 21 x.base v) k → AtomicConcludes row s d
   -- 22: the source of a swap is the word after it
-  swapped : (x : Access) (m : ℕ → ℕ) → IsAccess row s x → x.form.op ≡ atomic.Swap → AreKnown s After x.base 4 m → Says d 22 Before x.form.rs2 (word_at m x.base) → Concludes row s d
+  swapped : (x : Access) (m : ℕ → ℕ) → IsAtomicAccess row s x → x.form.op ≡ atomic.Swap → AreKnown s After x.base 4 m → IsOnRegister d 22 Before x.form.rs2 (word_at m x.base) → AtomicConcludes row s d
   -- 22: the source of an ADD or XOR from the words before and after it
-  source : (x : Access) (m n : ℕ → ℕ) (v : ℕ) → IsAccess row s x → AreKnown s Before x.base 4 m → AreKnown s After x.base 4 n → undone x.form.op (word_at n x.base) (word_at m x.base) ≡ Known v → Says d 22 Before x.form.rs2 v → Concludes row s d
+  source : (x : Access) (m n : ℕ → ℕ) (v : ℕ) → IsAtomicAccess row s x → AreKnown s Before x.base 4 m → AreKnown s After x.base 4 n → undone x.form.op (word_at n x.base) (word_at m x.base) ≡ Known v → IsOnRegister d 22 Before x.form.rs2 v → AtomicConcludes row s d
   -- 23: each byte before an ADD or XOR from its source and the word after it
-  word_back : (x : Access) (n : ℕ → ℕ) (v w k : ℕ) → IsAccess row s x → IsKnown s Before x.form.rs2 v → AreKnown s After x.base 4 n → undone x.form.op (word_at n x.base) v ≡ Known w → k < 4 → d ≡ byte_drawn (word_before 23 x.base w) k → Concludes row s d
+  word_back : (x : Access) (n : ℕ → ℕ) (v w k : ℕ) → IsAtomicAccess row s x → IsKnown s Before x.form.rs2 v → AreKnown s After x.base 4 n → undone x.form.op (word_at n x.base) v ≡ Known w → k < 4 → d ≡ byte_drawn (word_before 23 x.base w) k → AtomicConcludes row s d
   -- 24: an SC that is known to have succeeded wrote each byte of its source
-  stored : (x : Access) (v k : ℕ) → IsAccess row s x → x.form.op ≡ atomic.Sc → x.form.rd ≢ 0 → IsKnown s Before x.form.rs2 v → IsKnown s After x.form.rd 0 → k < 4 → d ≡ byte_drawn (word_stored x.base v) k → Concludes row s d
+  stored : (x : Access) (v k : ℕ) → IsAtomicAccess row s x → x.form.op ≡ atomic.Sc → x.form.rd ≢ 0 → IsKnown s Before x.form.rs2 v → IsKnown s After x.form.rd 0 → k < 4 → d ≡ byte_drawn (word_stored x.base v) k → AtomicConcludes row s d

@@ -4,14 +4,14 @@ use Rattle.std.specs.Prelude.{Option, Some, None}
 use Rattle.rept_isa.specs.declared.row.StepRow.{StepRow}
 use Rattle.rept_view.specs.declared.drawn.Drawn.{Drawn}
 use Rattle.rept_view.specs.Seen.{Seen}
-use Rattle.rept_rules.specs.Conclusions.{Concludes as ConcludesByBase}
+use Rattle.rept_rules.specs.Conclusions.{ConcludesByRow as ConcludesByBase}
 use Rattle.rept_amo.specs.declared.form.Form.{Form}
-use Rattle.rept_amo.specs.Conclusions.{Concludes, form_of}
+use Rattle.rept_amo.specs.Conclusions.{AtomicConcludes, form_of}
 
 -- by a case of the relation of atomic instructions, where it is one, and else by a case of that of RV32IM
 abbrev pub ConcludesBy : Option Form → StepRow → Seen → Drawn → Type 0
 ConcludesBy None row s d = ConcludesByBase row s d
-ConcludesBy (Some form) row s d = Concludes row s d
+ConcludesBy (Some form) row s d = AtomicConcludes row s d
 
 abbrev pub RowConcludes : StepRow → Seen → Drawn → Type 0
 RowConcludes row s d = ConcludesBy (form_of row.instr) row s d

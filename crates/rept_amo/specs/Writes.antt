@@ -31,9 +31,9 @@ is_done atomic.Max rd s = true
 is_done atomic.Minu rd s = true
 is_done atomic.Maxu rd s = true
 
-abbrev pub is_sure : Option Form → StepRow → Seen → Bool
-is_sure None row s = base.is_sure row.instr s
-is_sure (Some form) row s = base.is_register form.rs1 && is_some (s.register Before form.rs1) && is_done form.op form.rd s
+abbrev pub form_is_sure : Option Form → StepRow → Seen → Bool
+form_is_sure None row s = base.instr_is_sure row.instr s
+form_is_sure (Some form) row s = base.is_register form.rs1 && is_some (s.register Before form.rs1) && is_done form.op form.rd s
 
 -- the bytes before and after an atomic memory operation, those before an LR, and those after an SC
 abbrev pub places_by : AmoOp → ℕ

@@ -2,7 +2,7 @@
 
 ghost use Rattle.std.specs.Prelude.{◌≡◌, ℕ, ◌+◌, ◌++◌, ◌^◌, ◌<◌, min, Contains, Some};
 ghost use Rattle.rept_view.specs.declared.drawn.Drawn.{Drawn};
-ghost use Rattle.rept_amo.specs.Conclusions.{Concludes, form_of};
+ghost use Rattle.rept_amo.specs.Conclusions.{AtomicConcludes, form_of};
 ghost use Rattle.rept_amo.specs.Listing.{drawn_of, access_drawn};
 ghost use Rattle.rept_amo.specs.Needs.{needs_at};
 ghost use Rattle.rept_amo.specs.declared.form.Form.{Form};
@@ -80,8 +80,8 @@ impl RowRules for Atomic {
         ensures list { result.items ≡ drawn_of (form_of row.now.instr) row.now (V.seen view.now) }
         ensures inline { result.capacity ≡ 16 }
         ensures raised { self.new.draws ≡ min (self.old.draws + 1) 18446744073709551615 }
-        ensures listed { (form : Form) (d : Drawn) → form_of row.now.instr ≡ Some form → Contains result.items d → Concludes row.now (V.seen view.now) d }
-        ensures all { (form : Form) (d : Drawn) → form_of row.now.instr ≡ Some form → Concludes row.now (V.seen view.now) d → Contains result.items d }
+        ensures listed { (form : Form) (d : Drawn) → form_of row.now.instr ≡ Some form → Contains result.items d → AtomicConcludes row.now (V.seen view.now) d }
+        ensures all { (form : Form) (d : Drawn) → form_of row.now.instr ≡ Some form → AtomicConcludes row.now (V.seen view.now) d → Contains result.items d }
     {
         self.draws = self.draws.saturating_add(1);
         match form_of(&row.instr) {

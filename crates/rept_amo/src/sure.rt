@@ -3,7 +3,7 @@
 ghost use Rattle.std.specs.Prelude.{◌≡◌, ◌&&◌, is_some, Some};
 ghost use Rattle.rept_view.specs.declared.drawn.When.TheVariants.{Before, After};
 ghost use Rattle.rept_rules.specs.MayWrite.{is_register};
-ghost use Rattle.rept_amo.specs.Writes.{has_succeeded, is_done, is_sure, places_by};
+ghost use Rattle.rept_amo.specs.Writes.{form_is_sure, has_succeeded, is_done, places_by};
 
 use crate::form::Form;
 use rept_isa::{AmoOp, Reg, StepRow};
@@ -46,7 +46,7 @@ fn is_known<V: RowView>(view: &V, r: Reg) -> bool
 
 /// Whether a row of this form writes the bytes of its word, at a known address.
 pub fn is_sure<V: RowView>(form: &Form, row: &StepRow, view: &V) -> bool
-    ensures { result ≡ is_sure (Some form.now) row.now (V.seen view.now) }
+    ensures { result ≡ form_is_sure (Some form.now) row.now (V.seen view.now) }
 {
     let _ = row;
     is_known(view, form.rs1) && is_done(form.op, form.rd, view)

@@ -13,7 +13,7 @@ use Rattle.rept_view.specs.Seen.{Seen}
 use Rattle.rept_report.specs.declared.writer.Writer.{Writer}
 use Rattle.rept_report.specs.declared.writer.Writer as writers
 use Rattle.rept_report.specs.Setting.{Setting, HasLaws, IsInstant, way_of}
-use Rattle.rept_report.specs.Knowing.{SameRegisters}
+use Rattle.rept_report.specs.Knowing.{KnowSameRegisters}
 use Rattle.rept_report.specs.Views.{may_write, is_sure, touched_by, sure_by, registers_at, Carries}
 use Rattle.rept_report.specs.Closure.{Derivation, InClosure}
 use Rattle.rept_report.specs.Log.{oldest}
@@ -24,7 +24,7 @@ use Rattle.rept_report.proofs.Told.{none_some}
 use Rattle.rept_report.proofs.Places.{oldest_all}
 use Rattle.rept_report.proofs.Registers.{range_same, may_write_same, is_sure_same}
 use Rattle.rept_report.proofs.Implied.{ImpliedAt, implied_at, implied_next, implied_carries}
-use Rattle.rept_analysis.specs.State.{State, all_known, Subject, along}
+use Rattle.rept_analysis.specs.State.{AnalysisState, all_known, Subject, along}
 use Rattle.rept_analysis.specs.Moments.{moment}
 use Rattle.rept_report.specs.Why.{fact_of}
 use Rattle.rept_analysis.specs.Drawing.{Knows, IsTracked, IsFitted, IsSettled}
@@ -46,7 +46,7 @@ pub closure_early : {W : Type 0} (S : Setting W) (f : Fact) → InClosure S f �
 closure_early S f h = derived_early S h.0 h.1 f h.2
 
 -- whether a row is sure, by sets that are those of some of the facts
-pub sure_is : {W : Type 0} (s : State W) (i : ℕ) → i < s.path.given.legs.count → IsFitted s → (row : StepRow) → s.path.given.legs.row i ≡ Some row → s.path.rules.sure row (moment s.path.sets (oldest s.filled s.known.log) s.spans i) ≡ is_sure (along s.path) (told (oldest s.filled s.known.log)) i
+pub sure_is : {W : Type 0} (s : AnalysisState W) (i : ℕ) → i < s.path.given.legs.count → IsFitted s → (row : StepRow) → s.path.given.legs.row i ≡ Some row → s.path.rules.sure row (moment s.path.sets (oldest s.filled s.known.log) s.spans i) ≡ is_sure (along s.path) (told (oldest s.filled s.known.log)) i
 sure_is s i inside fitted row found = rw found (ap (λ (v : Seen). s.path.rules.sure row v) (moment_is s i inside fitted))
 
 -- where no row leads from a point, nothing is written
@@ -57,7 +57,7 @@ pub none_may : {W : Type 0} (S : Setting W) (K : Knowledge) (i a : ℕ) → S.le
 none_may S K i a none = ap (λ (o : Option StepRow). touched_by S o (registers_at S K i) a) none
 
 -- what is said of a writer looks at registers alone
-module _ {W : Type 0} (S : Setting W) (K L : Knowledge) (same : SameRegisters K L) (p a : ℕ) where
+module _ {W : Type 0} (S : Setting W) (K L : Knowledge) (same : KnowSameRegisters K L) (p a : ℕ) where
   candidate_same : (k : ℕ) → IsCandidate S K (spot p a) k → IsCandidate S L (spot p a) k
   candidate_same k h = record { may = sym (may_write_same S K L same k a) ∙ h.may; reaches = h.reaches }
 
@@ -79,16 +79,16 @@ module _ {W : Type 0} (S : Setting W) (K L : Knowledge) (same : SameRegisters K 
   writer_same writers.TheVariants.Several h = (λ j last. h.0 j (same_last j last), λ none. h.1 (record { rows = λ k c. none.rows k (candidate_same k c); light = none.light }))
   writer_same writers.TheVariants.None h = record { rows = λ k c. h.rows k (same_candidate k c); light = h.light }
 
-pub implied_same : {W : Type 0} (P : Subject W) (K L : Knowledge) → SameRegisters K L → (p a : ℕ) → implied (along P) K p a ≡ implied (along P) L p a
+pub implied_same : {W : Type 0} (P : Subject W) (K L : Knowledge) → KnowSameRegisters K L → (p a : ℕ) → implied (along P) K p a ≡ implied (along P) L p a
 implied_same P K L same p a = ap (λ (may : ℕ → ℕ → Bool). if nat_lt a (2 ^ 32) && nat_le p P.given.moments.end && (P.given.moments.dark_past p && all_past P.given.moments may (spot p a) P.given.legs.count) then P.given.dump a else None) (fun_ext (λ i. fun_ext (λ b. may_write_same (along P) K L same i b)))
 
-module _ {W : Type 0} (s : State W) (settled : IsSettled s) where
+module _ {W : Type 0} (s : AnalysisState W) (settled : IsSettled s) where
   -- the sets are those of the whole log
   pub filled_all : oldest s.filled s.known.log ≡ s.known.log
   filled_all = let all = settled.filled in oldest_all s.filled s.known.log (omega (arith, all))
 
   -- the facts of which the sets are tell of registers what is answered
-  pub filled_answers : SameRegisters (told (oldest s.filled s.known.log)) (answers s)
+  pub filled_answers : KnowSameRegisters (told (oldest s.filled s.known.log)) (answers s)
   filled_answers p r = rw filled_all refl
 
   pub may_write_answers : (i a : ℕ) → may_write (along s.path) (told (oldest s.filled s.known.log)) i a ≡ may_write (along s.path) (answers s) i a
@@ -165,9 +165,9 @@ module _ {W : Type 0} (s : State W) (settled : IsSettled s) where
         | inr free ↦ byte_untracked p a (λ h. false≢true (sym free ∙ contains_among s.known.store.tracked a h))
       ]
 
-module _ {W : Type 0} (s : State W) (finished : IsFinished s) where
+module _ {W : Type 0} (s : AnalysisState W) (finished : IsFinished s) where
   -- what the answered facts tell of registers is answered
-  pub shown_answers : SameRegisters (told (oldest s.shown s.known.log)) (answers s)
+  pub shown_answers : KnowSameRegisters (told (oldest s.shown s.known.log)) (answers s)
   shown_answers p r =
       let all = finished.all in
       let same : oldest s.shown s.known.log ≡ s.known.log = oldest_all s.shown s.known.log (omega (arith, all)) in

@@ -19,10 +19,10 @@ use Rattle.rept_report.specs.Conflicts.{IsQuiet}
 use Rattle.rept_report.specs.Log.{oldest}
 use Rattle.rept_report.proofs.Monotony.{quiet_less, spared_more}
 use Rattle.rept_analysis.specs.Work.{number_past}
-use Rattle.rept_analysis.specs.State.{State, all_known, with_writing, Subject, along}
-use Rattle.rept_analysis.specs.Drawing.{Knows, IsSilent, IsSpared, IsSparedNow, IsListed, past, IsBarrier, AreBarriers, AreWritings, Grows, IsUncut}
+use Rattle.rept_analysis.specs.State.{AnalysisState, all_known, with_writing, Subject, along}
+use Rattle.rept_analysis.specs.Drawing.{Knows, IsSilent, IsSpared, IsSparedNow, IsInList, past, IsBarrier, AreBarriers, AreWritings, Grows, IsUncut}
 
-module _ {W : Type 0} (s t : State W) (laws : HasLaws (along s.path)) (words : HasWords (all_known t)) (setting : t.path ≡ s.path) (older : oldest t.filled t.known.log ≡ oldest s.filled s.known.log) (more : (p : ℕ) (c : Cell) (v : ℕ) → Knows p c v s → Knows p c v t) where
+module _ {W : Type 0} (s t : AnalysisState W) (laws : HasLaws (along s.path)) (words : HasWords (all_known t)) (setting : t.path ≡ s.path) (older : oldest t.filled t.known.log ≡ oldest s.filled s.known.log) (more : (p : ℕ) (c : Cell) (v : ℕ) → Knows p c v s → Knows p c v t) where
   -- a row that may not write a byte may not where more is known
   pub spared_still : (i a : ℕ) → a < 2 ^ 32 → IsSpared i a s → IsSpared i a t
   spared_still i a small (inl old) = inl (rw (setting, older) old)
@@ -50,7 +50,7 @@ module _ {W : Type 0} (s t : State W) (laws : HasLaws (along s.path)) (words : H
         ];
   }
 
-pub writings_still : {W : Type 0} (s t : State W) → t.path ≡ s.path → t.spans ≡ s.spans → oldest t.filled t.known.log ≡ oldest s.filled s.known.log → ((p : ℕ) (c : Cell) (v : ℕ) → Knows p c v s → Knows p c v t) → t.work.writing ≡ s.work.writing → (HasWords (all_known s) → HasWords (all_known t)) → AreWritings s → AreWritings t
+pub writings_still : {W : Type 0} (s t : AnalysisState W) → t.path ≡ s.path → t.spans ≡ s.spans → oldest t.filled t.known.log ≡ oldest s.filled s.known.log → ((p : ℕ) (c : Cell) (v : ℕ) → Knows p c v s → Knows p c v t) → t.work.writing ≡ s.work.writing → (HasWords (all_known s) → HasWords (all_known t)) → AreWritings s → AreWritings t
 writings_still s t setting spans older more same words h = record {
   laws = subst (λ (P : Subject _). HasLaws (along P)) (sym setting) h.laws;
   words = words h.words;
@@ -74,7 +74,7 @@ module _ (list : List Writing) (k : ℕ) (w x : Writing) (found : slice_get list
   there : slice_get (set list k x) k ≡ Some x
   there = set_here list k x (slice_get_within list k w found)
 
-  listed_set : (i : ℕ) → IsListed list i → IsListed (set list k x) i
+  listed_set : (i : ℕ) → IsInList list i → IsInList (set list k x) i
   listed_set i h =
       elim (cases_eq h.index k) [
         | inl e ↦
@@ -105,7 +105,7 @@ module _ (list : List Writing) (k : ℕ) (w x : Writing) (found : slice_get list
         let second = at_set j d (omega (arith, lt, long)) in
         omega (arith, before, first, second)
 
-  module _ {W : Type 0} (s : State W) (free : (a : ℕ) → a < 2 ^ 32 → call_hits x.access a ≡ false → IsSparedNow w.row a s) (time : x.at ≡ s.path.given.moments.before w.row) (extent : IsExtent s.path.given.moments w.row (record { from = x.from; to = x.to })) (h : AreBarriers list s) where
+  module _ {W : Type 0} (s : AnalysisState W) (free : (a : ℕ) → a < 2 ^ 32 → call_hits x.access a ≡ false → IsSparedNow w.row a s) (time : x.at ≡ s.path.given.moments.before w.row) (extent : IsExtent s.path.given.moments w.row (record { from = x.from; to = x.to })) (h : AreBarriers list s) where
     anew_here : IsBarrier x s
     anew_here =
         let old = h.each k w found in
@@ -134,7 +134,7 @@ module _ (list : List Writing) (k : ℕ) (w x : Writing) (found : slice_get list
           ];
     }
 
-barriers_listed : {W : Type 0} (s : State W) (rows list : List Writing) → AreBarriers rows s → AreBarriers rows (with_writing s list)
+barriers_listed : {W : Type 0} (s : AnalysisState W) (rows list : List Writing) → AreBarriers rows s → AreBarriers rows (with_writing s list)
 barriers_listed s rows list h = record {
   each = λ k w at. let x = h.each k w at in record { there = x.there; time = x.time; extent = x.extent; others = x.others };
   order = h.order;
@@ -142,8 +142,8 @@ barriers_listed s rows list h = record {
 }
 
 -- a row of the list was put in it anew, with what it may write by all that is known by now
-pub put_writings : {W : Type 0} (s t : State W) (k : ℕ) (w x : Writing) → slice_get s.work.writing k ≡ Some w → x.row ≡ w.row → ((a : ℕ) → a < 2 ^ 32 → call_hits x.access a ≡ false → IsSparedNow w.row a s) → x.at ≡ s.path.given.moments.before w.row → IsExtent s.path.given.moments w.row (record { from = x.from; to = x.to }) → t ≡ with_writing s (set s.work.writing k x) → AreWritings s → AreWritings t
-put_writings s t k w x found row free time extent is h = subst (λ (y : State _). AreWritings y) (sym is) (record {
+pub put_writings : {W : Type 0} (s t : AnalysisState W) (k : ℕ) (w x : Writing) → slice_get s.work.writing k ≡ Some w → x.row ≡ w.row → ((a : ℕ) → a < 2 ^ 32 → call_hits x.access a ≡ false → IsSparedNow w.row a s) → x.at ≡ s.path.given.moments.before w.row → IsExtent s.path.given.moments w.row (record { from = x.from; to = x.to }) → t ≡ with_writing s (set s.work.writing k x) → AreWritings s → AreWritings t
+put_writings s t k w x found row free time extent is h = subst (λ (y : AnalysisState _). AreWritings y) (sym is) (record {
   laws = h.laws;
   words = h.words;
   fitted = h.fitted;
@@ -151,14 +151,14 @@ put_writings s t k w x found row free time extent is h = subst (λ (y : State _)
 })
 
 -- only the list differs
-pub put_grows : {W : Type 0} (s t : State W) (list : List Writing) → t ≡ with_writing s list → (AreWritings s → AreWritings t) → Grows s t
-put_grows s t list is keeps = subst (λ (y : State _). (AreWritings s → AreWritings y) → Grows s y) (sym is) (λ f. record { path = refl; count = refl; row = λ i. refl; spans = refl; filled = refl; shown = refl; complete = refl; conflict = refl; answers = refl; older = refl; longer = omega arith; log = λ t h. refl; more = λ p c v e. e; tracked = λ a h. h; counted = omega arith; writing = f; fewer = omega arith; spent = omega arith; words = λ w. w }) keeps
+pub put_grows : {W : Type 0} (s t : AnalysisState W) (list : List Writing) → t ≡ with_writing s list → (AreWritings s → AreWritings t) → Grows s t
+put_grows s t list is keeps = subst (λ (y : AnalysisState _). (AreWritings s → AreWritings y) → Grows s y) (sym is) (λ f. record { path = refl; count = refl; row = λ i. refl; spans = refl; filled = refl; shown = refl; complete = refl; conflict = refl; answers = refl; older = refl; longer = omega arith; log = λ t h. refl; more = λ p c v e. e; tracked = λ a h. h; counted = omega arith; writing = f; fewer = omega arith; spent = omega arith; words = λ w. w }) keeps
 
-pub put_uncut : {W : Type 0} (s t : State W) (list : List Writing) → t ≡ with_writing s list → IsUncut s → IsUncut t
-put_uncut s t list is u = subst (λ (y : State _). IsUncut y) (sym is) u
+pub put_uncut : {W : Type 0} (s t : AnalysisState W) (list : List Writing) → t ≡ with_writing s list → IsUncut s → IsUncut t
+put_uncut s t list is u = subst (λ (y : AnalysisState _). IsUncut y) (sym is) u
 
 -- row i of the list was put in it anew, with what it may write by all that is known by now, and all else stayed
-module _ {W : Type 0} (s t : State W) (k i : ℕ) (x : Writing) (access : CallAccess) (row : x.row ≡ i) (its : x.access ≡ access) (within : k < length s.work.writing) (listed : (w : Writing) → slice_get s.work.writing k ≡ Some w → w.row ≡ i) where
+module _ {W : Type 0} (s t : AnalysisState W) (k i : ℕ) (x : Writing) (access : CallAccess) (row : x.row ≡ i) (its : x.access ≡ access) (within : k < length s.work.writing) (listed : (w : Writing) → slice_get s.work.writing k ≡ Some w → w.row ≡ i) where
   abbrev former : Writing
   former = get_or s.work.writing k x
 

@@ -17,14 +17,14 @@ use Rattle.rept_report.proofs.Told.{told_in, none_some, same_some}
 use Rattle.rept_report.proofs.Places.{oldest_all, oldest_more}
 use Rattle.rept_report.proofs.Standing.{oldest_up}
 use Rattle.rept_report.proofs.Monotony.{quiet_less}
-use Rattle.rept_analysis.specs.State.{State, Subject, along}
+use Rattle.rept_analysis.specs.State.{AnalysisState, Subject, along}
 use Rattle.rept_analysis.specs.Drawing.{Knows, Grows, LastKnownAt, LastPointKnown, LastKnownBelow}
 use Rattle.rept_analysis.specs.Kept.{IsKept}
 use Rattle.rept_analysis.proofs.Following.{LastsBelow}
 use Rattle.rept_analysis.specs.Refined.{IsClashOf, ShowsTo, IsHalted}
 use Rattle.rept_analysis.specs.declared.stop.Stop.{Stop}
 use Rattle.rept_analysis.specs.declared.stop.Stop.TheVariants.{Conflict, OutOfMemory}
-use Rattle.rept_analysis.specs.Begun.{value_at_end, ends_told, AreEnds, KnowsEnds, BeginsWithEnds, HasEndsAlone, HasEndsFirst, LearnsEndsFirst, IsLogWith}
+use Rattle.rept_analysis.specs.Begun.{value_at_end, ends_told, AreEndFacts, KnowsEnds, BeginsWithEnds, HasEndsAlone, HasEndsFirst, LearnsEndsFirst, IsLogWith}
 
 -- with a fact that the log keeps, or doesn't
 pub log_added : (keep : Bool) (f : Fact) (old new : List Fact) → new ≡ add_if keep f old → IsLogWith f old new
@@ -61,24 +61,24 @@ module _ {W : Type 0} (S : Setting W) where
       ]
 
   -- such values tell nothing else
-  pub ends_only : (facts : List Fact) → AreEnds S facts → (p : ℕ) (c : Cell) (v : ℕ) → told facts p c ≡ Some v → ends_told S p c ≡ Some v
+  pub ends_only : (facts : List Fact) → AreEndFacts S facts → (p : ℕ) (c : Cell) (v : ℕ) → told facts p c ≡ Some v → ends_told S p c ≡ Some v
   ends_only facts ends p c v e = ends (record { point = p; cell = c; value = v }) (told_in facts p c v e)
 
   -- one more
-  pub ends_more : (f : Fact) (facts : List Fact) → ends_told S f.point f.cell ≡ Some f.value → AreEnds S facts → AreEnds S (f ∷ facts)
+  pub ends_more : (f : Fact) (facts : List Fact) → ends_told S f.point f.cell ≡ Some f.value → AreEndFacts S facts → AreEndFacts S (f ∷ facts)
   ends_more f facts here ends g (inl is) = subst (λ (x : Fact). ends_told S x.point x.cell ≡ Some x.value) (sym is) here
   ends_more f facts here ends g (inr there) = ends g there
 
-  pub ends_with : (f : Fact) (old new : List Fact) → ends_told S f.point f.cell ≡ Some f.value → IsLogWith f old new → AreEnds S old → AreEnds S new
-  ends_with f old new here (inl same) ends = subst (λ (fs : List Fact). AreEnds S fs) (sym same) ends
-  ends_with f old new here (inr more) ends = subst (λ (fs : List Fact). AreEnds S fs) (sym more) (ends_more f old here ends)
+  pub ends_with : (f : Fact) (old new : List Fact) → ends_told S f.point f.cell ≡ Some f.value → IsLogWith f old new → AreEndFacts S old → AreEndFacts S new
+  ends_with f old new here (inl same) ends = subst (λ (fs : List Fact). AreEndFacts S fs) (sym same) ends
+  ends_with f old new here (inr more) ends = subst (λ (fs : List Fact). AreEndFacts S fs) (sym more) (ends_more f old here ends)
 
   -- no two of them are of one register at one point
-  pub ends_agree : (facts : List Fact) (p r v w : ℕ) → AreEnds S facts → ends_told S p (Register r) ≡ Some v → told facts p (Register r) ≡ Some w → w ≢ v → ⊥
+  pub ends_agree : (facts : List Fact) (p r v w : ℕ) → AreEndFacts S facts → ends_told S p (Register r) ≡ Some v → told facts p (Register r) ≡ Some w → w ≢ v → ⊥
   ends_agree facts p r v w ends here e differs = differs (same_some (sym (ends_only facts ends p (Register r) w e) ∙ here))
 
   -- they leave no set empty and no turn wrong where all of them don't
-  pub ends_quiet : HasLaws S → (facts : List Fact) → AreEnds S facts → IsQuiet S (ends_told S) → IsQuiet S (told facts)
+  pub ends_quiet : HasLaws S → (facts : List Fact) → AreEndFacts S facts → IsQuiet S (ends_told S) → IsQuiet S (told facts)
   ends_quiet laws facts ends quiet = quiet_less S laws (told facts) (ends_told S) (λ p r v e. ends_only facts ends p (Register r) v e) quiet
 
   pub shows_loud : (K : Knowledge) (kind : ConflictKind) → Shows S K kind → IsQuiet S K → ⊥
@@ -87,13 +87,13 @@ module _ {W : Type 0} (S : Setting W) where
   shows_loud K (WrongTurn i) h quiet = quiet.right i h
 
   -- all are known, and nothing else
-  pub begun_now : (log : List Fact) → AreEnds S log → KnowsEnds S (told log) → BeginsWithEnds S log
+  pub begun_now : (log : List Fact) → AreEndFacts S log → KnowsEnds S (told log) → BeginsWithEnds S log
   begun_now log ends all =
       let whole : oldest (length log) log ≡ log = oldest_all (length log) log (omega arith) in
       record {
         count = length log;
         within = omega arith;
-        ends = subst (λ (fs : List Fact). AreEnds S fs) (sym whole) ends;
+        ends = subst (λ (fs : List Fact). AreEndFacts S fs) (sym whole) ends;
         all = subst (λ (fs : List Fact). KnowsEnds S (told fs)) (sym whole) all;
       }
 
@@ -104,7 +104,7 @@ module _ {W : Type 0} (S : Setting W) where
       record {
         count = begun.count;
         within = omega (arith, longer, within);
-        ends = subst (λ (fs : List Fact). AreEnds S fs) (sym (same begun.count begun.within)) begun.ends;
+        ends = subst (λ (fs : List Fact). AreEndFacts S fs) (sym (same begun.count begun.within)) begun.ends;
         all = subst (λ (fs : List Fact). KnowsEnds S (told fs)) (sym (same begun.count begun.within)) begun.all;
       }
 
@@ -124,7 +124,7 @@ module _ {W : Type 0} (S : Setting W) where
         too_few (inl loud) less = loud (fewer_quiet t less)
         too_few (inr all) less = let within = begun.within in omega (arith, all, within, less)
 
-module _ {W : Type 0} (s : State W) where
+module _ {W : Type 0} (s : AnalysisState W) where
   -- a last value that was learnt
   pub last_known_by : (p r w : ℕ) → slice_get (s.path.given.last p) r ≡ Some w → Knows p (Register r) w s → LastKnownAt p r s
   last_known_by p r w found known v named is = known ∙ sym found ∙ is
@@ -150,13 +150,13 @@ module _ {W : Type 0} (s : State W) where
   ends_first laws loud quiet (inl alone) = absurd (loud (ends_quiet (along s.path) laws s.known.log alone quiet))
   ends_first laws loud quiet (inr first) = first
 
-module _ {W : Type 0} (old new : State W) where
+module _ {W : Type 0} (old new : AnalysisState W) where
   -- what is so of the path and the log alone
   pub begun_like : new.path ≡ old.path → new.known.log ≡ old.known.log → HasEndsFirst old → HasEndsFirst new
   begun_like path log first = subst (λ (P : Subject W). BeginsWithEnds (along P) new.known.log) (sym path) (subst (λ (fs : List Fact). BeginsWithEnds (along old.path) fs) (sym log) first)
 
   pub alone_like : new.path ≡ old.path → new.known.log ≡ old.known.log → HasEndsAlone old → HasEndsAlone new
-  alone_like path log alone = subst (λ (P : Subject W). AreEnds (along P) new.known.log) (sym path) (subst (λ (fs : List Fact). AreEnds (along old.path) fs) (sym log) alone)
+  alone_like path log alone = subst (λ (P : Subject W). AreEndFacts (along P) new.known.log) (sym path) (subst (λ (fs : List Fact). AreEndFacts (along old.path) fs) (sym log) alone)
 
   pub begins_like : new.path ≡ old.path → new.known.log ≡ old.known.log → LearnsEndsFirst old → LearnsEndsFirst new
   begins_like path log (inl alone) = inl (alone_like path log alone)
@@ -183,8 +183,8 @@ module _ {W : Type 0} (old new : State W) where
   lasts_grow grows least known p below last = last_point_grows grows 32 p (known p below (subst (λ (P : Subject W). IsLast (along P) p) grows.path last))
 
 -- where nothing was learnt yet
-pub none_learnt : {W : Type 0} {S : Setting W} {log : List Fact} → log ≡ [] → AreEnds S log ⊎ BeginsWithEnds S log
-none_learnt {W} {S} none = inl (subst (λ (fs : List Fact). AreEnds S fs) (sym none) (λ f h. absurd h))
+pub none_learnt : {W : Type 0} {S : Setting W} {log : List Fact} → log ≡ [] → AreEndFacts S log ⊎ BeginsWithEnds S log
+none_learnt {W} {S} none = inl (subst (λ (fs : List Fact). AreEndFacts S fs) (sym none) (λ f h. absurd h))
 
 -- what is so is so of any error
 pub any_err : {A E : Type 0} (r : Result A E) (Q : Type 0) → Q → IfErr r (λ e. Q)
@@ -192,7 +192,7 @@ any_err (Ok x) Q so = tt
 any_err (Err e) Q so = so
 
 -- a halt changes no path
-pub halted_path : {W : Type 0} (old new : State W) (stop : Stop) → IsHalted old new stop → new.path ≡ old.path
+pub halted_path : {W : Type 0} (old new : AnalysisState W) (stop : Stop) → IsHalted old new stop → new.path ≡ old.path
 halted_path old new (Conflict kind) h = h.path
 halted_path old new OutOfMemory h = h.path
 

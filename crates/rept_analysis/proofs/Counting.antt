@@ -5,7 +5,7 @@ use Rattle.rept_reason.specs.declared.fact.Cell.{Cell}
 use Rattle.rept_reason.specs.declared.fact.Cell.TheVariants.{Register, Byte}
 use Rattle.rept_reason.specs.Facts.{Knowledge}
 use Rattle.rept_report.specs.Setting.{Setting}
-use Rattle.rept_report.specs.Knowing.{SameRegisters}
+use Rattle.rept_report.specs.Knowing.{KnowSameRegisters}
 use Rattle.rept_report.specs.declared.counts.Counts.{Counts}
 use Rattle.rept_analysis.specs.Sums.{one_if, count_true, sum_to}
 use Rattle.rept_analysis.specs.Counts.{IsCounted}
@@ -54,7 +54,7 @@ of_registers K p (Register r) = K p (Register r)
 of_registers K p (Byte a) = None
 
 -- what is counted looks at registers alone
-pub counted_same : {W : Type 0} (S : Setting W) (K L : Knowledge) → SameRegisters K L → (counts : Counts) → IsCounted S K counts → IsCounted S L counts
+pub counted_same : {W : Type 0} (S : Setting W) (K L : Knowledge) → KnowSameRegisters K L → (counts : Counts) → IsCounted S K counts → IsCounted S L counts
 counted_same S K L same counts h =
     let h' : IsCounted S (of_registers K) counts = record { steps = h.steps; calls = h.calls; registers = h.registers; exact = h.exact; inexact = h.inexact } in
     let g : IsCounted S (of_registers L) counts = subst (λ (J : Knowledge). IsCounted S J counts) (fun_ext (λ p. fun_ext (λ c. at p c))) h' in

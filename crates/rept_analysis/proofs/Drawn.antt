@@ -5,7 +5,7 @@ use Rattle.std.proofs.Common.{slice_get}
 use Rattle.rept_isa.specs.declared.row.StepRow.{StepRow}
 use Rattle.rept_reason.specs.declared.fact.Cell.{Cell}
 use Rattle.rept_report.specs.Setting.{IsInstant}
-use Rattle.rept_analysis.specs.State.{State, Subject, all_known, along}
+use Rattle.rept_analysis.specs.State.{AnalysisState, Subject, all_known, along}
 use Rattle.std.proofs.lemmas.Option.{slice_get-get_or, slice_get_within}
 use Rattle.rept_view.specs.declared.drawn.Drawn.{Drawn}
 use Rattle.rept_report.proofs.Told.{same_some}
@@ -13,14 +13,14 @@ use Rattle.rept_report.specs.Why.{fact_of}
 use Rattle.rept_analysis.specs.Drawing.{Knows, IsTracked, Grows, HasNews, Drew, IsFollowing, IsClash, KnowsDrawn, DrawnBelow, IsConclusion, AreConclusions, IsUncut, IsRowClosed}
 use Rattle.rept_analysis.specs.Drawing.HasNews.{fact, address, anew}
 
-pub Grows_itself : {W : Type 0} (a : State W) → Grows a a
+pub Grows_itself : {W : Type 0} (a : AnalysisState W) → Grows a a
 Grows_itself a = record { path = refl; count = refl; row = λ i. refl; spans = refl; filled = refl; shown = refl; complete = refl; conflict = refl; answers = refl; older = refl; longer = omega arith; log = λ t h. refl; more = λ p c v e. e; tracked = λ x h. h; counted = omega arith; writing = λ h. h; fewer = omega arith; spent = omega arith; words = λ w. w }
 
 -- where nothing changed, no less is known
-pub Grows_same : {W : Type 0} (a b : State W) → b ≡ a → Grows a b
-Grows_same a b same = subst (λ (x : State _). Grows a x) (sym same) (Grows_itself a)
+pub Grows_same : {W : Type 0} (a b : AnalysisState W) → b ≡ a → Grows a b
+Grows_same a b same = subst (λ (x : AnalysisState _). Grows a x) (sym same) (Grows_itself a)
 
-pub Grows_trans : {W : Type 0} (a b c : State W) → Grows a b → Grows b c → Grows a c
+pub Grows_trans : {W : Type 0} (a b c : AnalysisState W) → Grows a b → Grows b c → Grows a c
 Grows_trans a b c g h = record {
   path = h.path ∙ g.path;
   count = h.count ∙ g.count;
@@ -44,12 +44,12 @@ Grows_trans a b c g h = record {
 }
 
 -- news stay news
-pub news_then : {W : Type 0} (a b c : State W) → Grows b c → HasNews a b → HasNews a c
+pub news_then : {W : Type 0} (a b c : AnalysisState W) → Grows b c → HasNews a b → HasNews a c
 news_then a b c g (fact p d v early cell none here) = fact p d v early cell none (g.more p d v here)
 news_then a b c g (address x small was_not here) = address x small was_not (g.tracked x here)
 news_then a b c g (anew less) = anew (let more = g.fewer in omega (arith, more, less))
 
-pub news_before : {W : Type 0} (a b c : State W) → Grows a b → HasNews b c → HasNews a c
+pub news_before : {W : Type 0} (a b c : AnalysisState W) → Grows a b → HasNews b c → HasNews a c
 news_before a b c g (fact p d v early cell none here) = fact p d v (subst (λ (P : Subject _). IsInstant (along P) d p) g.path early) cell (was_none (all_known a p d) refl) here
   where
     was_none : (x : Option ℕ) → all_known a p d ≡ x → all_known a p d ≡ None
@@ -61,7 +61,7 @@ news_before a b c g (fact p d v early cell none here) = fact p d v (subst (λ (P
 news_before a b c g (address x small was_not here) = address x small (λ t. was_not (g.tracked x t)) here
 news_before a b c g (anew less) = anew (let more = g.fewer in omega (arith, more, less))
 
-module _ {W : Type 0} (a b c : State W) (x y : Bool) (P Q R : State W → Type 0) where
+module _ {W : Type 0} (a b c : AnalysisState W) (x y : Bool) (P Q R : AnalysisState W → Type 0) where
   -- two drawings, one after the other
   pub Drew_both : Grows a b → Grows b c → Drew a b x P → Drew b c y Q → (P a → Q a → R a) → Drew a c (x || y) R
   Drew_both g h p q r = record {
@@ -103,18 +103,18 @@ module _ {W : Type 0} (a b c : State W) (x y : Bool) (P Q R : State W → Type 0
     uncut = λ u. q.uncut (p.uncut u);
   }
 
-pub Drew_as : {W : Type 0} (a b : State W) (x : Bool) (P Q : State W → Type 0) → Drew a b x P → (P a → Q a) → Drew a b x Q
+pub Drew_as : {W : Type 0} (a b : AnalysisState W) (x : Bool) (P Q : AnalysisState W → Type 0) → Drew a b x P → (P a → Q a) → Drew a b x Q
 Drew_as a b x P Q d f = record { news = d.news; unchanged = d.unchanged; closed = λ e. f (d.closed e); uncut = d.uncut }
 
 -- so where the last call answers whether something was learnt
-pub Drew_if : {W E : Type 0} (a b : State W) (r : Result Bool E) (P Q : State W → Type 0) → IfOk r (λ x. Drew a b x P) → (P a → Q a) → IfOk r (λ x. Drew a b x Q)
+pub Drew_if : {W E : Type 0} (a b : AnalysisState W) (r : Result Bool E) (P Q : AnalysisState W → Type 0) → IfOk r (λ x. Drew a b x P) → (P a → Q a) → IfOk r (λ x. Drew a b x Q)
 Drew_if a b (Ok x) P Q d f = Drew_as a b x P Q d f
 Drew_if a b (Err e) P Q d f = tt
 
-pub Drew_none : {W : Type 0} (a b : State W) (P : State W → Type 0) → b ≡ a → P a → Drew a b false P
-Drew_none a b P same h = record { news = λ e. absurd (false≢true e); unchanged = λ _. same; closed = λ _. h; uncut = λ u. subst (λ (x : State _). IsUncut x) (sym same) u }
+pub Drew_none : {W : Type 0} (a b : AnalysisState W) (P : AnalysisState W → Type 0) → b ≡ a → P a → Drew a b false P
+Drew_none a b P same h = record { news = λ e. absurd (false≢true e); unchanged = λ _. same; closed = λ _. h; uncut = λ u. subst (λ (x : AnalysisState _). IsUncut x) (sym same) u }
 
-pub Drew_new : {W : Type 0} (a b : State W) (P : State W → Type 0) → HasNews a b → b.work ≡ a.work → Drew a b true P
+pub Drew_new : {W : Type 0} (a b : AnalysisState W) (P : AnalysisState W → Type 0) → HasNews a b → b.work ≡ a.work → Drew a b true P
 Drew_new a b P h still = record { news = λ _. h; unchanged = λ e. absurd (true≢false e); closed = λ e. absurd (true≢false e); uncut = λ u. rw still u }
 
 -- what held below r, and holds at r, holds below r + 1
@@ -123,14 +123,14 @@ one_more C r below here s h =
     elim (cases_lt s r) [ inl lt ↦ below s lt | inr le ↦ let e : r ≡ s = omega arith in subst C e here ]
 
 -- a value that clashes
-pub clash_found : {W : Type 0} (old new : State W) (p : ℕ) (c : Cell) (w v : ℕ) → new ≡ old → Knows p c w old → w ≢ v → IsFollowing old (fact_of p c v) → IsClash new (fact_of p c v) w
-clash_found old new p c w v same known differs follows = subst (λ (x : State _). IsClash x (fact_of p c v) w) (sym same) (record { is_known = known; differs = differs; follows = follows })
+pub clash_found : {W : Type 0} (old new : AnalysisState W) (p : ℕ) (c : Cell) (w v : ℕ) → new ≡ old → Knows p c w old → w ≢ v → IsFollowing old (fact_of p c v) → IsClash new (fact_of p c v) w
+clash_found old new p c w v same known differs follows = subst (λ (x : AnalysisState _). IsClash x (fact_of p c v) w) (sym same) (record { is_known = known; differs = differs; follows = follows })
 
-pub row_after : {W : Type 0} (old new : State W) (i : ℕ) (row : StepRow) → Grows old new → old.path.given.legs.row i ≡ Some row → new.path.given.legs.row i ≡ Some row
+pub row_after : {W : Type 0} (old new : AnalysisState W) (i : ℕ) (row : StepRow) → Grows old new → old.path.given.legs.row i ≡ Some row → new.path.given.legs.row i ≡ Some row
 row_after old new i row grows found = grows.row i ∙ found
 
 -- one more conclusion of a list is known
-pub drawn_more : {W : Type 0} (s : State W) (i : ℕ) (list : List Drawn) (k : ℕ) (d : Drawn) → slice_get list k ≡ Some d → DrawnBelow k list i s → KnowsDrawn i d s → DrawnBelow (k + 1) list i s
+pub drawn_more : {W : Type 0} (s : AnalysisState W) (i : ℕ) (list : List Drawn) (k : ℕ) (d : Drawn) → slice_get list k ≡ Some d → DrawnBelow k list i s → KnowsDrawn i d s → DrawnBelow (k + 1) list i s
 drawn_more s i list k d at below here j e lt is =
     elim (cases_lt j k) [
       | inl less ↦ below j e less is
@@ -144,7 +144,7 @@ drawn_more s i list k d at below here j e lt is =
     same_drawn z = cc
 
 -- one more tracked address is done
-pub tracked_more : {W : Type 0} (s : State W) (P : ℕ → State W → Type 0) (k a : ℕ) → slice_get s.known.store.tracked k ≡ Some a → ((j b : ℕ) → j < k → slice_get s.known.store.tracked j ≡ Some b → P b s) → P a s → (j b : ℕ) → j < k + 1 → slice_get s.known.store.tracked j ≡ Some b → P b s
+pub tracked_more : {W : Type 0} (s : AnalysisState W) (P : ℕ → AnalysisState W → Type 0) (k a : ℕ) → slice_get s.known.store.tracked k ≡ Some a → ((j b : ℕ) → j < k → slice_get s.known.store.tracked j ≡ Some b → P b s) → P a s → (j b : ℕ) → j < k + 1 → slice_get s.known.store.tracked j ≡ Some b → P b s
 tracked_more s P k a at below here j b lt is =
     elim (cases_lt j k) [
       | inl less ↦ below j b less is
@@ -155,7 +155,7 @@ tracked_more s P k a at below here j b lt is =
     ]
 
 -- so all that are tracked are done
-pub tracked_all : {W : Type 0} (s : State W) (P : ℕ → State W → Type 0) (n : ℕ) → length s.known.store.tracked ≤ n → ((j b : ℕ) → j < n → slice_get s.known.store.tracked j ≡ Some b → P b s) → (a : ℕ) → IsTracked a s → P a s
+pub tracked_all : {W : Type 0} (s : AnalysisState W) (P : ℕ → AnalysisState W → Type 0) (n : ℕ) → length s.known.store.tracked ≤ n → ((j b : ℕ) → j < n → slice_get s.known.store.tracked j ≡ Some b → P b s) → (a : ℕ) → IsTracked a s → P a s
 tracked_all s P n le h a at = let lt = at.1 in h at.0 a (omega (arith, lt, le)) (slice_get-get_or s.known.store.tracked at.0 a at.1 ∙ ap Some at.2)
 
 contains_at : (list : List Drawn) (k : ℕ) (d : Drawn) → slice_get list k ≡ Some d → Contains list d
@@ -165,22 +165,22 @@ contains_at list k d at = let lt = slice_get_within list k d at in (k, lt, same_
     same_drawn z = cc
 
 -- all elements of a list are conclusions
-pub list_conclusions : {W : Type 0} (s : State W) (i : ℕ) (list : List Drawn) → ((d : Drawn) → Contains list d → IsConclusion i d s) → AreConclusions i list s
+pub list_conclusions : {W : Type 0} (s : AnalysisState W) (i : ℕ) (list : List Drawn) → ((d : Drawn) → Contains list d → IsConclusion i d s) → AreConclusions i list s
 list_conclusions s i list h k d at = h d (contains_at list k d at)
 
-pub list_known : {W : Type 0} (s : State W) (i : ℕ) (list : List Drawn) → DrawnBelow (length list) list i s → (d : Drawn) → Contains list d → KnowsDrawn i d s
+pub list_known : {W : Type 0} (s : AnalysisState W) (i : ℕ) (list : List Drawn) → DrawnBelow (length list) list i s → (d : Drawn) → Contains list d → KnowsDrawn i d s
 list_known s i list h d at = h at.0 d at.1 (slice_get-get_or list at.0 d at.1 ∙ ap Some at.2)
 
 -- a tracked address that was read
-pub read_tracked : {W : Type 0} (s : State W) (k a : ℕ) → slice_get s.known.store.tracked k ≡ Some a → IsTracked a s
+pub read_tracked : {W : Type 0} (s : AnalysisState W) (k a : ℕ) → slice_get s.known.store.tracked k ≡ Some a → IsTracked a s
 read_tracked s k a at = let lt = slice_get_within s.known.store.tracked k a at in (k, lt, same_some (sym (slice_get-get_or s.known.store.tracked k a lt) ∙ at))
 
 -- nothing is drawn, and P holds
-pub Drew_same : {W : Type 0} (a : State W) (P : State W → Type 0) → P a → Drew a a false P
+pub Drew_same : {W : Type 0} (a : AnalysisState W) (P : AnalysisState W → Type 0) → P a → Drew a a false P
 Drew_same a P h = record { news = λ e. absurd (false≢true e); unchanged = λ _. refl; closed = λ _. h; uncut = λ u. u }
 
 -- where drawing brought news, nothing is said of what is closed
-pub Drew_loud : {W : Type 0} (a b : State W) (x : Bool) (P Q : State W → Type 0) → x ≡ true → Drew a b x P → Drew a b x Q
+pub Drew_loud : {W : Type 0} (a b : AnalysisState W) (x : Bool) (P Q : AnalysisState W → Type 0) → x ≡ true → Drew a b x P → Drew a b x Q
 Drew_loud a b x P Q loud d = record { news = d.news; unchanged = d.unchanged; closed = λ e. absurd (true≢false (sym loud ∙ e)); uncut = d.uncut }
 
 -- what held from k on, and holds at the one before k, holds from there on
@@ -189,5 +189,5 @@ one_before C k n above here s low high =
     elim (cases_lt s k) [ inl lt ↦ let e : k - 1 ≡ s = omega (arith, low, lt) in subst C e here | inr le ↦ above s le high ]
 
 -- all that rows from one on let one conclude is known
-abbrev pub RowsClosedFrom : {W : Type 0} → ℕ → State W → Type 0
+abbrev pub RowsClosedFrom : {W : Type 0} → ℕ → AnalysisState W → Type 0
 RowsClosedFrom n s = (i : ℕ) → n ≤ i → i < s.path.given.legs.count → IsRowClosed i s

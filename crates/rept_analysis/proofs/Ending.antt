@@ -13,7 +13,7 @@ use Rattle.rept_report.proofs.Places.{oldest_all, oldest_more}
 use Rattle.rept_report.proofs.ViewLaws.{known_more}
 use Rattle.rept_report.proofs.Registers.{quiet_same}
 use Rattle.rept_log.specs.Known.{Known}
-use Rattle.rept_analysis.specs.State.{State, all_known, Subject, along}
+use Rattle.rept_analysis.specs.State.{AnalysisState, all_known, Subject, along}
 use Rattle.rept_analysis.specs.Drawing.{Grows, SameFacts, Continues, IsFitted, IsDrawnAll, IsSettled, IsUncut}
 use Rattle.rept_analysis.specs.Work.{left}
 use Rattle.rept_analysis.specs.Kept.{IsKept}
@@ -25,14 +25,14 @@ use Rattle.rept_analysis.specs.Measure.{measure}
 pub same_stop : {x : Stop} → ◌≡◌ {A = Result ⊤ Stop} (Err x) (Err OutOfMemory) → x ≡ OutOfMemory
 same_stop e = cc
 
-pub Same_itself : {W : Type 0} (a : State W) → SameFacts a a
+pub Same_itself : {W : Type 0} (a : AnalysisState W) → SameFacts a a
 Same_itself a = record { path = refl; known = refl; shown = refl; complete = refl; conflict = refl; draws = refl; drawn = refl }
 
-pub Same_trans : {W : Type 0} (a b c : State W) → SameFacts a b → SameFacts b c → SameFacts a c
+pub Same_trans : {W : Type 0} (a b c : AnalysisState W) → SameFacts a b → SameFacts b c → SameFacts a c
 Same_trans a b c g h = record { path = h.path ∙ g.path; known = h.known ∙ g.known; shown = h.shown ∙ g.shown; complete = h.complete ∙ g.complete; conflict = h.conflict ∙ g.conflict; draws = h.draws ∙ g.draws; drawn = h.drawn ∙ g.drawn }
 
 -- what facts show depends on the path and the facts alone
-module _ {W : Type 0} (s t : State W) (path : t.path ≡ s.path) (known : t.known ≡ s.known) where
+module _ {W : Type 0} (s t : AnalysisState W) (path : t.path ≡ s.path) (known : t.known ≡ s.known) where
   clash_like : (kind : ConflictKind) → IsClashOf s kind → IsClashOf t kind
   clash_like kind c = record {
     fact = c.fact;
@@ -51,10 +51,10 @@ module _ {W : Type 0} (s t : State W) (path : t.path ≡ s.path) (known : t.know
   pub known_like : KeepsKnown s t
   known_like p c v e = rw known e
 
-pub known_after : {W : Type 0} (a b c : State W) → KeepsKnown a b → KeepsKnown b c → KeepsKnown a c
+pub known_after : {W : Type 0} (a b c : AnalysisState W) → KeepsKnown a b → KeepsKnown b c → KeepsKnown a c
 known_after a b c g h p x v e = h p x v (g p x v e)
 
-module _ {W : Type 0} (a b : State W) (same : SameFacts a b) where
+module _ {W : Type 0} (a b : AnalysisState W) (same : SameFacts a b) where
   -- what is so of the path and the facts stays so
   pub forth : (P : Subject W → Known → Type 0) → P a.path a.known → P b.path b.known
   forth P h = rw (same.path, same.known) h
@@ -65,7 +65,7 @@ module _ {W : Type 0} (a b : State W) (same : SameFacts a b) where
   pub measure_same : measure b ≡ measure a
   measure_same = rw (same.path, same.known, same.drawn) refl
 
-  pub stopped_from : (c : State W) (kind : ConflictKind) → IsStopped b c kind → IsStopped a c kind
+  pub stopped_from : (c : AnalysisState W) (kind : ConflictKind) → IsStopped b c kind → IsStopped a c kind
   stopped_from c kind h = record {
     path = h.path ∙ same.path;
     recorded = h.recorded;
@@ -75,7 +75,7 @@ module _ {W : Type 0} (a b : State W) (same : SameFacts a b) where
     shown = λ calm. h.shown (same.conflict ∙ calm);
   }
 
-  pub paused_from : (c : State W) → IsPaused b c → IsPaused a c
+  pub paused_from : (c : AnalysisState W) → IsPaused b c → IsPaused a c
   paused_from c h = record {
     path = h.path ∙ same.path;
     complete = h.complete ∙ same.complete;
@@ -88,16 +88,16 @@ module _ {W : Type 0} (a b : State W) (same : SameFacts a b) where
   pub same_continues : Continues a b
   same_continues = record { path = same.path; shown = same.shown; complete = same.complete; conflict = same.conflict; answers = rw (same.shown, same.known) refl }
 
-pub grows_continues : {W : Type 0} (a b : State W) → Grows a b → Continues a b
+pub grows_continues : {W : Type 0} (a b : AnalysisState W) → Grows a b → Continues a b
 grows_continues a b g = record { path = g.path; shown = g.shown; complete = g.complete; conflict = g.conflict; answers = g.answers }
 
-pub Continues_itself : {W : Type 0} (a : State W) → Continues a a
+pub Continues_itself : {W : Type 0} (a : AnalysisState W) → Continues a a
 Continues_itself a = record { path = refl; shown = refl; complete = refl; conflict = refl; answers = refl }
 
-pub Continues_trans : {W : Type 0} (a b c : State W) → Continues a b → Continues b c → Continues a c
+pub Continues_trans : {W : Type 0} (a b c : AnalysisState W) → Continues a b → Continues b c → Continues a c
 Continues_trans a b c g h = record { path = h.path ∙ g.path; shown = h.shown ∙ g.shown; complete = h.complete ∙ g.complete; conflict = h.conflict ∙ g.conflict; answers = h.answers ∙ g.answers }
 
-pub continues_answers : {W : Type 0} (a b : State W) → Continues a b → KeepsAnswers a b
+pub continues_answers : {W : Type 0} (a b : AnalysisState W) → Continues a b → KeepsAnswers a b
 continues_answers a b g p r v e = rw g.answers e
 
 -- more places answer no less
@@ -105,7 +105,7 @@ pub known_later : (fs : List Fact) → OnceEach fs → (t u : ℕ) → t ≤ u �
 known_later fs once t u le p r v e = known_more (told (oldest t fs)) (told (oldest u fs)) (λ q s w x. oldest_more t u fs once le q (Register s) w x) p r v e
 
 -- a loud place isn't below those that are answered
-pub least_later : {W : Type 0} (s : State W) → IsKept s → (t : ℕ) → (IsQuiet (along s.path) (told (oldest t s.known.log)) → ⊥) → s.shown ≤ t
+pub least_later : {W : Type 0} (s : AnalysisState W) → IsKept s → (t : ℕ) → (IsQuiet (along s.path) (told (oldest t s.known.log)) → ⊥) → s.shown ≤ t
 least_later s kept t loud =
     elim (cases_lt t s.shown) [
       | inl lt ↦ absurd (loud (kept.calm t lt))
@@ -113,20 +113,20 @@ least_later s kept t loud =
     ]
 
 -- what all facts tell of registers
-pub quiet_whole : {W : Type 0} (s : State W) (n : ℕ) → n ≡ length s.known.log → IsQuiet (along s.path) (told (oldest n s.known.log)) → IsQuiet (along s.path) (all_known s)
+pub quiet_whole : {W : Type 0} (s : AnalysisState W) (n : ℕ) → n ≡ length s.known.log → IsQuiet (along s.path) (told (oldest n s.known.log)) → IsQuiet (along s.path) (all_known s)
 quiet_whole s n all quiet =
     let whole : oldest n s.known.log ≡ s.known.log = oldest_all n s.known.log (omega (arith, all)) in
     quiet_same (along s.path) (told s.known.log) (all_known s) (λ p r. refl) (subst (λ (fs : List Fact). IsQuiet (along s.path) (told fs)) whole quiet)
 
-pub quiet_part : {W : Type 0} (s : State W) (n : ℕ) → n ≡ length s.known.log → IsQuiet (along s.path) (told s.known.log) → IsQuiet (along s.path) (told (oldest n s.known.log))
+pub quiet_part : {W : Type 0} (s : AnalysisState W) (n : ℕ) → n ≡ length s.known.log → IsQuiet (along s.path) (told s.known.log) → IsQuiet (along s.path) (told (oldest n s.known.log))
 quiet_part s n all quiet =
     let whole : oldest n s.known.log ≡ s.known.log = oldest_all n s.known.log (omega (arith, all)) in
     subst (λ (fs : List Fact). IsQuiet (along s.path) (told fs)) (sym whole) quiet
 
-pub settled_by : {W : Type 0} (s : State W) (n : ℕ) → n ≡ length s.known.log → IsQuiet (along s.path) (told (oldest n s.known.log)) → IsFitted s → s.filled ≡ n → IsDrawnAll s → IsSettled s
+pub settled_by : {W : Type 0} (s : AnalysisState W) (n : ℕ) → n ≡ length s.known.log → IsQuiet (along s.path) (told (oldest n s.known.log)) → IsFitted s → s.filled ≡ n → IsDrawnAll s → IsSettled s
 settled_by s n all quiet fitted filled drawn = record { quiet = quiet_whole s n all quiet; fitted = fitted; filled = filled ∙ all; drawn = drawn }
 
-module _ {W : Type 0} (a b c : State W) where
+module _ {W : Type 0} (a b c : AnalysisState W) where
   pub ended_after : Continues a b → KeepsKnown a b → IsEnded b c → IsEnded a c
   ended_after g more h = record { path = h.path ∙ g.path; complete = h.complete; conflict = h.conflict; finished = h.finished; kept = λ p r v e. h.kept p r v (continues_answers a b g p r v e); more = known_after a b c more h.more }
 
@@ -145,15 +145,15 @@ module _ {W : Type 0} (a b c : State W) where
   halted_after OutOfMemory g more h = record { path = h.path ∙ g.path; complete = h.complete ∙ g.complete; conflict = h.conflict ∙ g.conflict; kept = λ p r v e. h.kept p r v (continues_answers a b g p r v e); more = known_after a b c more h.more; whole = h.whole }
 
 -- how often rules can be drawn stays so where only sets change
-pub spent_like : {W : Type 0} (a b s : State W) → SameFacts a b → a.work.draws + left a.work.drawn ≤ s.work.draws + left s.work.drawn → b.work.draws ≤ s.work.draws + left s.work.drawn
+pub spent_like : {W : Type 0} (a b s : AnalysisState W) → SameFacts a b → a.work.draws + left a.work.drawn ≤ s.work.draws + left s.work.drawn → b.work.draws ≤ s.work.draws + left s.work.drawn
 spent_like a b s same h = let draws = same.draws in omega (arith, h, draws)
 
-pub spent_after : {W : Type 0} (a b d s : State W) → SameFacts a b → Grows b d → a.work.draws + left a.work.drawn ≤ s.work.draws + left s.work.drawn → d.work.draws + left d.work.drawn ≤ s.work.draws + left s.work.drawn
+pub spent_after : {W : Type 0} (a b d s : AnalysisState W) → SameFacts a b → Grows b d → a.work.draws + left a.work.drawn ≤ s.work.draws + left s.work.drawn → d.work.draws + left d.work.drawn ≤ s.work.draws + left s.work.drawn
 spent_after a b d s same grows h =
     let spent = grows.spent in
     let draws = same.draws in
     let drawn : left b.work.drawn ≡ left a.work.drawn = rw same.drawn refl in
     omega (arith, h, spent, draws, drawn)
 
-pub uncut_like : {W : Type 0} (a b : State W) → SameFacts a b → IsUncut a → IsUncut b
+pub uncut_like : {W : Type 0} (a b : AnalysisState W) → SameFacts a b → IsUncut a → IsUncut b
 uncut_like a b same u i at = u i (rw same.drawn at at)

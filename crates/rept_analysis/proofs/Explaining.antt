@@ -15,12 +15,12 @@ use Rattle.rept_report.proofs.Search.{standing}
 use Rattle.rept_report.proofs.Told.{told_in}
 use Rattle.rept_report.proofs.Standing.{stands_up, stands_single, front_early, front_standing}
 use Rattle.rept_log.specs.Fronts.{FrontView, stands}
-use Rattle.rept_analysis.specs.State.{State, along}
+use Rattle.rept_analysis.specs.State.{AnalysisState, along}
 use Rattle.rept_analysis.specs.Kept.{is_among, answers, IsFinished, IsKept}
 use Rattle.rept_analysis.proofs.Learning.{trace_known}
 use Rattle.rept_analysis.proofs.Reported.{settled_closed}
 
-module _ {W : Type 0} (s : State W) (laws : HasLaws (along s.path)) (kept : IsKept s) (finished : IsFinished s) where
+module _ {W : Type 0} (s : AnalysisState W) (laws : HasLaws (along s.path)) (kept : IsKept s) (finished : IsFinished s) where
   abbrev tracked : ℕ → Bool
   tracked = is_among s.known.store.tracked
 

@@ -39,7 +39,7 @@ use Rattle.rept_report.proofs.ViewLaws.{LiesIn, known_fact, known_more, known_wo
 use Rattle.rept_report.proofs.Monotony.{quiet_less, single_value_more, Concludes_more}
 use Rattle.rept_analysis.specs.Cells.{bytes_from, bytes_known, base_known}
 use Rattle.rept_log.specs.Known.{Known as LogKnown}
-use Rattle.rept_analysis.specs.State.{State, all_known, Subject, along}
+use Rattle.rept_analysis.specs.State.{AnalysisState, all_known, Subject, along}
 use Rattle.rept_analysis.specs.Moments.{filled_range, moment, moment_lawful}
 use Rattle.rept_analysis.specs.Room.{IsDrawable, own_at, IsOwnByte}
 use Rattle.rept_analysis.proofs.Reserve.{drawable_more, own_byte_more}
@@ -51,7 +51,7 @@ flat_known None v e = cc
 flat_known (Some w) v e = cc
 
 -- what is known of a register other than x0 is told
-pub known_told : {W : Type 0} (s : State W) (p r v : ℕ) (x : Flat) → x ≡ flat (register_known (told s.known.log) p r) → x ≡ Known v → 0 < r → Knows p (Register r) v s
+pub known_told : {W : Type 0} (s : AnalysisState W) (p r v : ℕ) (x : Flat) → x ≡ flat (register_known (told s.known.log) p r) → x ≡ Known v → 0 < r → Knows p (Register r) v s
 known_told s p r v x read is named =
     elim (known_fact (told s.known.log) p r v (flat_known (register_known (told s.known.log) p r) v (sym read ∙ is))) [
       | inl z ↦ let zero_is = z.0 in absurd (omega (arith, named, zero_is))
@@ -59,44 +59,44 @@ known_told s p r v x read is named =
     ]
 
 -- and the other way
-pub told_known : {W : Type 0} (s : State W) (p r v : ℕ) (x : Flat) → x ≡ flat (register_known (told s.known.log) p r) → Knows p (Register r) v s → 0 < r → x ≡ Known v
+pub told_known : {W : Type 0} (s : AnalysisState W) (p r v : ℕ) (x : Flat) → x ≡ flat (register_known (told s.known.log) p r) → Knows p (Register r) v s → 0 < r → x ≡ Known v
 told_known s p r v x read h named = read ∙ ap flat (other ∙ h)
   where
     other : register_known (told s.known.log) p r ≡ told s.known.log p (Register r)
     other = cond-false (eqb r 0) (Some 0) (told s.known.log p (Register r)) (ne_eqb r 0 (λ e. omega (arith, named, e)))
 
-module _ {W : Type 0} (s : State W) (i : ℕ) (row : StepRow) (found : s.path.given.legs.row i ≡ Some row) (inside : i < s.path.given.legs.count) (r v : ℕ) (named : 0 < r) (in_file : r < 32) (small : v < 2 ^ 32) (kept : written_by row.instr ≢ Some r) (x : Flat) where
+module _ {W : Type 0} (s : AnalysisState W) (i : ℕ) (row : StepRow) (found : s.path.given.legs.row i ≡ Some row) (inside : i < s.path.given.legs.count) (r v : ℕ) (named : 0 < r) (in_file : r < 32) (small : v < 2 ^ 32) (kept : written_by row.instr ≢ Some r) (x : Flat) where
   pub onward_follows : x ≡ flat (register_known (told s.known.log) i r) → x ≡ Known v → IsFollowing s (fact_of (i + 1) (Register r) v)
   onward_follows read is quiet = record { early = omega (arith, inside); cell = (named, in_file); word = small; by = kept_onward i r row found refl refl kept (known_told s i r v x read is named) }
 
   pub back_follows : x ≡ flat (register_known (told s.known.log) (i + 1) r) → x ≡ Known v → IsFollowing s (fact_of i (Register r) v)
   back_follows read is quiet = record { early = omega (arith, inside); cell = (named, in_file); word = small; by = kept_back i r row found refl refl kept (known_told s (i + 1) r v x read is named) }
 
-pub kept_at : {W : Type 0} (s : State W) (i r : ℕ) (x : Flat) → x ≡ flat (register_known (told s.known.log) i r) → 0 < r → IsLearntAt (i + 1) r x s → ((v : ℕ) → 0 < r → Knows (i + 1) (Register r) v s → Knows i (Register r) v s) → IsKeptAt i r s
+pub kept_at : {W : Type 0} (s : AnalysisState W) (i r : ℕ) (x : Flat) → x ≡ flat (register_known (told s.known.log) i r) → 0 < r → IsLearntAt (i + 1) r x s → ((v : ℕ) → 0 < r → Knows (i + 1) (Register r) v s → Knows i (Register r) v s) → IsKeptAt i r s
 kept_at s i r x read named on off = record { onward = λ v h. on v (told_known s i r v x read h named) named; back = λ v h. off v named h }
 
 -- so it has where the same is known before and after
-pub kept_equal : {W : Type 0} (s : State W) (i r : ℕ) (x y : Flat) → x ≡ flat (register_known (told s.known.log) i r) → y ≡ flat (register_known (told s.known.log) (i + 1) r) → x ≡ y → 0 < r → IsKeptAt i r s
+pub kept_equal : {W : Type 0} (s : AnalysisState W) (i r : ℕ) (x y : Flat) → x ≡ flat (register_known (told s.known.log) i r) → y ≡ flat (register_known (told s.known.log) (i + 1) r) → x ≡ y → 0 < r → IsKeptAt i r s
 kept_equal s i r x y before after same named = record { onward = λ v h. known_told s (i + 1) r v y after (sym same ∙ told_known s i r v x before h named) named; back = λ v h. known_told s i r v x before (same ∙ told_known s (i + 1) r v y after h named) named }
 
-pub back_known : {W : Type 0} (s : State W) (i r : ℕ) (x : Flat) → x ≡ flat (register_known (told s.known.log) (i + 1) r) → IsLearntAt i r x s → (v : ℕ) → 0 < r → Knows (i + 1) (Register r) v s → Knows i (Register r) v s
+pub back_known : {W : Type 0} (s : AnalysisState W) (i r : ℕ) (x : Flat) → x ≡ flat (register_known (told s.known.log) (i + 1) r) → IsLearntAt i r x s → (v : ℕ) → 0 < r → Knows (i + 1) (Register r) v s → Knows i (Register r) v s
 back_known s i r x read learnt v named h = learnt v (told_known s (i + 1) r v x read h named) named
 
-pub last_follows : {W : Type 0} (s : State W) (p r v w : ℕ) → IsLast (along s.path) p → slice_get (s.path.given.last p) r ≡ Some w → Known w ≡ Known v → 0 < r → r < 32 → v < 2 ^ 32 → IsFollowing s (fact_of p (Register r) v)
+pub last_follows : {W : Type 0} (s : AnalysisState W) (p r v w : ℕ) → IsLast (along s.path) p → slice_get (s.path.given.last p) r ≡ Some w → Known w ≡ Known v → 0 < r → r < 32 → v < 2 ^ 32 → IsFollowing s (fact_of p (Register r) v)
 last_follows s p r v w at found is named in_file small quiet = record { early = at.0; cell = (named, in_file); word = small; by = last_value r at refl (found ∙ ap Some (same_flat is)) }
   where
     same_flat : {x y : ℕ} → Known x ≡ Known y → x ≡ y
     same_flat e = cc
 
-pub last_known_at : {W : Type 0} (s : State W) (p r w : ℕ) → slice_get (s.path.given.last p) r ≡ Some w → IsLearntAt p r (Known w) s → LastKnownAt p r s
+pub last_known_at : {W : Type 0} (s : AnalysisState W) (p r w : ℕ) → slice_get (s.path.given.last p) r ≡ Some w → IsLearntAt p r (Known w) s → LastKnownAt p r s
 last_known_at s p r w found learnt v named is = learnt v (ap Known (same_some (sym found ∙ is))) named
 
 -- of the last points below one
-abbrev pub LastsBelow : {W : Type 0} → ℕ → State W → Type 0
+abbrev pub LastsBelow : {W : Type 0} → ℕ → AnalysisState W → Type 0
 LastsBelow n s = (p : ℕ) → p < n → IsLast (along s.path) p → LastPointKnown 32 p s
 
 -- after the last one there is none
-pub lasts_all : {W : Type 0} (s : State W) (least : ℕ) → IsLastFrom s.path.given.legs least None → LastsBelow least s → LastKnownBelow 32 s
+pub lasts_all : {W : Type 0} (s : AnalysisState W) (least : ℕ) → IsLastFrom s.path.given.legs least None → LastsBelow least s → LastKnownBelow 32 s
 lasts_all s least past below r inside p v last = below p (omega (arith, past, last.0)) last r inside v
 
 -- where none is found there is none
@@ -105,7 +105,7 @@ last_none legs least None never its = its
 last_none legs least (Some p) never its = absurd (never p refl)
 
 -- the next one
-pub lasts_more : {W : Type 0} (s : State W) (least point : ℕ) → IsLastFrom s.path.given.legs least (Some point) → LastsBelow least s → LastPointKnown 32 point s → LastsBelow (point + 1) s
+pub lasts_more : {W : Type 0} (s : AnalysisState W) (least point : ℕ) → IsLastFrom s.path.given.legs least (Some point) → LastsBelow least s → LastPointKnown 32 point s → LastsBelow (point + 1) s
 lasts_more s least point next below here p less last =
     elim (cases_order p point) [
       | inl same ↦ subst (λ (q : ℕ). LastPointKnown 32 q s) (sym same) here
@@ -121,12 +121,12 @@ lasts_more s least point next below here p less last =
     not_some (Some x) e some = cc
 
 -- what followed still follows
-pub follows_more : {W : Type 0} (s t : State W) → HasLaws (along s.path) → Grows s t → HasWords (all_known t) → (f : Fact) → IsFollowing s f → IsFollowing t f
+pub follows_more : {W : Type 0} (s t : AnalysisState W) → HasLaws (along s.path) → Grows s t → HasWords (all_known t) → (f : Fact) → IsFollowing s f → IsFollowing t f
 follows_more s t laws g words f follows = subst (λ (P : Subject _). IsQuiet (along P) (all_known t) → Concludes (along P) (all_known t) f) (sym g.path) (λ quiet.
     let before = quiet_less (along s.path) laws (all_known s) (all_known t) (λ p r v e. g.more p (Register r) v e) quiet in
     Concludes_more (along s.path) laws (all_known s) (all_known t) g.more words quiet f (follows before))
 
-pub learnt_at : {W : Type 0} (s : State W) (p r w : ℕ) (x : Flat) → x ≡ Known w → Knows p (Register r) w s → IsLearntAt p r x s
+pub learnt_at : {W : Type 0} (s : AnalysisState W) (p r w : ℕ) (x : Flat) → x ≡ Known w → Knows p (Register r) w s → IsLearntAt p r x s
 learnt_at s p r w x is h v is' named = h ∙ ap Some (same (sym is ∙ is'))
   where
     same : {x y : ℕ} → Known x ≡ Known y → x ≡ y
@@ -155,18 +155,18 @@ base_at row moments k i r x found reads read is = rw reads (flat_same found (reg
     flat_same (Some v) None e = cc
     flat_same (Some v) (Some w) e = cc
 
-pub base_after : {W : Type 0} (s t : State W) (row : StepRow) (i base : ℕ) → Grows s t → base_known (first_read row.instr) (around s.path.given.moments s.known i) ≡ Some base → base_known (first_read row.instr) (around t.path.given.moments t.known i) ≡ Some base
+pub base_after : {W : Type 0} (s t : AnalysisState W) (row : StepRow) (i base : ℕ) → Grows s t → base_known (first_read row.instr) (around s.path.given.moments s.known i) ≡ Some base → base_known (first_read row.instr) (around t.path.given.moments t.known i) ≡ Some base
 base_after s t row i base g at =
     let b = base_read row s.path.given.moments s.known i base at in
     rw b.read (known_more (told s.known.log) (told t.known.log) (λ q k w e. g.more q (Register k) w e) i b.register base b.known)
 
 -- where it isn't known, a row's rules look at no byte
-pub none_tracked : {W : Type 0} (s : State W) (i : ℕ) (row : StepRow) → base_known (first_read row.instr) (around s.path.given.moments s.known i) ≡ None → IsRowTracked row i s
+pub none_tracked : {W : Type 0} (s : AnalysisState W) (i : ℕ) (row : StepRow) → base_known (first_read row.instr) (around s.path.given.moments s.known i) ≡ None → IsRowTracked row i s
 none_tracked s i row none a h =
     let here : base_known (first_read row.instr) (around s.path.given.moments s.known i) ≡ Some h.base = rw h.read h.base_known in
     absurd (none_some (sym none ∙ here))
 
-pub row_tracked : {W : Type 0} (s : State W) (i : ℕ) (row : StepRow) (base start count : ℕ) → base_known (first_read row.instr) (around s.path.given.moments s.known i) ≡ Some base → start ≡ plus base (offset_of row.instr) → count ≡ min (s.path.rules.places row) 4 → AreTrackedFrom start count s → IsRowTracked row i s
+pub row_tracked : {W : Type 0} (s : AnalysisState W) (i : ℕ) (row : StepRow) (base start count : ℕ) → base_known (first_read row.instr) (around s.path.given.moments s.known i) ≡ Some base → start ≡ plus base (offset_of row.instr) → count ≡ min (s.path.rules.places row) 4 → AreTrackedFrom start count s → IsRowTracked row i s
 row_tracked s i row base start count at from few tracked a h =
     let here : base_known (first_read row.instr) (around s.path.given.moments s.known i) ≡ Some h.base = rw h.read h.base_known in
     let same : base ≡ h.base = same_some (sym at ∙ here) in
@@ -178,7 +178,7 @@ word_fits (Register r) v h = h
 word_fits (Byte a) v h = tt
 
 -- what a row lets one draw follows
-module _ {W : Type 0} (s : State W) (laws : HasLaws (along s.path)) (words : HasWords (all_known s)) (i : ℕ) (row : StepRow) (found : s.path.given.legs.row i ≡ Some row) (inside : i < s.path.given.legs.count) where
+module _ {W : Type 0} (s : AnalysisState W) (laws : HasLaws (along s.path)) (words : HasWords (all_known s)) (i : ℕ) (row : StepRow) (found : s.path.given.legs.row i ≡ Some row) (inside : i < s.path.given.legs.count) where
   log_words : HasWords (told s.known.log)
   log_words p r v e = words p r v e
 
@@ -213,11 +213,11 @@ module _ {W : Type 0} (s : State W) (laws : HasLaws (along s.path)) (words : Has
         byte = λ a is. drawn_here d a h (subst (λ (c : Cell). IsRowCell s.path.rules row (around s.path.given.moments s.known i) d.when c) is own.0);
       }
 
-pub conclusion_more : {W : Type 0} (s t : State W) → HasLaws (along s.path) → Grows s t → HasWords (all_known t) → (i : ℕ) (d : Drawn) → IsConclusion i d s → IsConclusion i d t
+pub conclusion_more : {W : Type 0} (s t : AnalysisState W) → HasLaws (along s.path) → Grows s t → HasWords (all_known t) → (i : ℕ) (d : Drawn) → IsConclusion i d s → IsConclusion i d t
 conclusion_more s t laws g words i d h = record { cell = h.cell; fits = h.fits; follows = λ small. subst (λ (P : Subject _). IsFollowing t (fact_of (instant_of P.given.moments i d.when d.cell) d.cell d.value)) (sym g.path) (follows_more s t laws g words (fact_of (instant_of s.path.given.moments i d.when d.cell) d.cell d.value) (h.follows small)); tracked = λ a is. g.tracked a (h.tracked a is); byte = λ a is. subst (λ (P : Subject _). IsDrawable P t.known.log i d) (sym g.path) (drawable_more s.path s.known.log t.known.log (λ p r v e. g.more p (Register r) v e) i d (h.byte a is)) }
 
 -- the sets of a moment are the ranges
-module _ {W : Type 0} (s : State W) (i : ℕ) (inside : i < s.path.given.legs.count) (fitted : IsFitted s) where
+module _ {W : Type 0} (s : AnalysisState W) (i : ℕ) (inside : i < s.path.given.legs.count) (fitted : IsFitted s) where
   abbrev older : List Fact
   older = oldest s.filled s.known.log
 
@@ -242,7 +242,7 @@ module _ {W : Type 0} (s : State W) (i : ℕ) (inside : i < s.path.given.legs.co
   access_is row access found hits a small = hits a small ∙ rw found (ap (λ (v : Seen). s.path.rules.touched row v s.path.given.image_end a) moment_is)
 
 -- what a row may not write by all facts and the sets of older ones, it may not write by what is known
-module _ {W : Type 0} (s : State W) (i : ℕ) (inside : i < s.path.given.legs.count) (fitted : IsFitted s) (laws : HasLaws (along s.path)) (words : HasWords (all_known s)) (once : OnceEach s.known.log) (quiet : IsQuiet (along s.path) (all_known s)) where
+module _ {W : Type 0} (s : AnalysisState W) (i : ℕ) (inside : i < s.path.given.legs.count) (fitted : IsFitted s) (laws : HasLaws (along s.path)) (words : HasWords (all_known s)) (once : OnceEach s.known.log) (quiet : IsQuiet (along s.path) (all_known s)) where
   now_seen : KnowsMore (moment s.path.sets s.known.log s.spans i) (registers_at (along s.path) (all_known s) i)
   now_seen = seen_more (along s.path).moments (register_known (told s.known.log)) (λ p a. None) (filled_range s.path.sets s.spans) (register_known (all_known s)) (λ p a. None) (register_range (along s.path) (all_known s)) i (record {
     registers = λ p r v e. e;
@@ -260,17 +260,17 @@ module _ {W : Type 0} (s : State W) (i : ℕ) (inside : i < s.path.given.legs.co
         | inr t ↦ rw found t
       ]
 
-pub brought_follows : {W : Type 0} (s : State W) (p a v : ℕ) → p ≤ s.path.given.moments.end → a < 2 ^ 32 → IsBrought s (fact_of p (Byte a) v) → IsFollowing s (fact_of p (Byte a) v)
+pub brought_follows : {W : Type 0} (s : AnalysisState W) (p a v : ℕ) → p ≤ s.path.given.moments.end → a < 2 ^ 32 → IsBrought s (fact_of p (Byte a) v) → IsFollowing s (fact_of p (Byte a) v)
 brought_follows s p a v h small brought quiet = record { early = h; cell = small; word = tt; by = carried (brought quiet) }
 
-pub fitted_after : {W : Type 0} (s t : State W) → Grows s t → IsFitted s → IsFitted t
+pub fitted_after : {W : Type 0} (s t : AnalysisState W) → Grows s t → IsFitted s → IsFitted t
 fitted_after s t g h = rw (g.path, g.spans, g.older) h
 
 -- an element that was read
 pub slice_read : (xs : List Drawn) (k : ℕ) (d : Drawn) → k < length xs → d ≡ get_or xs k d → slice_get xs k ≡ Some d
 slice_read xs k d lt read = slice_get-get_or xs k d lt ∙ ap Some (sym read)
 
-pub row_closed : {W : Type 0} (s : State W) (i : ℕ) (row : StepRow) → s.path.given.legs.row i ≡ Some row → KeptBelow 32 row i s → IsRowTracked row i s → DrawnKnown row i s → IsRowClosed i s
+pub row_closed : {W : Type 0} (s : AnalysisState W) (i : ℕ) (row : StepRow) → s.path.given.legs.row i ≡ Some row → KeptBelow 32 row i s → IsRowTracked row i s → DrawnKnown row i s → IsRowClosed i s
 row_closed s i row found registers tracked drawn_ row' found' =
     let same : row ≡ row' = same_row (sym found ∙ found') in
     subst (λ (x : StepRow). IsRowDrawn x i s) same (record { registers = registers; tracked = tracked; drawn = drawn_ })
@@ -279,36 +279,36 @@ row_closed s i row found registers tracked drawn_ row' found' =
     same_row e = cc
 
 -- where no row leads from a point, nothing is to be concluded
-pub none_closed : {W : Type 0} (s : State W) (i : ℕ) → s.path.given.legs.row i ≡ None → IsRowClosed i s
+pub none_closed : {W : Type 0} (s : AnalysisState W) (i : ℕ) → s.path.given.legs.row i ≡ None → IsRowClosed i s
 none_closed s i none row found = absurd (no_row (sym none ∙ found))
   where
     no_row : {x : StepRow} → None ≡ Some x → ⊥
     no_row e = cc
 
-pub last_byte_brought : {W : Type 0} (s : State W) (p a v : ℕ) → p ≡ s.path.given.moments.end → s.path.given.dump a ≡ Some v → IsBrought s (fact_of p (Byte a) v)
+pub last_byte_brought : {W : Type 0} (s : AnalysisState W) (p a v : ℕ) → p ≡ s.path.given.moments.end → s.path.given.dump a ≡ Some v → IsBrought s (fact_of p (Byte a) v)
 last_byte_brought s p a v at found quiet = last_byte a at refl found
 
-pub last_byte_known : {W : Type 0} (s : State W) (p a w : ℕ) → p ≡ s.path.given.moments.end → s.path.given.dump a ≡ Some w → Knows p (Byte a) w s → LastByteKnown a s
+pub last_byte_known : {W : Type 0} (s : AnalysisState W) (p a w : ℕ) → p ≡ s.path.given.moments.end → s.path.given.dump a ≡ Some w → Knows p (Byte a) w s → LastByteKnown a s
 last_byte_known s p a w at found h v is = subst (λ (q : ℕ). Knows q (Byte a) v s) at (h ∙ ap Some (same_some (sym found ∙ is)))
 
-pub no_last_byte : {W : Type 0} (s : State W) (a : ℕ) → s.path.given.dump a ≡ None → LastByteKnown a s
+pub no_last_byte : {W : Type 0} (s : AnalysisState W) (a : ℕ) → s.path.given.dump a ≡ None → LastByteKnown a s
 no_last_byte s a none v is = absurd (none_some (sym none ∙ is))
 
 -- a set of one value, as the sets were filled
-module _ {W : Type 0} (s : State W) (laws : HasLaws (along s.path)) (words : HasWords (all_known s)) (once : OnceEach s.known.log) (fitted : IsFitted s) where
+module _ {W : Type 0} (s : AnalysisState W) (laws : HasLaws (along s.path)) (words : HasWords (all_known s)) (once : OnceEach s.known.log) (fitted : IsFitted s) where
   pub single_follows : (p r v : ℕ) (set : W) → p ≤ s.path.given.legs.count → 0 < r → r < 32 → v < 2 ^ 32 → entry_at s.spans p r ≡ Some set → s.path.sets.as_exact set ≡ Some v → IsFollowing s (fact_of p (Register r) v)
   single_follows p r v set early_ named in_file small at only quiet =
       let is : range (way_of (along s.path)) (told (oldest s.filled s.known.log)) p r ≡ Some set = sym (fitted p early_ r in_file) ∙ at in
       let next = single_value_more (along s.path) laws (told (oldest s.filled s.known.log)) (all_known s) (λ q t w e. oldest_less s.filled s.known.log once q (Register t) w e) words quiet p r v set early_ in_file is only in
       record { early = early_; cell = (named, in_file); word = small; by = only_value r next.0 refl next.1 next.2 }
 
-pub single_known : {W : Type 0} (s : State W) (p r w : ℕ) (set : W) → entry_at s.spans p r ≡ Some set → s.path.sets.as_exact set ≡ Some w → IsLearntAt p r (Known w) s → SingleKnown p r s
+pub single_known : {W : Type 0} (s : AnalysisState W) (p r w : ℕ) (set : W) → entry_at s.spans p r ≡ Some set → s.path.sets.as_exact set ≡ Some w → IsLearntAt p r (Known w) s → SingleKnown p r s
 single_known s p r w set at only learnt set' v at' only' named =
     let same : set ≡ set' = same_Some set set' (sym at ∙ at') in
     let value : w ≡ v = same_some (sym only ∙ rw same only') in
     learnt v (ap Known value) named
 
-pub no_single : {W : Type 0} (s : State W) (p r : ℕ) (set : W) → entry_at s.spans p r ≡ Some set → s.path.sets.as_exact set ≡ None → SingleKnown p r s
+pub no_single : {W : Type 0} (s : AnalysisState W) (p r : ℕ) (set : W) → entry_at s.spans p r ≡ Some set → s.path.sets.as_exact set ≡ None → SingleKnown p r s
 no_single s p r set at none set' v at' only' named =
     let same : set ≡ set' = same_Some set set' (sym at ∙ at') in
     absurd (none_some {x = v} (sym none ∙ rw same only'))
@@ -316,7 +316,7 @@ no_single s p r set at none set' v at' only' named =
 pub same_flat : {x y : ℕ} → Known x ≡ Known y → x ≡ y
 same_flat e = cc
 
-pub words_below : {W : Type 0} (s : State W) (t : ℕ) → OnceEach s.known.log → HasWords (told s.known.log) → HasWords (told (oldest t s.known.log))
+pub words_below : {W : Type 0} (s : AnalysisState W) (t : ℕ) → OnceEach s.known.log → HasWords (told s.known.log) → HasWords (told (oldest t s.known.log))
 words_below s t once words p r v e = words p r v (oldest_less t s.known.log once p (Register r) v e)
 
 -- the bytes of a row whose base is known
@@ -324,13 +324,13 @@ pub row_bytes : (rules : Rules) (row : StepRow) (moments : Moments) (k : LogKnow
 row_bytes rules row moments k i base start count n there from few counted = rw there (rw (← from, ← few) counted)
 
 -- the bytes that a row's rules look at, from its address on
-pub row_addresses : {W : Type 0} (s : State W) (i : ℕ) (row : StepRow) (base start count : ℕ) → s.path.given.legs.row i ≡ Some row → base_known (first_read row.instr) (around s.path.given.moments s.known i) ≡ Some base → start ≡ plus base (offset_of row.instr) → count ≡ min (s.path.rules.places row) 4 → AreRowAddresses start count s
+pub row_addresses : {W : Type 0} (s : AnalysisState W) (i : ℕ) (row : StepRow) (base start count : ℕ) → s.path.given.legs.row i ≡ Some row → base_known (first_read row.instr) (around s.path.given.moments s.known i) ≡ Some base → start ≡ plus base (offset_of row.instr) → count ≡ min (s.path.rules.places row) 4 → AreRowAddresses start count s
 row_addresses s i row base start count found at from few k lt =
     let b = base_read row s.path.given.moments s.known i base at in
     (i, k, record { row = row; found = found; base_register = b.register; base = base; read = b.read; known = b.known; below_places = omega (arith, lt, few); below_four = omega (arith, lt, few); address = ap (λ (z : ℕ). beside z k) from })
 
 -- they stay so where no less is known
-pub addresses_after : {W : Type 0} (s t : State W) (start count : ℕ) → Grows s t → AreRowAddresses start count s → AreRowAddresses start count t
+pub addresses_after : {W : Type 0} (s t : AnalysisState W) (start count : ℕ) → Grows s t → AreRowAddresses start count s → AreRowAddresses start count t
 addresses_after s t start count g h k lt =
     let a = h k lt in
     (a.0, a.1, subst (λ (P : Subject _). IsOwnByte P t.known.log (own_at a.0 a.1 (beside start k))) (sym g.path) (own_byte_more s.path s.known.log t.known.log (λ p r v e. g.more p (Register r) v e) (own_at a.0 a.1 (beside start k)) a.2))

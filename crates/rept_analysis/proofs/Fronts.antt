@@ -25,7 +25,7 @@ use Rattle.rept_span.specs.Moves.{Moves}
 use Rattle.rept_view.specs.Rules.{Rules}
 use Rattle.rept_versions.specs.Facts.{Store}
 use Rattle.rept_log.specs.Fronts.{FrontView, Stored, IsFront, basis_of, front_of, stands}
-use Rattle.rept_analysis.specs.State.{State, Whole, Reader, setting_of, state_of, with_draws, along}
+use Rattle.rept_analysis.specs.State.{AnalysisState, Whole, Reader, setting_of, state_of, with_draws, along}
 use Rattle.rept_analysis.specs.Drawing.{IsRowDrawn, IsSettled}
 use Rattle.rept_analysis.specs.Kept.{is_among, answers, IsFinished, IsKept}
 use Rattle.rept_analysis.specs.Reasoned.{front_below, AreSetsOf, IsNotLast}
@@ -94,7 +94,7 @@ pub filled_ok : {W : Type 0} (S : Setting W) (K : Knowledge) → IsQuiet S K →
 filled_ok S K quiet (Ok x) h = refl
 filled_ok S K quiet (Err e) h = absurd (quiet.full e.point e.reg h.early h.in_file h.empty)
 
-module _ {W : Type 0} (s : State W) (laws : HasLaws (along s.path)) (kept : IsKept s) (finished : IsFinished s) where
+module _ {W : Type 0} (s : AnalysisState W) (laws : HasLaws (along s.path)) (kept : IsKept s) (finished : IsFinished s) where
   abbrev Log : List Fact
   Log = s.known.log
 
@@ -208,7 +208,7 @@ pub front_by : {P L B W R : Type 0} (read : Reader P L) (sets : Sets W) (moves :
 front_by read sets moves rules store a t spans laws kept finished its = front_is (state_of read sets moves rules store a) laws kept finished t spans its
 
 -- an analysis stays what it is, however often rules were drawn
-module _ {W : Type 0} (s : State W) (kept : IsKept s) (n : ℕ) where
+module _ {W : Type 0} (s : AnalysisState W) (kept : IsKept s) (n : ℕ) where
   row_again : (i : ℕ) (row : StepRow) → IsRowDrawn row i s → IsRowDrawn row i (with_draws s n)
   row_again i row d = record { registers = λ r named in_file kept'. let k = d.registers r named in_file kept' in record { onward = k.onward; back = k.back }; tracked = d.tracked; drawn = d.drawn }
 

@@ -1,6 +1,6 @@
 -- A byte's value is carried number by number, strip by strip and over the links between them.
-use Rattle.std.proofs.Common.{◌≡◌, ℕ, ◌+◌, ◌-◌, ◌<◌, ◌≤◌, ◌^◌, ◌⊎◌, true, false, Option, Some, None, inl, inr, refl, sym, ap, subst, ◌∙◌, arith}
-use Rattle.std.proofs.lemmas.Bool.{cases_lt, cases_order}
+use Rattle.std.proofs.Common.{◌≡◌, ℕ, ◌+◌, ◌-◌, ◌<◌, ◌≤◌, ◌^◌, ◌⊎◌, if◌then◌else◌, Bool, true, false, Option, Some, None, inl, inr, refl, sym, ap, subst, ◌∙◌, arith, min, is_some}
+use Rattle.std.proofs.lemmas.Bool.{cases_lt, cases_order, false≢true}
 use Rattle.rept_versions.specs.declared.facts.Stretch.{Stretch}
 use Rattle.rept_versions.specs.Facts.{KnownValues, Nexts}
 use Rattle.rept_reason.specs.declared.fact.Cell.TheVariants.{Byte}
@@ -12,12 +12,13 @@ use Rattle.rept_report.proofs.Told.{same_some, none_some}
 use Rattle.rept_analysis.specs.declared.piece.Piece.{Piece}
 use Rattle.rept_report.specs.Setting.{HasLaws}
 use Rattle.rept_analysis.specs.Kept.{IsKept}
-use Rattle.rept_analysis.specs.State.{State, Subject, timeline_of, along}
+use Rattle.rept_analysis.specs.State.{AnalysisState, Subject, timeline_of, along}
 use Rattle.rept_analysis.proofs.Spreading.{bridged_still}
 use Rattle.rept_reach.specs.Reaching.{IsLeaving}
-use Rattle.rept_analysis.specs.Drawing.{Knows, Grows, IsCalm, IsCarriedFrom, IsCarriedIf, IsBridged, IsSparedBetween, IsBlocked, AreBlocked, IsEnd, IsPiece, IsCarriedBeside, IsCarriedBelow, IsCarriedIn, IsCarriedAlong, IsEven, AreLinksBelow, AreLinks, IsCarriedUpTo}
+use Rattle.rept_reach.specs.declared.reaches.Window.{Window}
+use Rattle.rept_analysis.specs.Drawing.{Knows, Grows, IsCalm, IsCarriedFrom, IsCarriedIf, IsBridged, IsSparedBetween, IsBlocked, AreBlocked, IsEnd, IsPiece, IsCarriedBeside, IsCarriedBelow, IsCarriedIn, IsCarriedAlong, IsEven, IsEvenAround, AreLinksBelow, AreLinks, IsCarriedUpTo}
 
-module _ {W : Type 0} (s : State W) where
+module _ {W : Type 0} (s : AnalysisState W) where
   pub blocked_if : (x : Passage) → IsBlocked x s → IsCarriedIf x s
   blocked_if x blocked exact = record { onward = λ v carries h. absurd (blocked exact carries); back = λ v carries h. absurd (blocked exact carries) }
 
@@ -89,13 +90,13 @@ pub strip_at : (t : Timeline) (m n : ℕ) (strip : Strip) → IsStrip t m strip 
 strip_at t m n strip its low high = record { from = low; to = high; inside = its.inside; joined = its.joined; alike = its.alike; pause = its.pause; ends = its.ends }
 
 -- where more is known rows and moments are the same
-pub next_after : {W : Type 0} (s t : State W) → Grows s t → (m w : ℕ) → s.path.given.moments.next m w ≡ true → t.path.given.moments.next m w ≡ true
+pub next_after : {W : Type 0} (s t : AnalysisState W) → Grows s t → (m w : ℕ) → s.path.given.moments.next m w ≡ true → t.path.given.moments.next m w ≡ true
 next_after s t g m w next = rw g.path next
 
-pub strip_after : {W : Type 0} (s t : State W) → Grows s t → (m : ℕ) (strip : Strip) → IsStrip (timeline_of s) m strip → IsStrip (timeline_of t) m strip
+pub strip_after : {W : Type 0} (s t : AnalysisState W) → Grows s t → (m : ℕ) (strip : Strip) → IsStrip (timeline_of s) m strip → IsStrip (timeline_of t) m strip
 strip_after s t g m strip its = subst (λ (P : Subject _). IsStrip (record { legs = P.given.legs; moments = P.given.moments }) m strip) (sym g.path) its
 
-pub calm_after : {W : Type 0} (s t : State W) → HasLaws (along s.path) → IsKept t → Grows s t → (a : ℕ) → a < 2 ^ 32 → (strip : Strip) → IsCalm a strip s → IsCalm a strip t
+pub calm_after : {W : Type 0} (s t : AnalysisState W) → HasLaws (along s.path) → IsKept t → Grows s t → (a : ℕ) → a < 2 ^ 32 → (strip : Strip) → IsCalm a strip s → IsCalm a strip t
 calm_after s t laws kept g a small strip calm p is = bridged_still s t laws kept g (passage a p (p + 1)) small (calm p is)
 
 pub none_found : (o : Option ℕ) → ((y : ℕ) → o ≡ Some y → ⊥) → o ≡ None
@@ -115,7 +116,7 @@ IsEdge from stretch point = ((from < stretch.first) × (point ≡ stretch.first)
 abbrev pub IsBorder : ℕ → Stretch → ℕ → Type 0
 IsBorder from stretch m = ((from < stretch.first) × (m + 1 ≡ stretch.first)) ⊎ ((stretch.first ≤ from) × (m ≡ stretch.last))
 
-module _ {W : Type 0} (s : State W) (a from : ℕ) (stretch : Stretch) (next : Nexts s.known.store.fact a from (Some stretch)) where
+module _ {W : Type 0} (s : AnalysisState W) (a from : ℕ) (stretch : Stretch) (next : Nexts s.known.store.fact a from (Some stretch)) where
   pub border_onward : (m : ℕ) → IsBorder from stretch m → from ≤ m
   border_onward m (inl (later, is)) = omega (arith, later, is)
   border_onward m (inr (begun, is)) = let reaches = next.reaches in omega (arith, reaches, is)
@@ -124,7 +125,7 @@ module _ {W : Type 0} (s : State W) (a from : ℕ) (stretch : Stretch) (next : N
   edge_onward point (inl (later, is)) = omega (arith, later, is)
   edge_onward point (inr (begun, is)) = let reaches = next.reaches in omega (arith, reaches, is)
 
-module _ {W : Type 0} (s : State W) (a from : ℕ) (strip : Strip) (below : IsCarriedBelow a strip from s) where
+module _ {W : Type 0} (s : AnalysisState W) (a from : ℕ) (strip : Strip) (below : IsCarriedBelow a strip from s) where
   -- nothing is known from a number on
   pub in_free : Nexts s.known.store.fact a from None → IsCarriedIn a strip s
   in_free none i up down =
@@ -186,32 +187,31 @@ module _ {W : Type 0} (s : State W) (a from : ℕ) (strip : Strip) (below : IsCa
         ]
 
 -- nothing is below the first number
-pub below_first : {W : Type 0} (s : State W) (a : ℕ) (strip : Strip) → IsCarriedBelow a strip strip.first s
+pub below_first : {W : Type 0} (s : AnalysisState W) (a : ℕ) (strip : Strip) → IsCarriedBelow a strip strip.first s
 below_first s a strip i up lt down = absurd (omega (arith, up, lt))
 
 pub next_none : (M : Moments) (m least : ℕ) (o : Option ℕ) → ((y : ℕ) → o ≡ Some y → ⊥) → IsNextFrom M m least o → IsNextFrom M m least None
 next_none M m least None never h = h
 next_none M m least (Some y) never h = absurd (never y refl)
 
-pub next_before : {W : Type 0} (s t : State W) → Grows s t → (m w : ℕ) → t.path.given.moments.next m w ≡ true → s.path.given.moments.next m w ≡ true
+pub next_before : {W : Type 0} (s t : AnalysisState W) → Grows s t → (m w : ℕ) → t.path.given.moments.next m w ≡ true → s.path.given.moments.next m w ≡ true
 next_before s t g m w next = subst (λ (P : Subject _). P.given.moments.next m w ≡ true) g.path next
 
 -- no number is linked to the end or one after it
-pub links_first : {W : Type 0} (s : State W) (a m : ℕ) → AreLinksBelow a m 0 s
+pub links_first : {W : Type 0} (s : AnalysisState W) (a m : ℕ) → AreLinksBelow a m 0 s
 links_first s a m w lt = absurd (omega (arith, lt))
 
 -- the links of a number
-module _ {W : Type 0} (s : State W) (a m least : ℕ) (below : AreLinksBelow a m least s) where
-  pub links_more : (w : ℕ) → IsNextFrom s.path.given.moments m least (Some w) → IsCarriedIf (passage a m w) s → AreLinksBelow a m (w + 1) s
-  links_more w next here v lt =
-      elim (cases_order v w) [
-        | inl same ↦ subst (λ (n : ℕ). IsCarriedIf (passage a m n) s) (sym same) here
-        | inr (inl low) ↦
+module _ {W : Type 0} (s : AnalysisState W) (a m least : ℕ) (below : AreLinksBelow a m least s) where
+  pub links_far : (next n : ℕ) → IsNextFrom s.path.given.moments m least (Some next) → ((w : ℕ) → next ≤ w → w < n → IsCarriedIf (passage a m w) s) → AreLinksBelow a m n s
+  links_far next n its here v lt =
+      elim (cases_lt v next) [
+        | inl low ↦
             elim (cases_lt v least) [
               | inl early ↦ below v early
-              | inr late ↦ apart_if s (passage a m v) (next.2 v late low)
+              | inr late ↦ apart_if s (passage a m v) (its.2 v late low)
             ]
-        | inr (inr over) ↦ absurd (omega (arith, lt, over))
+        | inr on ↦ here v on lt
       ]
 
   pub links_none : IsNextFrom s.path.given.moments m least None → AreLinks a m s
@@ -227,17 +227,37 @@ module _ {W : Type 0} (s : State W) (a m least : ℕ) (below : AreLinksBelow a m
     back = λ v carries h. (below w (let most = (inside m w carries.next).1 in omega (arith, most, far)) exact).back v carries h;
   }
 
+-- one number alone
+pub one_link : {W : Type 0} (s : AnalysisState W) (a m next w : ℕ) → next ≤ w → w < next + 1 → IsCarriedIf (passage a m next) s → IsCarriedIf (passage a m w) s
+one_link s a m next w low high h = let same : next ≡ w = omega (arith, low, high) in subst (λ (n : ℕ). IsCarriedIf (passage a m n) s) same h
+
+-- a number up to which it is as at one, or the number from which on it was asked, where it differs
+pub like_order : (like n from : ℕ) (differs : Bool) → from ≤ like → n ≡ (if differs then from else like) → from ≤ n
+like_order like n from true least is = let same : n ≡ from = is in omega (arith, same)
+like_order like n from false least is = let same : n ≡ like = is in omega (arith, same, least)
+
+-- the lesser of two numbers
+pub within_min : (last end at : ℕ) → at ≡ min last end → (at ≤ last) × (at ≤ end) × ((n : ℕ) → n ≤ last → n ≤ end → n ≤ at)
+within_min last end at is = (omega (arith, is), omega (arith, is), λ n p q. omega (arith, is, p, q))
+
+-- where nothing is known from a number on
+pub like_free : (f : KnownValues) (a from like n : ℕ) (here : Option ℕ) (differs : Bool) → differs ≡ is_some here → n ≡ (if differs then from else like) → ((q : ℕ) → from ≤ q → q < like → f q a ≡ None) → (w : ℕ) → from ≤ w → w < n → f w a ≡ here
+like_free f a from like n (Some v) true e is free w low high = let same : n ≡ from = is in absurd (omega (arith, same, low, high))
+like_free f a from like n (Some v) false e is free w low high = absurd (false≢true e)
+like_free f a from like n None true e is free w low high = absurd (false≢true (sym e))
+like_free f a from like n None false e is free w low high = let same : n ≡ like = is in free w low (omega (arith, same, high))
+
 -- where the byte is carried to no number that is next to one, all links of that one are closed
-pub links_blocked : {W : Type 0} (s : State W) (a m : ℕ) → AreBlocked a m s → AreLinks a m s
+pub links_blocked : {W : Type 0} (s : AnalysisState W) (a m : ℕ) → AreBlocked a m s → AreLinks a m s
 links_blocked s a m blocked w exact = record {
   onward = λ v carries h. absurd (blocked w carries.next exact carries);
   back = λ v carries h. absurd (blocked w carries.next exact carries);
 }
 
 -- strip by strip
-module _ {W : Type 0} (s : State W) (a from number : ℕ) (strip : Strip) (its : IsStrip (record { legs = s.path.given.legs; moments = s.path.given.moments }) number strip) (least : strip.first ≤ from) where
-  pub up_to_more : IsCarriedUpTo a from s → IsCarriedIn a strip s → AreLinks a strip.last s → IsCarriedUpTo a (strip.last + 1) s
-  up_to_more before inside links m w lt =
+module _ {W : Type 0} (s : AnalysisState W) (a from number : ℕ) (strip : Strip) (its : IsStrip (record { legs = s.path.given.legs; moments = s.path.given.moments }) number strip) (least : strip.first ≤ from) where
+  pub up_to_onward : IsCarriedUpTo a from s → ((i : ℕ) → from ≤ i → i < strip.last → IsCarriedIf (passage a i (i + 1)) s) → AreLinks a strip.last s → IsCarriedUpTo a (strip.last + 1) s
+  up_to_onward before inside links m w lt =
       elim (cases_lt m from) [
         | inl early ↦ before m w early
         | inr late ↦
@@ -253,19 +273,26 @@ module _ {W : Type 0} (s : State W) (a from number : ℕ) (strip : Strip) (its :
       at : (m w : ℕ) → from ≤ m → m < strip.last → s.path.given.moments.next m w ≡ true → IsCarriedIf (passage a m w) s
       at m w late low next =
           let joined = its.joined m (omega (arith, least, late)) low in
-          subst (λ (n : ℕ). IsCarriedIf (passage a m n) s) (sym (joined.only w next)) (inside m (omega (arith, least, late)) low)
+          subst (λ (n : ℕ). IsCarriedIf (passage a m n) s) (sym (joined.only w next)) (inside m late low)
 
-pub up_to_none : {W : Type 0} (s : State W) (a : ℕ) → IsCarriedUpTo a 0 s
+  pub up_to_more : IsCarriedUpTo a from s → IsCarriedIn a strip s → AreLinks a strip.last s → IsCarriedUpTo a (strip.last + 1) s
+  up_to_more before inside links = up_to_onward before (λ i up down. inside i (omega (arith, least, up)) down) links
+
+  -- where the same is known in it, and a row of the list stops the byte at its end
+  pub up_to_walled : (since last : ℕ) → IsEven a since last s → since ≤ from → strip.last ≤ last → AreBlocked a strip.last s → IsCarriedUpTo a from s → IsCarriedUpTo a (strip.last + 1) s
+  up_to_walled since last even begun far blocked before = up_to_onward before (λ i up down. alike_if s (passage a i (i + 1)) (even i (omega (arith, begun, up)) (omega (arith, far, down)) ∙ sym (even (i + 1) (omega (arith, begun, up)) (omega (arith, far, down))))) (links_blocked s a strip.last blocked)
+
+pub up_to_none : {W : Type 0} (s : AnalysisState W) (a : ℕ) → IsCarriedUpTo a 0 s
 up_to_none s a m w lt = absurd (omega (arith, lt))
 
-pub up_to_all : {W : Type 0} (s : State W) (a from : ℕ) → ((m w : ℕ) → s.path.given.moments.next m w ≡ true → (m ≤ s.path.given.moments.end) × (w ≤ s.path.given.moments.end)) → s.path.given.moments.end < from → IsCarriedUpTo a from s → IsCarriedAlong a s
+pub up_to_all : {W : Type 0} (s : AnalysisState W) (a from : ℕ) → ((m w : ℕ) → s.path.given.moments.next m w ≡ true → (m ≤ s.path.given.moments.end) × (w ≤ s.path.given.moments.end)) → s.path.given.moments.end < from → IsCarriedUpTo a from s → IsCarriedAlong a s
 up_to_all s a from inside far h exact m w = record {
   onward = λ v carries k. (h m w (let most = (inside m w carries.next).0 in omega (arith, most, far)) exact).onward v carries k;
   back = λ v carries k. (h m w (let most = (inside m w carries.next).0 in omega (arith, most, far)) exact).back v carries k;
 }
 
 -- up to where the same is known
-module _ {W : Type 0} (s : State W) (a from : ℕ) where
+module _ {W : Type 0} (s : AnalysisState W) (a from : ℕ) where
   pub even_free : (to : ℕ) → Nexts s.known.store.fact a from None → IsEven a from to s
   even_free to none i low high = none i low ∙ sym (none from (omega arith))
 
@@ -279,8 +306,8 @@ module _ {W : Type 0} (s : State W) (a from : ℕ) where
   in_even to strip even same near i up down = alike_if s (passage a i (i + 1)) (even i (omega (arith, same, up)) (omega (arith, down, near)) ∙ sym (even (i + 1) (omega (arith, same, up)) (omega (arith, down, near))))
 
   -- from numbers that lead to no others than those at which the same is known
-  pub up_to_even : (most n : ℕ) → IsEven a from most s → IsLeaving s.path.given.moments from most n → IsCarriedUpTo a from s → IsCarriedUpTo a n s
-  up_to_even most n even its before m w lt =
+  pub up_to_even : (number n : ℕ) (known : Window) → IsEvenAround a number known s → known.from ≤ from → IsLeaving s.path.given.moments known from n → IsCarriedUpTo a from s → IsCarriedUpTo a n s
+  up_to_even number n known around begun its before m w lt =
       elim (cases_lt m from) [
         | inl early ↦ before m w early
         | inr late ↦ λ exact. record {
@@ -293,4 +320,4 @@ module _ {W : Type 0} (s : State W) (a from : ℕ) where
       at m w late lt next =
           let within = its.inside m w late lt next in
           let to = its.to in
-          alike_if s (passage a m w) (even m late (omega (arith, lt, to)) ∙ sym (even w within.0 within.1))
+          alike_if s (passage a m w) (around.even m (omega (arith, begun, late)) (omega (arith, lt, to)) ∙ sym (around.even w within.0 within.1))

@@ -11,13 +11,13 @@ use Rattle.rept_versions.specs.declared.facts.Stretch.{Stretch}
 use Rattle.rept_versions.specs.Facts.{Nexts}
 use Rattle.rept_analysis.specs.declared.leap.Leap.{Leap}
 use Rattle.rept_analysis.specs.declared.link.Link.{Link}
-use Rattle.rept_analysis.specs.State.{State}
+use Rattle.rept_analysis.specs.State.{AnalysisState}
 use Rattle.rept_analysis.specs.Kept.{IsKept}
 use Rattle.rept_analysis.specs.Drawing.{Knows, IsTracked, Drew, AreWritings, IsBridged, IsLeapUp, IsLeapDown, IsLed}
 use Rattle.rept_analysis.proofs.Drawn.{Drew_as}
 use Rattle.rept_analysis.proofs.Listing.{spared_by}
 
-module _ {W : Type 0} (s : State W) (x : Leap) (v : ℕ) (order : x.first ≤ x.last) (known : (q : ℕ) → x.first ≤ q → q ≤ x.last → Knows q (Byte x.address) v s) where
+module _ {W : Type 0} (s : AnalysisState W) (x : Leap) (v : ℕ) (order : x.first ≤ x.last) (known : (q : ℕ) → x.first ≤ q → q ≤ x.last → Knows q (Byte x.address) v s) where
   -- what goes up is led
   pub led_up : IsLeapUp x s → IsLed (record { address = x.address; from = x.last; to = x.to; value = v }) s
   led_up leap q (inl between) ne =
@@ -51,7 +51,7 @@ module _ {W : Type 0} (s : State W) (x : Leap) (v : ℕ) (order : x.first ≤ x.
   led_down leap q (inl between) ne = let from = leap.from in let low = between.0 in let high = between.1 in absurd (ne (omega (arith, from, low, high)))
 
 -- between a number and a next one where no row of the list falls that may write the byte
-module _ {W : Type 0} (s : State W) (h : AreWritings s) (a : ℕ) (small : a < 2 ^ 32) (number since until : ℕ) (free_since : IsFreeSince s.work.writing number a since) (free_until : IsFreeUntil s.work.writing number a until) where
+module _ {W : Type 0} (s : AnalysisState W) (h : AreWritings s) (a : ℕ) (small : a < 2 ^ 32) (number since until : ℕ) (free_since : IsFreeSince s.work.writing number a since) (free_until : IsFreeUntil s.work.writing number a until) where
   pub bridged_free : (m k : ℕ) → IsLit s.path.given.moments m k → since ≤ m → k < until → IsBridged (passage a m k) s
   bridged_free m k lit late early = record {
     next = lit.next;
@@ -67,7 +67,7 @@ module _ {W : Type 0} (s : State W) (h : AreWritings s) (a : ℕ) (small : a < 2
   }
 
 -- how far up it goes
-module _ {W : Type 0} (s : State W) (h : AreWritings s) (a : ℕ) (small : a < 2 ^ 32) (first last since until : ℕ) (free_since : IsFreeSince s.work.writing last a since) (free_until : IsFreeUntil s.work.writing last a until) where
+module _ {W : Type 0} (s : AnalysisState W) (h : AreWritings s) (a : ℕ) (small : a < 2 ^ 32) (first last since until : ℕ) (free_since : IsFreeSince s.work.writing last a since) (free_until : IsFreeUntil s.work.writing last a until) where
   pub leaps_up : (known : Window) (n : ℕ) → known.from ≡ max since first → known.to ≡ last + 1 → last + 1 < until → IsReachedUp s.path.given.moments known (until - 1) n → IsLeapUp (record { address = a; first = first; last = last; to = n }) s
   leaps_up known n from to later reached = record {
     from = let x = reached.from in omega (arith, x, to);
@@ -83,11 +83,11 @@ module _ {W : Type 0} (s : State W) (h : AreWritings s) (a : ℕ) (small : a < 2
       early k past most (inr none) = absurd (omega (arith, none, to, past, most))
 
 -- and where it doesn't
-pub stays_up : {W : Type 0} (s : State W) (a first last : ℕ) → last ≤ s.path.given.moments.end → IsLeapUp (record { address = a; first = first; last = last; to = last }) s
+pub stays_up : {W : Type 0} (s : AnalysisState W) (a first last : ℕ) → last ≤ s.path.given.moments.end → IsLeapUp (record { address = a; first = first; last = last; to = last }) s
 stays_up s a first last inside = record { from = omega arith; inside = inside; ways = λ k past most. absurd (omega (arith, past, most)) }
 
 -- how far down it goes
-module _ {W : Type 0} (s : State W) (h : AreWritings s) (a : ℕ) (small : a < 2 ^ 32) (first last since until : ℕ) (free_since : IsFreeSince s.work.writing first a since) (free_until : IsFreeUntil s.work.writing first a until) where
+module _ {W : Type 0} (s : AnalysisState W) (h : AreWritings s) (a : ℕ) (small : a < 2 ^ 32) (first last since until : ℕ) (free_since : IsFreeSince s.work.writing first a since) (free_until : IsFreeUntil s.work.writing first a until) where
   pub leaps_down : (known : Window) (n : ℕ) → known.from ≡ first → known.to ≡ min until (last + 1) → since < first → IsReachedDown s.path.given.moments known since n → IsLeapDown (record { address = a; first = first; last = last; to = n }) s
   leaps_down known n from to earlier reached = record {
     from = let x = reached.to in omega (arith, x, from);
@@ -102,15 +102,15 @@ module _ {W : Type 0} (s : State W) (h : AreWritings s) (a : ℕ) (small : a < 2
       late k least before (inr none) = absurd (omega (arith, none, from, least, before))
 
 -- and where it doesn't
-pub stays_down : {W : Type 0} (s : State W) (a first last : ℕ) → IsLeapDown (record { address = a; first = first; last = last; to = first }) s
+pub stays_down : {W : Type 0} (s : AnalysisState W) (a first last : ℕ) → IsLeapDown (record { address = a; first = first; last = last; to = first }) s
 stays_down s a first last = record { from = omega arith; ways = λ k least before. absurd (omega (arith, least, before)) }
 
 -- a byte with a stretch is tracked
-pub tracked_by : {W : Type 0} (s : State W) → IsKept s → (a : ℕ) (o : Option Stretch) → Nexts s.known.store.fact a 0 o → is_some o ≡ true → IsTracked a s
+pub tracked_by : {W : Type 0} (s : AnalysisState W) → IsKept s → (a : ℕ) (o : Option Stretch) → Nexts s.known.store.fact a 0 o → is_some o ≡ true → IsTracked a s
 tracked_by s kept a None h some = absurd (false≢true some)
 tracked_by s kept a (Some stretch) h some = let ordered = h.run.ordered in kept.listed stretch.first a stretch.value (h.run.value stretch.first (omega arith) ordered)
 
 -- what came of a call on a number and those that are next to it, by what else it promises
-pub linked_if : {W E : Type 0} (s t : State W) (r : Result Link E) (P Q : State W → Type 0) → IfOk r (λ x. Drew s t x.has_news P) → (P s → Q s) → IfOk r (λ x. Drew s t x.has_news Q)
+pub linked_if : {W E : Type 0} (s t : AnalysisState W) (r : Result Link E) (P Q : AnalysisState W → Type 0) → IfOk r (λ x. Drew s t x.has_news P) → (P s → Q s) → IfOk r (λ x. Drew s t x.has_news Q)
 linked_if s t (Ok x) P Q d f = Drew_as s t x.has_news P Q d f
 linked_if s t (Err e) P Q d f = tt

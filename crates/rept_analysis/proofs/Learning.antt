@@ -21,7 +21,7 @@ use Rattle.rept_versions.specs.Facts.{ByteFact}
 use Rattle.rept_log.specs.declared.answer.Answer.{Answer}
 use Rattle.rept_log.specs.declared.answer.Answer.TheVariants.{Old, New, Clash}
 use Rattle.rept_log.specs.Known.{Known, knows, known_change, with_entry, IsNew, LearnsRegister, AddsByte, LearnsByte, HasNoRoom, TracksMore, TracksByte}
-use Rattle.rept_analysis.specs.State.{State, IsRoomy, all_known, along}
+use Rattle.rept_analysis.specs.State.{AnalysisState, IsRoomy, all_known, along}
 use Rattle.rept_report.specs.Why.{fact_of}
 use Rattle.rept_analysis.specs.Drawing.{IsTracked, Grows, IsFollowing, IsBrought, IsRowAddress, HasPlace}
 use Rattle.rept_analysis.specs.Sums.{sum_to}
@@ -36,7 +36,7 @@ use Rattle.rept_analysis.proofs.Passing.{passes_more, never_pass}
 use Rattle.rept_analysis.proofs.Reserve.{room_like, room_drawn, room_last, room_to_draw, room_to_read, room_tracked, room_to_track, room_new}
 use Rattle.rept_analysis.specs.Told.{ByteToldAs, IsNewlyTold, ToldAs, Tracks}
 
-abbrev pub with_known : {W : Type 0} → State W → Known → State W
+abbrev pub with_known : {W : Type 0} → AnalysisState W → Known → AnalysisState W
 with_known s k = record { path = s.path; known = k; spans = s.spans; filled = s.filled; shown = s.shown; complete = s.complete; conflict = s.conflict; work = s.work }
 
 same_byte : {a b : ℕ} → Byte a ≡ Byte b → a ≡ b
@@ -57,13 +57,13 @@ length_add : (keep : Bool) (f : Fact) (fs : List Fact) → length fs ≤ length 
 length_add true f fs = omega arith
 length_add false f fs = omega arith
 
-pub same_known : {W : Type 0} (s : State W) (k : Known) → k ≡ s.known → with_known s k ≡ s
+pub same_known : {W : Type 0} (s : AnalysisState W) (k : Known) → k ≡ s.known → with_known s k ≡ s
 same_known s k e = ap (λ (x : Known). with_known s x) e
 
-pub kept_same : {W : Type 0} (s : State W) (k : Known) → k ≡ s.known → IsKept s → IsKept (with_known s k)
-kept_same s k e kept = subst (λ (x : State _). IsKept x) (sym (same_known s k e)) kept
+pub kept_same : {W : Type 0} (s : AnalysisState W) (k : Known) → k ≡ s.known → IsKept s → IsKept (with_known s k)
+kept_same s k e kept = subst (λ (x : AnalysisState _). IsKept x) (sym (same_known s k e)) kept
 
-module _ {W : Type 0} (s : State W) (kept : IsKept s) where
+module _ {W : Type 0} (s : AnalysisState W) (kept : IsKept s) where
   -- the facts that were learnt are what is known
   pub trace_known : told (facts_of kept.traced.entries) ≡ all_known s
   trace_known = fun_ext (λ p. fun_ext (λ c. kept.traced.agree p c))
@@ -72,7 +72,7 @@ module _ {W : Type 0} (s : State W) (kept : IsKept s) where
   known_words = subst HasWords trace_known (words_of (facts_of kept.traced.entries) (trace_words (along s.path) kept.traced.entries kept.traced.trace))
 
 -- a fact that was learnt, and what is known with it
-pub record IsNext {W : Type 0} (s : State W) (kept : IsKept s) (f : Fact) (keep : Bool) (k : Known) : Type 0 where
+pub record IsNext {W : Type 0} (s : AnalysisState W) (kept : IsKept s) (f : Fact) (keep : Bool) (k : Known) : Type 0 where
   pub early : IsInstant (along s.path) f.cell f.point
   pub cell : IsCell f.cell
   pub word : IsWordOf f.cell f.value
@@ -88,7 +88,7 @@ pub record IsNext {W : Type 0} (s : State W) (kept : IsKept s) (f : Fact) (keep 
   pub roomy : ((p : ℕ) (c : Cell) (v : ℕ) → all_known s p c ≡ Some v → knows k p c ≡ Some v) → IsRoomy s → HasRoom s.path k
   pub agree : (p : ℕ) (c : Cell) → told (f ∷ facts_of kept.traced.entries) p c ≡ knows k p c
 
-module _ {W : Type 0} (s : State W) (kept : IsKept s) (f : Fact) (keep : Bool) (k : Known) (n : IsNext s kept f keep k) where
+module _ {W : Type 0} (s : AnalysisState W) (kept : IsKept s) (f : Fact) (keep : Bool) (k : Known) (n : IsNext s kept f keep k) where
   abbrev learnt : Entry
   learnt = record { fact = f; logged = keep }
 
@@ -182,7 +182,7 @@ module _ {W : Type 0} (s : State W) (kept : IsKept s) (f : Fact) (keep : Bool) (
   }
 
 -- a register
-module _ {W : Type 0} (s : State W) (kept : IsKept s) (p r v : ℕ) (early : p ≤ s.path.given.legs.count) (named : 0 < r) (in_file : r < 32) (small : v < 2 ^ 32) (open_ : s.complete ≡ false) (follows : IsFollowing s (fact_of p (Register r) v)) where
+module _ {W : Type 0} (s : AnalysisState W) (kept : IsKept s) (p r v : ℕ) (early : p ≤ s.path.given.legs.count) (named : 0 < r) (in_file : r < 32) (small : v < 2 ^ 32) (open_ : s.complete ≡ false) (follows : IsFollowing s (fact_of p (Register r) v)) where
   register_agrees : (q : ℕ) (c : Cell) → told (fact_of p (Register r) v ∷ facts_of kept.traced.entries) q c ≡ knows (with_entry s.known (fact_of p (Register r) v)) q c
   register_agrees q (Register t) = ap (λ (x : Option ℕ). cond (speaks (fact_of p (Register r) v) q (Register t)) (Some v) x) (kept.traced.agree q (Register t))
   register_agrees q (Byte a) = told_old (fact_of p (Register r) v) (facts_of kept.traced.entries) q (Byte a) (false_from_ne_true (speaks (fact_of p (Register r) v) q (Byte a)) (λ e. register_differs (speaks_is (fact_of p (Register r) v) q (Byte a) e).1)) ∙ kept.traced.agree q (Byte a)
@@ -213,7 +213,7 @@ module _ {W : Type 0} (s : State W) (kept : IsKept s) (p r v : ℕ) (early : p �
       subst (λ (x : Known). IsKept (with_known s x) × ToldAs s (with_known s x) (fact_of p (Register r) v) New) (sym same) (next_kept s kept _ true _ n, next_told s kept _ true _ n)
 
 -- a byte
-module _ {W : Type 0} (s : State W) (kept : IsKept s) (joins : Bool) (p a v : ℕ) (early : p ≤ s.path.given.moments.end) (small : a < 2 ^ 32) (tracked : IsTracked a s) (open_ : s.complete ≡ false) (follows : IsFollowing s (fact_of p (Byte a) v)) (keep : Bool) (brought : keep ≡ false → IsBrought s (fact_of p (Byte a) v)) where
+module _ {W : Type 0} (s : AnalysisState W) (kept : IsKept s) (joins : Bool) (p a v : ℕ) (early : p ≤ s.path.given.moments.end) (small : a < 2 ^ 32) (tracked : IsTracked a s) (open_ : s.complete ≡ false) (follows : IsFollowing s (fact_of p (Byte a) v)) (keep : Bool) (brought : keep ≡ false → IsBrought s (fact_of p (Byte a) v)) where
   abbrev f : Fact
   f = fact_of p (Byte a) v
 
@@ -280,7 +280,7 @@ module _ {W : Type 0} (s : State W) (kept : IsKept s) (joins : Bool) (p a v : �
     new_byte once roomy = let n = byte_next once roomy in (next_kept s kept f keep k n, next_told s kept f keep k n)
 
 -- a byte for which there is room
-module _ {W : Type 0} (s : State W) (laws : HasLaws (along s.path)) (kept : IsKept s) (joins : Bool) (p a v : ℕ) (early : p ≤ s.path.given.moments.end) (small : a < 2 ^ 32) (tracked : IsTracked a s) (open_ : s.complete ≡ false) (follows : IsFollowing s (fact_of p (Byte a) v)) where
+module _ {W : Type 0} (s : AnalysisState W) (laws : HasLaws (along s.path)) (kept : IsKept s) (joins : Bool) (p a v : ℕ) (early : p ≤ s.path.given.moments.end) (small : a < 2 ^ 32) (tracked : IsTracked a s) (open_ : s.complete ≡ false) (follows : IsFollowing s (fact_of p (Byte a) v)) where
   abbrev g : Fact
   g = fact_of p (Byte a) v
 
@@ -304,7 +304,7 @@ module _ {W : Type 0} (s : State W) (laws : HasLaws (along s.path)) (kept : IsKe
   told_byte keep brought place k once (Ok New) adds = new_byte s kept joins p a v early small tracked open_ follows keep brought k adds once (byte_room keep place k adds)
 
 -- one more address is tracked
-module _ {W : Type 0} (s : State W) (legs : AreLegs s.path.given.legs) (kept : IsKept s) (a : ℕ) (small : a < 2 ^ 32) (open_ : s.complete ≡ false) (row : IsRowAddress a s) where
+module _ {W : Type 0} (s : AnalysisState W) (legs : AreLegs s.path.given.legs) (kept : IsKept s) (a : ℕ) (small : a < 2 ^ 32) (open_ : s.complete ≡ false) (row : IsRowAddress a s) where
   module _ (k : Known) (h : TracksMore s.known k a) where
     same_knows : (p : ℕ) (c : Cell) → all_known s p c ≡ knows k p c
     same_knows p (Register r) = rw h.log refl
@@ -368,7 +368,7 @@ module _ {W : Type 0} (s : State W) (legs : AreLegs s.path.given.legs) (kept : I
   tracked_byte k (Ok true) h = (track_kept k h, (track_grows k h, address a small h.was_not (now_tracked k h), now_tracked k h, h.log, h.fact, refl))
 
 -- a new analysis
-pub fresh_kept : {W : Type 0} (s : State W) (bytes : ℕ) → bytes ≡ sum_to (places_at s.path) (s.path.given.legs.count) → s.path.given.legs.count ≤ 66560 → ((p : ℕ) → length (s.path.given.last p) ≡ 32) → IsNew s.work.joins s.known (s.path.given.legs.count) bytes → s.spans.points ≡ s.path.given.legs.count + 1 → s.filled ≡ 0 → s.shown ≡ 0 → s.complete ≡ false → s.conflict ≡ None → s.path.given.moments.end < s.work.room → length s.work.drawn ≡ s.path.given.legs.count → ((i : ℕ) (x : Pass) → slice_get s.work.drawn i ≡ Some x → x ≡ Never) → IsKept s
+pub fresh_kept : {W : Type 0} (s : AnalysisState W) (bytes : ℕ) → bytes ≡ sum_to (places_at s.path) (s.path.given.legs.count) → s.path.given.legs.count ≤ 66560 → ((p : ℕ) → length (s.path.given.last p) ≡ 32) → IsNew s.work.joins s.known (s.path.given.legs.count) bytes → s.spans.points ≡ s.path.given.legs.count + 1 → s.filled ≡ 0 → s.shown ≡ 0 → s.complete ≡ false → s.conflict ≡ None → s.path.given.moments.end < s.work.room → length s.work.drawn ≡ s.path.given.legs.count → ((i : ℕ) (x : Pass) → slice_get s.work.drawn i ≡ Some x → x ≡ Never) → IsKept s
 fresh_kept s bytes sum few registers new sized filled shown open_ calm_ room rows never = record {
   few = few;
   registers = registers;

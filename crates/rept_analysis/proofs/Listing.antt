@@ -16,13 +16,13 @@ use Rattle.rept_report.specs.Timeline.{IsClear, IsLike, IsAlike, IsStrip}
 use Rattle.rept_report.specs.declared.paths.Strip.{Strip}
 use Rattle.rept_report.specs.Spots.{Passage, passage}
 use Rattle.rept_report.specs.Log.{oldest}
-use Rattle.rept_analysis.specs.State.{State, Subject, timeline_of, with_writing}
+use Rattle.rept_analysis.specs.State.{AnalysisState, Subject, timeline_of, with_writing}
 use Rattle.rept_analysis.specs.declared.piece.Piece.{Piece}
-use Rattle.rept_analysis.specs.Drawing.{Grows, IsAccess, IsSpared, IsBridged, IsSparedBetween, IsSilent, IsListed, past, IsWriting, AreWritingsBefore, AreBarriers, AreWritings, AreExact, SameFacts, IsFitted, IsBlocked, AreBlocked, Blocks, IsBlocker, IsCalm, IsLooseEnd, IsLooseBefore, IsEnd, IsPiece}
+use Rattle.rept_analysis.specs.Drawing.{Grows, IsAccess, IsSpared, IsBridged, IsSparedBetween, IsSilent, IsInList, past, IsWriting, AreWritingsBefore, AreBarriers, AreWritings, AreExact, SameFacts, IsFitted, IsBlocked, AreBlocked, Blocks, IsHitBy, IsBlocker, IsCalm, IsLooseEnd, IsLooseBefore, IsEnd, IsPiece}
 use Rattle.rept_analysis.proofs.Barriers.{past_at}
 
 -- the same rows may write where path, facts and sets are the same
-module _ {W : Type 0} (s t : State W) (setting : t.path ≡ s.path) (older : oldest t.filled t.known.log ≡ oldest s.filled s.known.log) where
+module _ {W : Type 0} (s t : AnalysisState W) (setting : t.path ≡ s.path) (older : oldest t.filled t.known.log ≡ oldest s.filled s.known.log) where
   pub writings_like : (n : ℕ) (list : List Writing) → AreWritingsBefore n list s → AreWritingsBefore n list t
   writings_like n list h = record {
     each = λ k w at.
@@ -42,16 +42,16 @@ module _ {W : Type 0} (s t : State W) (setting : t.path ≡ s.path) (older : old
         ];
   }
 
-pub writings_after : {W : Type 0} (s t : State W) → Grows s t → AreWritings s → AreWritings t
+pub writings_after : {W : Type 0} (s t : AnalysisState W) → Grows s t → AreWritings s → AreWritings t
 writings_after s t g h = g.writing h
 
 same_writing : {x y : Writing} → Some x ≡ Some y → x ≡ y
 same_writing e = cc
 
-lower_more : {W : Type 0} (s : State W) (n : ℕ) (w : Writing) → IsWriting n w s → IsWriting (n + 1) w s
+lower_more : {W : Type 0} (s : AnalysisState W) (n : ℕ) (w : Writing) → IsWriting n w s → IsWriting (n + 1) w s
 lower_more s n w x = record { low = let low = x.low in omega (arith, low); there = x.there; time = x.time; extent = x.extent; access = x.access }
 
-module _ {W : Type 0} (s : State W) (n : ℕ) (list : List Writing) (h : AreWritingsBefore n list s) where
+module _ {W : Type 0} (s : AnalysisState W) (n : ℕ) (list : List Writing) (h : AreWritingsBefore n list s) where
   -- no row stands at the number
   pub listed_none : ((i : ℕ) → IsSome (s.path.given.legs.row i) → s.path.given.moments.before i ≡ n → ⊥) → AreWritingsBefore (n + 1) list s
   listed_none none = record {
@@ -141,7 +141,7 @@ module _ {W : Type 0} (s : State W) (n : ℕ) (list : List Writing) (h : AreWrit
                 ]
           ]
 
-      kept : (j : ℕ) → IsListed list j → IsListed (list ++ w ∷ []) j
+      kept : (j : ℕ) → IsInList list j → IsInList (list ++ w ∷ []) j
       kept j x = record { index = x.index; writing = x.writing; found = before_push x.index (slice_get_within list x.index x.writing x.found) ∙ x.found; row = x.row }
 
       pub listed_more : AreWritingsBefore (n + 1) (list ++ w ∷ []) s
@@ -160,10 +160,10 @@ module _ {W : Type 0} (s : State W) (n : ℕ) (list : List Writing) (h : AreWrit
             ];
       }
 
-pub none_spared : {W : Type 0} (s : State W) (i : ℕ) (access : CallAccess) → IsAccess i access s → ((a : ℕ) → call_hits access a ≡ false) → IsSilent i s
+pub none_spared : {W : Type 0} (s : AnalysisState W) (i : ℕ) (access : CallAccess) → IsAccess i access s → ((a : ℕ) → call_hits access a ≡ false) → IsSilent i s
 none_spared s i access is none a small = sym (is a small) ∙ none a
 
-pub nothing_listed : {W : Type 0} (s : State W) → AreWritingsBefore 0 [] s
+pub nothing_listed : {W : Type 0} (s : AnalysisState W) → AreWritingsBefore 0 [] s
 nothing_listed s = record {
   each = λ k w at. absurd (none_here k w at);
   order = λ i j d le lt. absurd (omega (arith, lt));
@@ -174,26 +174,26 @@ nothing_listed s = record {
     none_here k w e = let lt = slice_get_within [] k w e in omega (arith, lt)
 
 -- with another list everything else is the same
-pub listed_same : {W : Type 0} (s t : State W) (list : List Writing) → t ≡ with_writing s list → SameFacts s t
-listed_same s t list is = subst (λ (x : State _). SameFacts s x) (sym is) (record { path = refl; known = refl; shown = refl; complete = refl; conflict = refl; draws = refl; drawn = refl })
+pub listed_same : {W : Type 0} (s t : AnalysisState W) (list : List Writing) → t ≡ with_writing s list → SameFacts s t
+listed_same s t list is = subst (λ (x : AnalysisState _). SameFacts s x) (sym is) (record { path = refl; known = refl; shown = refl; complete = refl; conflict = refl; draws = refl; drawn = refl })
 
-pub fitted_listed : {W : Type 0} (s t : State W) (list : List Writing) → t ≡ with_writing s list → IsFitted s → IsFitted t
-fitted_listed s t list is h = subst (λ (x : State _). IsFitted x) (sym is) h
+pub fitted_listed : {W : Type 0} (s t : AnalysisState W) (list : List Writing) → t ≡ with_writing s list → IsFitted s → IsFitted t
+fitted_listed s t list is h = subst (λ (x : AnalysisState _). IsFitted x) (sym is) h
 
-pub writings_listed : {W : Type 0} (s t : State W) (list : List Writing) → t ≡ with_writing s list → (n : ℕ) (rows : List Writing) → AreWritingsBefore n rows s → AreWritingsBefore n rows t
+pub writings_listed : {W : Type 0} (s t : AnalysisState W) (list : List Writing) → t ≡ with_writing s list → (n : ℕ) (rows : List Writing) → AreWritingsBefore n rows s → AreWritingsBefore n rows t
 writings_listed s t list is n rows h = writings_like s t (rw is refl) (rw is refl) n rows h
 
-pub writings_back : {W : Type 0} (s t : State W) (list : List Writing) → t ≡ with_writing s list → (n : ℕ) (rows : List Writing) → AreWritingsBefore n rows t → AreWritingsBefore n rows s
+pub writings_back : {W : Type 0} (s t : AnalysisState W) (list : List Writing) → t ≡ with_writing s list → (n : ℕ) (rows : List Writing) → AreWritingsBefore n rows t → AreWritingsBefore n rows s
 writings_back s t list is n rows h = writings_like t s (rw is refl) (rw is refl) n rows h
 
-pub listed_then : {W : Type 0} (s t u : State W) (xs ys : List Writing) → t ≡ with_writing s xs → u ≡ with_writing t ys → u ≡ with_writing s ys
-listed_then s t u xs ys p q = q ∙ ap (λ (x : State _). with_writing x ys) p
+pub listed_then : {W : Type 0} (s t u : AnalysisState W) (xs ys : List Writing) → t ≡ with_writing s xs → u ≡ with_writing t ys → u ≡ with_writing s ys
+listed_then s t u xs ys p q = q ∙ ap (λ (x : AnalysisState _). with_writing x ys) p
 
 some_there : (o : Option StepRow) → IsSome o → (row : StepRow) × (o ≡ Some row)
 some_there None some = absurd (false≢true some)
 some_there (Some row) some = (row, refl)
 
-pub entry_early : {W : Type 0} (s : State W) → AreWritings s → (k : ℕ) (w : Writing) → slice_get s.work.writing k ≡ Some w → w.at ≤ s.path.given.moments.end
+pub entry_early : {W : Type 0} (s : AnalysisState W) → AreWritings s → (k : ℕ) (w : Writing) → slice_get s.work.writing k ≡ Some w → w.at ≤ s.path.given.moments.end
 entry_early s h k w found =
     let its = h.barriers.each k w found in
     let row = some_there (s.path.given.legs.row w.row) its.there in
@@ -202,7 +202,7 @@ entry_early s h k w found =
     omega (arith, early, time)
 
 -- the list as it was made, of all numbers
-pub listed_barriers : {W : Type 0} (s : State W) (n : ℕ) → AreMoments s.path.given.legs s.path.given.moments → n ≡ s.path.given.moments.end + 1 → AreWritingsBefore n s.work.writing s → AreBarriers s.work.writing s
+pub listed_barriers : {W : Type 0} (s : AnalysisState W) (n : ℕ) → AreMoments s.path.given.legs s.path.given.moments → n ≡ s.path.given.moments.end + 1 → AreWritingsBefore n s.work.writing s → AreBarriers s.work.writing s
 listed_barriers s n laws all h = record {
   each = λ k w at. let x = h.each k w at in record { there = x.there; time = x.time; extent = x.extent; others = λ a small miss. inl (sym (x.access a small) ∙ miss) };
   order = h.order;
@@ -212,13 +212,13 @@ listed_barriers s n laws all h = record {
       h.all i there (omega (arith, early, all));
 }
 
-pub listed_exact : {W : Type 0} (s : State W) (n : ℕ) → AreWritingsBefore n s.work.writing s → AreExact s
+pub listed_exact : {W : Type 0} (s : AnalysisState W) (n : ℕ) → AreWritingsBefore n s.work.writing s → AreExact s
 listed_exact s n h k w a at small hits = sym ((h.each k w at).access a small) ∙ hits
 
 pub same_hit : (list : List Writing) (j a : ℕ) (w : Writing) → slice_get list j ≡ Some w → hits_at list j a ≡ call_hits w.access a
 same_hit list j a w at = rw at refl
 
-module _ {W : Type 0} (s : State W) (h : AreWritings s) (a : ℕ) (small : a < 2 ^ 32) where
+module _ {W : Type 0} (s : AnalysisState W) (h : AreWritings s) (a : ℕ) (small : a < 2 ^ 32) where
   abbrev list : List Writing
   list = s.work.writing
 
@@ -271,26 +271,9 @@ module _ {W : Type 0} (s : State W) (h : AreWritings s) (a : ℕ) (small : a < 2
         | inr (inr over) ↦ absurd (omega (arith, lt, over))
       ]
 
-  pub bridged_by : (m w k : ℕ) → s.path.given.moments.next m w ≡ true → s.path.given.moments.dark m w ≡ false → IsNextMeeting list k (record { from = m; to = w; address = a }) None → DoNoneFall m w k → IsBridged (passage a m w) s
-  bridged_by m w k next light none below = record {
-    next = next;
-    light = light;
-    spared = λ i falls. spared_by i (λ j x found row hits.
-        let its = subst (λ (n : ℕ). s.path.given.moments.falls n m w ≡ true) (sym row) falls in
-        elim (cases_lt j k) [
-          | inl early ↦ false≢true (sym (below j x early found hits) ∙ its)
-          | inr late ↦ none j late (meeting_by m w j x next found hits its)
-        ]);
-  }
-
   -- where a row falls that may write the byte it isn't carried
   pub blocked_by : (m w hit : ℕ) (x : Writing) → slice_get list hit ≡ Some x → hits_at list hit a ≡ true → s.path.given.moments.falls x.row m w ≡ true → IsBlocked (passage a m w) s
   blocked_by m w hit x at hits falls exact carries = false≢true (sym (carries.spared x.row falls) ∙ exact hit x a at small (sym (same_hit list hit a x at) ∙ hits))
-
-  pub blocked_meeting : (m w hit : ℕ) (x : Writing) → IsMeeting list (record { from = m; to = w; address = a }) hit → slice_get list hit ≡ Some x → s.path.given.moments.falls x.row m w ≡ true → IsBlocked (passage a m w) s
-  blocked_meeting m w hit x meeting at falls =
-      let hits : call_hits x.access a ≡ true = subst (λ (y : Writing). call_hits y.access a ≡ true) (same_writing (sym meeting.stands ∙ at)) meeting.hits in
-      blocked_by m w hit x at (same_hit list hit a x at ∙ hits) falls
 
   -- the index of an entry that may write the byte and falls, or that there is none
   pub blocker_meeting : (m w hit : ℕ) (x : Writing) → IsMeeting list (record { from = m; to = w; address = a }) hit → slice_get list hit ≡ Some x → s.path.given.moments.falls x.row m w ≡ true → Blocks (passage a m w) s hit
@@ -342,7 +325,14 @@ module _ {W : Type 0} (s : State W) (h : AreWritings s) (a : ℕ) (small : a < 2
   pub blocked_by_bar : (m k : ℕ) (x : Writing) → slice_get list k ≡ Some x → call_hits x.access a ≡ true → IsBar s.path.given.moments x.row m → AreBlocked a m s
   blocked_by_bar m k x found hits bar w next = blocked_by m w k x found (same_hit list k a x found ∙ hits) (bar w next)
 
-pub blocked_dark : {W : Type 0} (s : State W) (x : Passage) → s.path.given.moments.dark x.from x.to ≡ true → IsBlocked x s
+  -- so where such an entry is named by its row
+  pub hit_blocks : (m w row : ℕ) → IsHitBy a row s → s.path.given.moments.falls row m w ≡ true → IsBlocked (passage a m w) s
+  hit_blocks m w row x falls = blocked_if_falls m w x.index x.writing x.found x.hits (subst (λ (i : ℕ). s.path.given.moments.falls i m w ≡ true) (sym x.row_is) falls)
+
+  pub hit_bars : (m row : ℕ) → IsHitBy a row s → IsBar s.path.given.moments row m → AreBlocked a m s
+  hit_bars m row x bar = blocked_by_bar m x.index x.writing x.found x.hits (subst (λ (i : ℕ). IsBar s.path.given.moments i m) (sym x.row_is) bar)
+
+pub blocked_dark : {W : Type 0} (s : AnalysisState W) (x : Passage) → s.path.given.moments.dark x.from x.to ≡ true → IsBlocked x s
 blocked_dark s x dark exact carries = false≢true (sym carries.light ∙ dark)
 
 pub some_pause : {p q : ℕ} → Some p ≡ Some q → p ≡ q
@@ -351,14 +341,14 @@ some_pause e = cc
 none_pause : {p : ℕ} → None ≡ Some p → ⊥
 none_pause e = cc
 
-pub calm_none : {W : Type 0} (s : State W) (a : ℕ) (strip : Strip) → strip.pause ≡ None → IsCalm a strip s
+pub calm_none : {W : Type 0} (s : AnalysisState W) (a : ℕ) (strip : Strip) → strip.pause ≡ None → IsCalm a strip s
 calm_none s a strip none p some = absurd (none_pause (sym none ∙ some))
 
-pub calm_some : {W : Type 0} (s : State W) (a p : ℕ) (strip : Strip) → strip.pause ≡ Some p → IsBridged (passage a p (p + 1)) s → IsCalm a strip s
+pub calm_some : {W : Type 0} (s : AnalysisState W) (a p : ℕ) (strip : Strip) → strip.pause ≡ Some p → IsBridged (passage a p (p + 1)) s → IsCalm a strip s
 calm_some s a p strip is h q some = subst (λ (n : ℕ). IsBridged (passage a n (n + 1)) s) (some_pause (sym is ∙ some)) h
 
 -- of a strip in which nothing else may write the byte
-module _ {W : Type 0} (s : State W) (h : AreWritings s) (a : ℕ) (small : a < 2 ^ 32) (strip : Strip) (number : ℕ) (its : IsStrip (timeline_of s) number strip) (calm : IsCalm a strip s) where
+module _ {W : Type 0} (s : AnalysisState W) (h : AreWritings s) (a : ℕ) (small : a < 2 ^ 32) (strip : Strip) (number : ℕ) (its : IsStrip (timeline_of s) number strip) (calm : IsCalm a strip s) where
   abbrev entries : List Writing
   entries = s.work.writing
 
@@ -551,14 +541,14 @@ module _ {W : Type 0} (s : State W) (h : AreWritings s) (a : ℕ) (small : a < 2
         ends i (inr is) = loose_next hit first.inside piece.after after i is
 
 -- an entry that isn't in the strip, or whose row falls
-pub loose_low : {W : Type 0} (s : State W) (strip : Strip) (k : ℕ) (w : Writing) → slice_get s.work.writing k ≡ Some w → w.at < strip.first → IsLooseEnd strip k None s
+pub loose_low : {W : Type 0} (s : AnalysisState W) (strip : Strip) (k : ℕ) (w : Writing) → slice_get s.work.writing k ≡ Some w → w.at < strip.first → IsLooseEnd strip k None s
 loose_low s strip k w found low x at up down = let same : w.at ≡ x.at = ap (λ (y : Writing). y.at) (same_writing (sym found ∙ at)) in absurd (omega (arith, low, up, same))
 
-pub loose_high : {W : Type 0} (s : State W) (strip : Strip) (k : ℕ) (w : Writing) → slice_get s.work.writing k ≡ Some w → strip.last ≤ w.at → IsLooseEnd strip k None s
+pub loose_high : {W : Type 0} (s : AnalysisState W) (strip : Strip) (k : ℕ) (w : Writing) → slice_get s.work.writing k ≡ Some w → strip.last ≤ w.at → IsLooseEnd strip k None s
 loose_high s strip k w found high x at up down = let same : w.at ≡ x.at = ap (λ (y : Writing). y.at) (same_writing (sym found ∙ at)) in absurd (omega (arith, high, down, same))
 
-pub loose_falls : {W : Type 0} (s : State W) (strip : Strip) (k : ℕ) (w : Writing) → slice_get s.work.writing k ≡ Some w → s.path.given.moments.falls w.row w.at (w.at + 1) ≡ true → IsLooseEnd strip k None s
+pub loose_falls : {W : Type 0} (s : AnalysisState W) (strip : Strip) (k : ℕ) (w : Writing) → slice_get s.work.writing k ≡ Some w → s.path.given.moments.falls w.row w.at (w.at + 1) ≡ true → IsLooseEnd strip k None s
 loose_falls s strip k w found falls x at up down = subst (λ (y : Writing). s.path.given.moments.falls y.row y.at (y.at + 1) ≡ true) (same_writing (sym found ∙ at)) falls
 
-pub loose_some : {W : Type 0} (s : State W) (strip : Strip) (k : ℕ) (w : Writing) → slice_get s.work.writing k ≡ Some w → s.path.given.moments.next w.at (w.at + 1) ≡ true → IsLooseEnd strip k (Some w.at) s
+pub loose_some : {W : Type 0} (s : AnalysisState W) (strip : Strip) (k : ℕ) (w : Writing) → slice_get s.work.writing k ≡ Some w → s.path.given.moments.next w.at (w.at + 1) ≡ true → IsLooseEnd strip k (Some w.at) s
 loose_some s strip k w found next x at = (sym (ap (λ (y : Writing). y.at) (same_writing (sym found ∙ at))), next)

@@ -5,7 +5,7 @@ use Rattle.rept_reason.specs.declared.fact.Cell.{Cell}
 use Rattle.rept_reason.specs.declared.fact.Cell.TheVariants.{Register, Byte}
 use Rattle.rept_reason.specs.Facts.{IsCell}
 use Rattle.rept_report.specs.Setting.{IsInstant}
-use Rattle.rept_analysis.specs.State.{State, Subject, all_known, along}
+use Rattle.rept_analysis.specs.State.{AnalysisState, Subject, all_known, along}
 use Rattle.rept_analysis.specs.Drawing.{Knows, Grows, HasNews}
 use Rattle.rept_analysis.specs.Drawing.HasNews.{fact, address, anew}
 use Rattle.rept_analysis.specs.Kept.{is_among}
@@ -22,7 +22,7 @@ not_before : (x y : Bool) → (x ≡ true → y ≡ true) → not y ≡ true →
 not_before true y h e = absurd (false≢true (rw (h refl) at e))
 not_before false y h e = refl
 
-module _ {W : Type 0} (a b : State W) (g : Grows a b) where
+module _ {W : Type 0} (a b : AnalysisState W) (g : Grows a b) where
   cells : (p : ℕ) (c : Cell) → is_none (all_known b p c) ≡ true → is_none (all_known a p c) ≡ true
   cells p c e = none_before (all_known a p c) (all_known b p c) (λ v x. g.more p c v x) e
 

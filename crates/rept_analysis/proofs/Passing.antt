@@ -23,7 +23,7 @@ use Rattle.rept_analysis.specs.declared.pass.Pass.TheVariants.{Never, With, Cut}
 use Rattle.rept_writing.specs.Hits.{Listed}
 use Rattle.rept_analysis.specs.Work.{Work, left, left_of}
 use Rattle.rept_analysis.specs.Cells.{cells_known}
-use Rattle.rept_analysis.specs.State.{State, all_known, with_work, with_draws, with_drawn, Subject, along}
+use Rattle.rept_analysis.specs.State.{AnalysisState, all_known, with_work, with_draws, with_drawn, Subject, along}
 use Rattle.rept_analysis.specs.Drawing.{Knows, Grows, DrawnKnown, DrawnBelow, Drew, IsUncut, IsHalt}
 use Rattle.rept_analysis.specs.Drawing.HasNews.{anew}
 use Rattle.rept_analysis.specs.declared.halt.Halt.{Halt}
@@ -36,7 +36,7 @@ use Rattle.rept_analysis.proofs.Cells.{cells_less, cells_back}
 use Rattle.rept_view.specs.declared.drawn.When.TheVariants.{Before, After}
 
 -- where no less is known
-module _ {W : Type 0} (s t : State W) (same : t.path ≡ s.path) (more : (p : ℕ) (c : Cell) (v : ℕ) → Knows p c v s → Knows p c v t) where
+module _ {W : Type 0} (s t : AnalysisState W) (same : t.path ≡ s.path) (more : (p : ℕ) (c : Cell) (v : ℕ) → Knows p c v s → Knows p c v t) where
   pub seen_more : (i : ℕ) (w : When) (c : Cell) (v : ℕ) → seen_cell (around s.path.given.moments s.known i) w c ≡ Some v → seen_cell (around t.path.given.moments t.known i) w c ≡ Some v
   seen_more i w (Register r) v e = known_more (told s.known.log) (told t.known.log) (λ q x y h. more q (Register x) y h) (point_of i w) r v e
   seen_more i Before (Byte a) v e = subst (λ (P : Subject W). Knows (P.given.moments.before i) (Byte a) v t) (sym same) (more (s.path.given.moments.before i) (Byte a) v e)
@@ -59,11 +59,11 @@ module _ {W : Type 0} (s t : State W) (same : t.path ≡ s.path) (more : (p : �
   pub passes_more : t.work.drawn ≡ s.work.drawn → ((i : ℕ) (row : StepRow) (pass : Pass) → s.path.given.legs.row i ≡ Some row → slice_get s.work.drawn i ≡ Some pass → IsPass row i pass s) → (i : ℕ) (row : StepRow) (pass : Pass) → t.path.given.legs.row i ≡ Some row → slice_get t.work.drawn i ≡ Some pass → IsPass row i pass t
   passes_more drawn h i row pass at is = pass_more row i pass (h i row pass (subst (λ (P : Subject W). P.given.legs.row i ≡ Some row) same at) (subst (λ (xs : List Pass). slice_get xs i ≡ Some pass) drawn is))
 
-pub never_pass : {W : Type 0} (s : State W) (row : StepRow) (i : ℕ) (x : Pass) → x ≡ Never → IsPass row i x s
+pub never_pass : {W : Type 0} (s : AnalysisState W) (row : StepRow) (i : ℕ) (x : Pass) → x ≡ Never → IsPass row i x s
 never_pass s row i x e = subst (λ (y : Pass). IsPass row i y s) (sym e) tt
 
 -- other work
-pub kept_work : {W : Type 0} (s : State W) → IsKept s → s.complete ≡ false → (w : Work) → s.path.given.moments.end < w.room → length w.drawn ≡ s.path.given.legs.count → ((i : ℕ) (row : StepRow) (pass : Pass) → s.path.given.legs.row i ≡ Some row → slice_get w.drawn i ≡ Some pass → IsPass row i pass s) → w.joins ≡ s.work.joins → IsKept (with_work s w)
+pub kept_work : {W : Type 0} (s : AnalysisState W) → IsKept s → s.complete ≡ false → (w : Work) → s.path.given.moments.end < w.room → length w.drawn ≡ s.path.given.legs.count → ((i : ℕ) (row : StepRow) (pass : Pass) → s.path.given.legs.row i ≡ Some row → slice_get w.drawn i ≡ Some pass → IsPass row i pass s) → w.joins ≡ s.work.joins → IsKept (with_work s w)
 kept_work s kept open_ w room rows passes joins = record {
   few = kept.few;
   registers = kept.registers;
@@ -87,7 +87,7 @@ pub same_pass : {x y : Pass} → Some x ≡ Some y → x ≡ y
 same_pass e = cc
 
 -- the list after one row's rules were drawn
-pub put_passes : {W : Type 0} (s : State W) → IsKept s → (i : ℕ) (p : Pass) → i < s.path.given.legs.count → ((row : StepRow) → s.path.given.legs.row i ≡ Some row → IsPass row i p s) → (j : ℕ) (row : StepRow) (pass : Pass) → s.path.given.legs.row j ≡ Some row → slice_get (set s.work.drawn i p) j ≡ Some pass → IsPass row j pass s
+pub put_passes : {W : Type 0} (s : AnalysisState W) → IsKept s → (i : ℕ) (p : Pass) → i < s.path.given.legs.count → ((row : StepRow) → s.path.given.legs.row i ≡ Some row → IsPass row i p s) → (j : ℕ) (row : StepRow) (pass : Pass) → s.path.given.legs.row j ≡ Some row → slice_get (set s.work.drawn i p) j ≡ Some pass → IsPass row j pass s
 put_passes s kept i p inside here j row pass at is =
     elim (cases_eq j i) [
       | inl e ↦
@@ -97,14 +97,14 @@ put_passes s kept i p inside here j row pass at is =
       | inr ne ↦ kept.drawn j row pass at (sym (set_elsewhere s.work.drawn i j p ne) ∙ is)
     ]
 
-pub kept_put : {W : Type 0} (s : State W) → IsKept s → s.complete ≡ false → (i : ℕ) (p : Pass) → i < s.path.given.legs.count → ((row : StepRow) → s.path.given.legs.row i ≡ Some row → IsPass row i p s) → IsKept (with_drawn s (set s.work.drawn i p))
+pub kept_put : {W : Type 0} (s : AnalysisState W) → IsKept s → s.complete ≡ false → (i : ℕ) (p : Pass) → i < s.path.given.legs.count → ((row : StepRow) → s.path.given.legs.row i ≡ Some row → IsPass row i p s) → IsKept (with_drawn s (set s.work.drawn i p))
 kept_put s kept open_ i p inside here = kept_work s kept open_ (record { joins = s.work.joins; writing = s.work.writing; room = s.work.room; draws = s.work.draws; drawn = set s.work.drawn i p }) kept.room (length-set s.work.drawn i p ∙ kept.rows) (put_passes s kept i p inside here) refl
 
-pub kept_draws : {W : Type 0} (s : State W) → IsKept s → s.complete ≡ false → (n : ℕ) → IsKept (with_draws s n)
+pub kept_draws : {W : Type 0} (s : AnalysisState W) → IsKept s → s.complete ≡ false → (n : ℕ) → IsKept (with_draws s n)
 kept_draws s kept open_ n = kept_work s kept open_ (record { joins = s.work.joins; writing = s.work.writing; room = s.work.room; draws = n; drawn = s.work.drawn }) kept.room kept.rows kept.drawn refl
 
 -- where no more cells are known than when the row's rules were drawn, all that they let one conclude is known
-module _ {W : Type 0} (s : State W) (laws : HasLaws (along s.path)) (words : HasWords (all_known s)) (i k : ℕ) (row : StepRow) (d : IsDrawnWith row i k s) where
+module _ {W : Type 0} (s : AnalysisState W) (laws : HasLaws (along s.path)) (words : HasWords (all_known s)) (i k : ℕ) (row : StepRow) (d : IsDrawnWith row i k s) where
   pub drawn_before : k ≤ cells_known s.path.rules row (around s.path.given.moments s.known i)
   drawn_before = let less = cells_less s.path.rules row d.view (around s.path.given.moments s.known i) d.less in let count = d.count in omega (arith, less, count)
 
@@ -116,7 +116,7 @@ module _ {W : Type 0} (s : State W) (laws : HasLaws (along s.path)) (words : Has
       cells_back s.path.rules row d.view (around s.path.given.moments s.known i) d.less (d.count ∙ same) n.when n.cell own.0 own.1.0 own.1.1 ∙ sym own.1.1))
 
 -- a row's rules were drawn once more
-module _ {W : Type 0} (s b : State W) (n i : ℕ) (p q : Pass) (once : n ≤ s.work.draws + 1) (grows : Grows (with_draws s n) b) (still : b.work ≡ (with_draws s n).work) (at : slice_get s.work.drawn i ≡ Some p) (lower : left_of q + 1 ≤ left_of p) where
+module _ {W : Type 0} (s b : AnalysisState W) (n i : ℕ) (p q : Pass) (once : n ≤ s.work.draws + 1) (grows : Grows (with_draws s n) b) (still : b.work ≡ (with_draws s n).work) (at : slice_get s.work.drawn i ≡ Some p) (lower : left_of q + 1 ≤ left_of p) where
   passes_is : b.work.drawn ≡ s.work.drawn
   passes_is = rw still refl
 
@@ -157,11 +157,11 @@ module _ {W : Type 0} (s b : State W) (n i : ℕ) (p q : Pass) (once : n ≤ s.w
       ]
 
 -- another list of rows that may write, with as much room
-pub kept_writing : {W : Type 0} (s : State W) → IsKept s → s.complete ≡ false → (listed : Listed) → listed.room ≡ s.work.room → IsKept (with_work s (record { joins = s.work.joins; writing = listed.list; room = listed.room; draws = s.work.draws; drawn = s.work.drawn }))
+pub kept_writing : {W : Type 0} (s : AnalysisState W) → IsKept s → s.complete ≡ false → (listed : Listed) → listed.room ≡ s.work.room → IsKept (with_work s (record { joins = s.work.joins; writing = listed.list; room = listed.room; draws = s.work.draws; drawn = s.work.drawn }))
 kept_writing s kept open_ listed room = let old = kept.room in kept_work s kept open_ (record { joins = s.work.joins; writing = listed.list; room = listed.room; draws = s.work.draws; drawn = s.work.drawn }) (omega (arith, room, old)) kept.rows kept.drawn refl
 
 -- no row's rules were drawn
-pub kept_never : {W : Type 0} (s : State W) → IsKept s → s.complete ≡ false → (passes : List Pass) → length passes ≡ length s.work.drawn → ((i : ℕ) (x : Pass) → slice_get passes i ≡ Some x → x ≡ Never) → IsKept (with_drawn s passes)
+pub kept_never : {W : Type 0} (s : AnalysisState W) → IsKept s → s.complete ≡ false → (passes : List Pass) → length passes ≡ length s.work.drawn → ((i : ℕ) (x : Pass) → slice_get passes i ≡ Some x → x ≡ Never) → IsKept (with_drawn s passes)
 kept_never s kept open_ passes long never = kept_work s kept open_ (record { joins = s.work.joins; writing = s.work.writing; room = s.work.room; draws = s.work.draws; drawn = passes }) kept.room (long ∙ kept.rows) (λ i row x at is. never_pass s row i x (never i x is)) refl
 
 pub never_uncut : (passes : List Pass) → ((i : ℕ) (x : Pass) → slice_get passes i ≡ Some x → x ≡ Never) → (i : ℕ) → slice_get passes i ≡ Some Cut → ⊥
@@ -183,11 +183,11 @@ pub left_most : (xs : List Pass) → left xs ≤ 12 * length xs
 left_most xs = let le = sum_by-le left_of 12 xs (each_few xs) in omega (arith, le)
 
 -- how far a row's rules were drawn
-pub pass_there : {W : Type 0} (s : State W) → IsKept s → (i : ℕ) → i < s.path.given.legs.count → (p : Pass) × (slice_get s.work.drawn i ≡ Some p)
+pub pass_there : {W : Type 0} (s : AnalysisState W) → IsKept s → (i : ℕ) → i < s.path.given.legs.count → (p : Pass) × (slice_get s.work.drawn i ≡ Some p)
 pass_there s kept i inside = let rows = kept.rows in (get_or s.work.drawn i Never, slice_get-get_or s.work.drawn i Never (omega (arith, inside, rows)))
 
 -- where more cells are known than when they were, they can be drawn once less afterwards
-module _ {W : Type 0} (s : State W) (laws : HasLaws (along s.path)) (kept : IsKept s) (words : HasWords (all_known s)) (i cells : ℕ) (row : StepRow) (found : s.path.given.legs.row i ≡ Some row) (is_cells : cells ≡ cells_known s.path.rules row (around s.path.given.moments s.known i)) (few : cells ≤ 11) (more : slice_get s.work.drawn i ≡ Some (With cells) → ⊥) (uncut : IsUncut s) where
+module _ {W : Type 0} (s : AnalysisState W) (laws : HasLaws (along s.path)) (kept : IsKept s) (words : HasWords (all_known s)) (i cells : ℕ) (row : StepRow) (found : s.path.given.legs.row i ≡ Some row) (is_cells : cells ≡ cells_known s.path.rules row (around s.path.given.moments s.known i)) (few : cells ≤ 11) (more : slice_get s.work.drawn i ≡ Some (With cells) → ⊥) (uncut : IsUncut s) where
   known_fewer : (k : ℕ) → slice_get s.work.drawn i ≡ Some (With k) → k < cells
   known_fewer k at =
       let le = drawn_before s laws words i k row (kept.drawn i row (With k) found at) in
@@ -207,7 +207,7 @@ module _ {W : Type 0} (s : State W) (laws : HasLaws (along s.path)) (kept : IsKe
   cut_lower Cut at = absurd (uncut i at)
 
 -- all that a row's rules let one conclude was learnt
-pub drawn_with : {W : Type 0} (s b : State W) (n i cells : ℕ) (row : StepRow) (items : List Drawn) → HasWords (all_known s) → Grows (with_draws s n) b → cells ≡ cells_known s.path.rules row (around s.path.given.moments s.known i) → items ≡ s.path.rules.draw row (around s.path.given.moments s.known i) → DrawnBelow (length items) items i b → IsDrawnWith row i cells b
+pub drawn_with : {W : Type 0} (s b : AnalysisState W) (n i cells : ℕ) (row : StepRow) (items : List Drawn) → HasWords (all_known s) → Grows (with_draws s n) b → cells ≡ cells_known s.path.rules row (around s.path.given.moments s.known i) → items ≡ s.path.rules.draw row (around s.path.given.moments s.known i) → DrawnBelow (length items) items i b → IsDrawnWith row i cells b
 drawn_with s b n i cells row items words grows is_cells is_items known = record {
   view = around s.path.given.moments s.known i;
   lawful = around_lawful s.path.given.moments s.known i (λ p r v e. words p r v e);
@@ -217,12 +217,12 @@ drawn_with s b n i cells row items words grows is_cells is_items known = record 
 }
 
 -- a halt is one whatever the work
-pub halt_work : {W : Type 0} (s : State W) (w : Work) (h : Halt) → w.joins ≡ s.work.joins → IsHalt s h → IsHalt (with_work s w) h
+pub halt_work : {W : Type 0} (s : AnalysisState W) (w : Work) (h : Halt) → w.joins ≡ s.work.joins → IsHalt s h → IsHalt (with_work s w) h
 halt_work s w (Clash p c known value) joins h = record { is_known = h.is_known; differs = h.differs; follows = h.follows }
 halt_work s w OutOfMemory joins h = λ j. h (sym joins ∙ j.0, j.1)
 
 -- with other sets
-pub kept_filled : {W : Type 0} (s : State W) → IsKept s → s.complete ≡ false → (spans : View W) (filled : ℕ) → spans.points ≡ s.path.given.legs.count + 1 → filled ≤ length s.known.log → IsKept (record { path = s.path; known = s.known; spans = spans; filled = filled; shown = s.shown; complete = s.complete; conflict = s.conflict; work = s.work })
+pub kept_filled : {W : Type 0} (s : AnalysisState W) → IsKept s → s.complete ≡ false → (spans : View W) (filled : ℕ) → spans.points ≡ s.path.given.legs.count + 1 → filled ≤ length s.known.log → IsKept (record { path = s.path; known = s.known; spans = spans; filled = filled; shown = s.shown; complete = s.complete; conflict = s.conflict; work = s.work })
 kept_filled s kept open_ spans filled sized within = record {
   few = kept.few;
   registers = kept.registers;
@@ -243,26 +243,26 @@ kept_filled s kept open_ spans filled sized within = record {
 }
 
 -- a row's rules are drawn anew
-module _ {W : Type 0} (s a b : State W) (laws : HasLaws (along s.path)) (kept : IsKept s) (words : HasWords (all_known s)) (i cells : ℕ) (row : StepRow) (inside : i < s.path.given.legs.count) (found : s.path.given.legs.row i ≡ Some row) (is_cells : cells ≡ cells_known s.path.rules row (around s.path.given.moments s.known i)) (few : cells ≤ 11) (more : slice_get s.work.drawn i ≡ Some (With cells) → ⊥) (uncut : IsUncut s) (once : a.work.draws ≤ s.work.draws + 1) (same : a ≡ with_draws s a.work.draws) (grows : Grows a b) (still : b.work ≡ a.work) where
+module _ {W : Type 0} (s a b : AnalysisState W) (laws : HasLaws (along s.path)) (kept : IsKept s) (words : HasWords (all_known s)) (i cells : ℕ) (row : StepRow) (inside : i < s.path.given.legs.count) (found : s.path.given.legs.row i ≡ Some row) (is_cells : cells ≡ cells_known s.path.rules row (around s.path.given.moments s.known i)) (few : cells ≤ 11) (more : slice_get s.work.drawn i ≡ Some (With cells) → ⊥) (uncut : IsUncut s) (once : a.work.draws ≤ s.work.draws + 1) (same : a ≡ with_draws s a.work.draws) (grows : Grows a b) (still : b.work ≡ a.work) where
   from_same : Grows (with_draws s a.work.draws) b
-  from_same = subst (λ (x : State W). Grows x b) same grows
+  from_same = subst (λ (x : AnalysisState W). Grows x b) same grows
 
   still_same : b.work ≡ (with_draws s a.work.draws).work
-  still_same = still ∙ ap (λ (x : State W). x.work) same
+  still_same = still ∙ ap (λ (x : AnalysisState W). x.work) same
 
   there : (p : Pass) × (slice_get s.work.drawn i ≡ Some p)
   there = pass_there s kept i inside
 
-  pub anew_grows : (c : State W) → c ≡ with_drawn b (set b.work.drawn i (With cells)) → Grows s c
-  anew_grows c is = subst (λ (x : State W). Grows s x) (sym is) (row_grows s b a.work.draws i there.0 (With cells) once from_same still_same there.1 (with_lower s laws kept words i cells row found is_cells few more uncut there.0 there.1))
+  pub anew_grows : (c : AnalysisState W) → c ≡ with_drawn b (set b.work.drawn i (With cells)) → Grows s c
+  anew_grows c is = subst (λ (x : AnalysisState W). Grows s x) (sym is) (row_grows s b a.work.draws i there.0 (With cells) once from_same still_same there.1 (with_lower s laws kept words i cells row found is_cells few more uncut there.0 there.1))
 
-  pub cut_grows : (c : State W) → c ≡ with_drawn b (set b.work.drawn i Cut) → Grows s c
-  cut_grows c is = subst (λ (x : State W). Grows s x) (sym is) (row_grows s b a.work.draws i there.0 Cut once from_same still_same there.1 (cut_lower s laws kept words i cells row found is_cells few more uncut there.0 there.1))
+  pub cut_grows : (c : AnalysisState W) → c ≡ with_drawn b (set b.work.drawn i Cut) → Grows s c
+  cut_grows c is = subst (λ (x : AnalysisState W). Grows s x) (sym is) (row_grows s b a.work.draws i there.0 Cut once from_same still_same there.1 (cut_lower s laws kept words i cells row found is_cells few more uncut there.0 there.1))
 
-  pub anew_drew : (c : State W) (P : State W → Type 0) → c ≡ with_drawn b (set b.work.drawn i (With cells)) → Drew s c true P
+  pub anew_drew : (c : AnalysisState W) (P : AnalysisState W → Type 0) → c ≡ with_drawn b (set b.work.drawn i (With cells)) → Drew s c true P
   anew_drew c P is =
       let lower = with_lower s laws kept words i cells row found is_cells few more uncut there.0 there.1 in
-      subst (λ (x : State W). Drew s x true P) (sym is) (record {
+      subst (λ (x : AnalysisState W). Drew s x true P) (sym is) (record {
         news = λ _. anew (left_lower s b a.work.draws i there.0 (With cells) once from_same still_same there.1 lower);
         unchanged = λ e. absurd (true≢false e);
         closed = λ e. absurd (true≢false e);
@@ -280,8 +280,8 @@ module _ {W : Type 0} (s a b : State W) (laws : HasLaws (along s.path)) (kept : 
       same_row : {x y : StepRow} → Some x ≡ Some y → x ≡ y
       same_row e = cc
 
-pub halt_after : {W : Type 0} (s t : State W) (w : Work) (h : Halt) → t ≡ with_work s w → w.joins ≡ s.work.joins → IsHalt s h → IsHalt t h
-halt_after s t w h is joins halt = subst (λ (x : State _). IsHalt x h) (sym is) (halt_work s w h joins halt)
+pub halt_after : {W : Type 0} (s t : AnalysisState W) (w : Work) (h : Halt) → t ≡ with_work s w → w.joins ≡ s.work.joins → IsHalt s h → IsHalt t h
+halt_after s t w h is joins halt = subst (λ (x : AnalysisState _). IsHalt x h) (sym is) (halt_work s w h joins halt)
 
 -- one more is `Never`
 pub never_more : (xs : List Pass) (i : ℕ) → i < length xs → ((j : ℕ) (x : Pass) → j < i → slice_get xs j ≡ Some x → x ≡ Never) → (j : ℕ) (x : Pass) → j < i + 1 → slice_get (set xs i Never) j ≡ Some x → x ≡ Never

@@ -13,11 +13,11 @@ use Rattle.rept_report.specs.Soundness.{AlwaysHolds, IsSound, HasNoExecution}
 use Rattle.rept_report.proofs.Soundness.{closure_sound, conflict_sound, report_sound}
 use Rattle.rept_analysis.specs.declared.stop.Stop.{Stop}
 use Rattle.rept_analysis.specs.declared.stop.Stop.TheVariants.{Conflict, OutOfMemory}
-use Rattle.rept_analysis.specs.State.{State, Subject, along}
+use Rattle.rept_analysis.specs.State.{AnalysisState, Subject, along}
 use Rattle.rept_analysis.specs.Kept.{register_answer, answers, IsKept}
 use Rattle.rept_analysis.specs.Refined.{KeepsAnswers, KeepsKnown, IsEnded, IsStopped, IsPaused, Outcome}
 
-module _ {W : Type 0} (old new : State W) where
+module _ {W : Type 0} (old new : AnalysisState W) where
   pub path_of : (r : Result ⊤ Stop) → Outcome old new r → new.path ≡ old.path
   path_of (Ok u) h = h.path
   path_of (Err (Conflict kind)) h = h.path
@@ -78,7 +78,7 @@ module _ {W : Type 0} (old new : State W) where
   refused_of (Err (Conflict named)) h never kind has = (named, refl)
   refused_of (Err OutOfMemory) h never kind has = absurd (never refl)
 
-module _ {W : Type 0} (s : State W) (kept : IsKept s) where
+module _ {W : Type 0} (s : AnalysisState W) (kept : IsKept s) where
   pub stopped_again : (kind : ConflictKind) → s.conflict ≡ Some kind → IsStopped s s kind
   stopped_again kind e = record { path = refl; recorded = e; has = kept.stopped kind e; kept = λ p r v x. x; more = λ p c v x. x; shown = λ calm. absurd (differs (sym calm ∙ e)) }
     where
@@ -89,11 +89,11 @@ module _ {W : Type 0} (s : State W) (kept : IsKept s) where
   ended_again complete calm = record { path = refl; complete = complete; conflict = calm; finished = kept.finished complete; kept = λ p r v x. x; more = λ p c v x. x }
 
 -- a fact of the closure holds in every execution
-pub closure_holds : {W : Type 0} (s : State W) → HasLaws (along s.path) → (f : Fact) → InClosure (along s.path) f → AlwaysHolds (along s.path) f.point f.cell f.value
+pub closure_holds : {W : Type 0} (s : AnalysisState W) → HasLaws (along s.path) → (f : Fact) → InClosure (along s.path) f → AlwaysHolds (along s.path) f.point f.cell f.value
 closure_holds s laws f h = closure_sound (along s.path) laws f h
 
 -- what is answered of a register holds in every execution; x0 is 0
-pub answer_sound : {W : Type 0} (s : State W) → HasLaws (along s.path) → IsKept s → (p r v : ℕ) → p ≤ s.path.given.legs.count → register_answer s p r ≡ Some v → AlwaysHolds (along s.path) p (Register r) v
+pub answer_sound : {W : Type 0} (s : AnalysisState W) → HasLaws (along s.path) → IsKept s → (p r v : ℕ) → p ≤ s.path.given.legs.count → register_answer s p r ≡ Some v → AlwaysHolds (along s.path) p (Register r) v
 answer_sound s laws kept p r v early e =
     elim (cases_eq r 0) [
       | inl z ↦

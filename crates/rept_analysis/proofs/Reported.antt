@@ -8,7 +8,7 @@ use Rattle.rept_reason.specs.declared.fact.Cell.TheVariants.{Register, Byte}
 use Rattle.rept_reason.specs.Facts.{Knowledge, IsCell, told}
 use Rattle.rept_report.specs.Setting.{Setting, HasLaws, IsInstant}
 use Rattle.rept_report.specs.Spots.{passage}
-use Rattle.rept_report.specs.Knowing.{SameRegisters}
+use Rattle.rept_report.specs.Knowing.{KnowSameRegisters}
 use Rattle.rept_report.specs.Views.{may_write, Carries}
 use Rattle.rept_report.specs.Conclusions.{IsCarried, Follows, Concludes}
 use Rattle.rept_report.specs.Conclusions.IsCarried.{last_byte, onward, back}
@@ -20,7 +20,7 @@ use Rattle.rept_report.specs.Implied.{with_implied, IsListed, IsClosed}
 use Rattle.rept_report.proofs.Places.{oldest_all}
 use Rattle.rept_report.proofs.Registers.{may_write_same, range_same}
 use Rattle.rept_report.proofs.Implied.{trace_report}
-use Rattle.rept_analysis.specs.State.{State, all_known, along}
+use Rattle.rept_analysis.specs.State.{AnalysisState, all_known, along}
 use Rattle.rept_analysis.specs.Drawing.{IsTracked, IsSettled, IsRowDrawn}
 use Rattle.rept_analysis.specs.Kept.{is_among, answers, IsKept}
 use Rattle.rept_analysis.proofs.Learning.{trace_known, known_words}
@@ -47,7 +47,7 @@ row_in [] i h = absurd (omega (arith, h))
 row_in (x ∷ xs) zero h = (x, refl)
 row_in (x ∷ xs) (suc i) h = row_in xs i (omega (arith, h))
 
-module _ {W : Type 0} (s : State W) (laws : HasLaws (along s.path)) (kept : IsKept s) (settled : IsSettled s) where
+module _ {W : Type 0} (s : AnalysisState W) (laws : HasLaws (along s.path)) (kept : IsKept s) (settled : IsSettled s) where
   abbrev S : Setting W
   S = along s.path
 
@@ -57,7 +57,7 @@ module _ {W : Type 0} (s : State W) (laws : HasLaws (along s.path)) (kept : IsKe
   whole : oldest s.filled s.known.log ≡ s.known.log
   whole = let all = settled.filled in oldest_all s.filled s.known.log (omega (arith, all))
 
-  log_same : SameRegisters (told (oldest s.filled s.known.log)) K
+  log_same : KnowSameRegisters (told (oldest s.filled s.known.log)) K
   log_same p r = rw whole refl
 
   spared : (i a : ℕ) → may_write S K i a ≡ false → may_write S (told (oldest s.filled s.known.log)) i a ≡ false

@@ -22,9 +22,9 @@ use Rattle.rept_versions.specs.declared.facts.Stretch.{Stretch}
 use Rattle.rept_versions.specs.Facts.{KnownValues, Store, change, Carry, Between, Spreads, CarriesOr as StoreCarries, Nexts}
 use Rattle.rept_log.proofs.Stores.{stays_same}
 use Rattle.rept_log.specs.Known.{Known, knows, known_change, AddsByte, SameLog}
-use Rattle.rept_analysis.specs.State.{State, IsRoomy, all_known, Subject, along}
+use Rattle.rept_analysis.specs.State.{AnalysisState, IsRoomy, all_known, Subject, along}
 use Rattle.rept_report.specs.Why.{fact_of}
-use Rattle.rept_analysis.specs.Drawing.{Knows, IsTracked, Grows, IsBrought, IsSpared, IsBridged, IsSparedBetween, IsBefore, IsLedTo, IsLed, IsSpreadTo, IsCarriedFrom}
+use Rattle.rept_analysis.specs.Drawing.{Knows, IsTracked, Grows, IsBrought, IsSpared, IsBridged, IsSparedBetween, StandsBefore, IsLedTo, IsLed, IsSpreadTo, IsCarriedFrom}
 use Rattle.rept_analysis.specs.Drawing.HasNews.{fact}
 use Rattle.rept_analysis.specs.Told.{Sends}
 use Rattle.rept_analysis.specs.Kept.{IsKept}
@@ -37,7 +37,7 @@ use Rattle.rept_analysis.proofs.Reserve.{room_like}
 use Rattle.rept_analysis.specs.Room.{HasRoom}
 
 -- the same log, facts and addresses
-pub kept_like : {W : Type 0} (s : State W) (k k' : Known) → k'.last ≡ k.last → k'.log ≡ k.log → k'.store.fact ≡ k.store.fact → k'.store.tracked ≡ k.store.tracked → s.complete ≡ false → (IsRoomy s → HasRoom s.path k') → IsKept (with_known s k) → IsKept (with_known s k')
+pub kept_like : {W : Type 0} (s : AnalysisState W) (k k' : Known) → k'.last ≡ k.last → k'.log ≡ k.log → k'.store.fact ≡ k.store.fact → k'.store.tracked ≡ k.store.tracked → s.complete ≡ false → (IsRoomy s → HasRoom s.path k') → IsKept (with_known s k) → IsKept (with_known s k')
 kept_like s k k' last log facts tracked open_ roomy kept = record {
   few = kept.few;
   registers = kept.registers;
@@ -62,12 +62,12 @@ kept_like s k k' last log facts tracked open_ roomy kept = record {
     same p (Byte a) = rw facts refl
 
 -- a row that may not write the byte may not by all that is known
-spared_now : {W : Type 0} (s : State W) → HasLaws (along s.path) → IsKept s → IsQuiet (along s.path) (all_known s) → (i a : ℕ) → a < 2 ^ 32 → IsSpared i a s → may_write (along s.path) (all_known s) i a ≡ false
+spared_now : {W : Type 0} (s : AnalysisState W) → HasLaws (along s.path) → IsKept s → IsQuiet (along s.path) (all_known s) → (i a : ℕ) → a < 2 ^ 32 → IsSpared i a s → may_write (along s.path) (all_known s) i a ≡ false
 spared_now s laws kept quiet i a small (inl old) = spared_more (along s.path) laws (told (oldest s.filled s.known.log)) (all_known s) (λ p r w e. oldest_less s.filled s.known.log kept.once p (Register r) w e) (known_words s kept) quiet i a small old
 spared_now s laws kept quiet i a small (inr now) = now quiet
 
 -- a byte is brought to where it is carried
-module _ {W : Type 0} (s : State W) (laws : HasLaws (along s.path)) (kept : IsKept s) (x : Passage) (v : ℕ) (small : x.address < 2 ^ 32) (bridged : IsBridged x s) where
+module _ {W : Type 0} (s : AnalysisState W) (laws : HasLaws (along s.path)) (kept : IsKept s) (x : Passage) (v : ℕ) (small : x.address < 2 ^ 32) (bridged : IsBridged x s) where
   carries : IsQuiet (along s.path) (all_known s) → Carries (along s.path) (all_known s) (passage x.address x.from x.to)
   carries quiet = record { next = bridged.next; light = bridged.light; spared = λ i falls. spared_now s laws kept quiet i x.address small (bridged.spared i falls) }
 
@@ -78,18 +78,18 @@ module _ {W : Type 0} (s : State W) (laws : HasLaws (along s.path)) (kept : IsKe
   brought_back h quiet = back x.address x.from x.to refl refl (carries quiet) h
 
 -- it is carried still where more is known
-pub bridged_still : {W : Type 0} (s t : State W) → HasLaws (along s.path) → IsKept t → Grows s t → (x : Passage) → x.address < 2 ^ 32 → IsBridged x s → IsBridged x t
+pub bridged_still : {W : Type 0} (s t : AnalysisState W) → HasLaws (along s.path) → IsKept t → Grows s t → (x : Passage) → x.address < 2 ^ 32 → IsBridged x s → IsBridged x t
 bridged_still s t laws kept g x small h = record {
   next = rw g.path h.next;
   light = rw g.path h.light;
   spared = λ i falls. spared_still s t laws (known_words t kept) g.path g.older g.more i x.address small (h.spared i (subst (λ (P : Subject _). P.given.moments.falls i x.from x.to ≡ true) g.path falls));
 }
 
-pub bridged_after : {W : Type 0} (s t : State W) → HasLaws (along s.path) → IsKept t → Grows s t → (m a : ℕ) → a < 2 ^ 32 → IsBridged (passage a m (m + 1)) s → IsBridged (passage a m (m + 1)) t
+pub bridged_after : {W : Type 0} (s t : AnalysisState W) → HasLaws (along s.path) → IsKept t → Grows s t → (m a : ℕ) → a < 2 ^ 32 → IsBridged (passage a m (m + 1)) s → IsBridged (passage a m (m + 1)) t
 bridged_after s t laws kept g m a small h = bridged_still s t laws kept g (passage a m (m + 1)) small h
 
 -- it is brought to a point of a course where its values at those before it are known
-module _ {W : Type 0} (s t : State W) (laws : HasLaws (along s.path)) (kept : IsKept t) (g : Grows s t) (course : Carry) (small : course.address < 2 ^ 32) (q : ℕ) (x : IsLedTo course q s) (before : (p : ℕ) → IsBefore course q p → Knows p (Byte course.address) course.value t) where
+module _ {W : Type 0} (s t : AnalysisState W) (laws : HasLaws (along s.path)) (kept : IsKept t) (g : Grows s t) (course : Carry) (small : course.address < 2 ^ 32) (q : ℕ) (x : IsLedTo course q s) (before : (p : ℕ) → StandsBefore course q p → Knows p (Byte course.address) course.value t) where
   laws_then : HasLaws (along t.path)
   laws_then = subst (λ (P : Subject W). HasLaws (along P)) (sym g.path) laws
 
@@ -108,7 +108,7 @@ module _ {W : Type 0} (s t : State W) (laws : HasLaws (along s.path)) (kept : Is
       ]
 
 -- from one number to the one after it
-pub spared_led : {W : Type 0} (s : State W) (a from to v : ℕ) → IsSparedBetween from to a s → IsLed (record { address = a; from = from; to = to; value = v }) s
+pub spared_led : {W : Type 0} (s : AnalysisState W) (a from to v : ℕ) → IsSparedBetween from to a s → IsLed (record { address = a; from = from; to = to; value = v }) s
 spared_led s a from to v spared q (inl x) ne =
     let low = x.0 in
     let high = x.1 in
@@ -127,7 +127,7 @@ spared_led s a from to v spared q (inr x) ne =
       bridged = inr (spared q (inr (low, omega (arith, high, ne))));
     }
 
-module _ {W : Type 0} (s : State W) (laws : HasLaws (along s.path)) (kept : IsKept s) (open_ : s.complete ≡ false) (a v : ℕ) (small : a < 2 ^ 32) (tracked : IsTracked a s) where
+module _ {W : Type 0} (s : AnalysisState W) (laws : HasLaws (along s.path)) (kept : IsKept s) (open_ : s.complete ≡ false) (a v : ℕ) (small : a < 2 ^ 32) (tracked : IsTracked a s) where
   -- one fact more
   abbrev with_fact : Known → ℕ → Known
   with_fact k p = record { last = k.last; log = k.log; store = record { fact = λ q b. cond (eqb q p && eqb b a) (Some v) (k.store.fact q b); tracked = k.store.tracked; spare = k.store.spare; places = k.store.places }; left = k.left }
@@ -165,13 +165,13 @@ module _ {W : Type 0} (s : State W) (laws : HasLaws (along s.path)) (kept : IsKe
   }
 
   -- the values at one point after another
-  abbrev chain : (ℕ → ℕ) → ℕ → State W
+  abbrev chain : (ℕ → ℕ) → ℕ → AnalysisState W
   chain pt zero = s
   chain pt (suc d) = with_known (chain pt d) (with_fact (chain pt d).known (pt (suc d)))
 
   chain_is : (pt : ℕ → ℕ) (d : ℕ) → chain pt d ≡ with_known s (chain pt d).known
   chain_is pt zero = refl
-  chain_is pt (suc d) = ap (λ (x : State W). with_known x (with_fact (chain pt d).known (pt (suc d)))) (chain_is pt d)
+  chain_is pt (suc d) = ap (λ (x : AnalysisState W). with_known x (with_fact (chain pt d).known (pt (suc d)))) (chain_is pt d)
 
   chain_log : (pt : ℕ → ℕ) (d : ℕ) → (chain pt d).known.log ≡ s.known.log
   chain_log pt zero = refl
@@ -204,8 +204,8 @@ module _ {W : Type 0} (s : State W) (laws : HasLaws (along s.path)) (kept : IsKe
         | inr ne ↦ fact_else (chain pt d).known (pt (suc d)) q a (λ x f. ne x) ∙ e
       ]
 
-  module _ (pt : ℕ → ℕ) (D : ℕ) (early : (d : ℕ) → d ≤ D → pt d ≤ s.path.given.moments.end) (free : (d w : ℕ) → d ≤ D → s.known.store.fact (pt d) a ≡ Some w → w ≡ v) (start : s.known.store.fact (pt 0) a ≡ Some v) (reach : (d : ℕ) → d < D → (t : State W) → IsKept t → Grows s t → ((j : ℕ) → j ≤ d → Knows (pt j) (Byte a) v t) → IsBrought t (fact_of (pt (suc d)) (Byte a) v)) where
-    step : (t : State W) → IsKept t → Grows s t → (p : ℕ) → p ≤ s.path.given.moments.end → t.known.store.fact p a ≡ None → IsBrought t (fact_of p (Byte a) v) → IsKept (with_known t (with_fact t.known p)) × Grows t (with_known t (with_fact t.known p))
+  module _ (pt : ℕ → ℕ) (D : ℕ) (early : (d : ℕ) → d ≤ D → pt d ≤ s.path.given.moments.end) (free : (d w : ℕ) → d ≤ D → s.known.store.fact (pt d) a ≡ Some w → w ≡ v) (start : s.known.store.fact (pt 0) a ≡ Some v) (reach : (d : ℕ) → d < D → (t : AnalysisState W) → IsKept t → Grows s t → ((j : ℕ) → j ≤ d → Knows (pt j) (Byte a) v t) → IsBrought t (fact_of (pt (suc d)) (Byte a) v)) where
+    step : (t : AnalysisState W) → IsKept t → Grows s t → (p : ℕ) → p ≤ s.path.given.moments.end → t.known.store.fact p a ≡ None → IsBrought t (fact_of p (Byte a) v) → IsKept (with_known t (with_fact t.known p)) × Grows t (with_known t (with_fact t.known p))
     step t kept_t g p le none brought =
         let early_t : p ≤ t.path.given.moments.end = subst (λ (P : Subject W). p ≤ P.given.moments.end) (sym g.path) le in
         let both = new_byte t kept_t true p a v early_t small (g.tracked a tracked) (g.complete ∙ open_) (brought_follows t p a v early_t small brought) false (λ _. brought) (with_fact t.known p) (adds t.known p none) kept_t.once (λ more j. room_like t.path t.known (with_fact t.known p) more (omega arith) (omega arith) refl refl (kept_t.roomy j)) in
@@ -233,7 +233,7 @@ module _ {W : Type 0} (s : State W) (laws : HasLaws (along s.path)) (kept : IsKe
             let value : w ≡ v = elim (chain_value pt d (pt (suc d)) w some) [ inl e ↦ e | inr e ↦ free (suc d) w le e ] in
             let known : (chain pt d).known.store.fact (pt (suc d)) a ≡ Some v = some ∙ ap Some value in
             let same : chain pt (suc d) ≡ chain pt d = ap (λ (x : Known). with_known (chain pt d) x) (same_fact (chain pt d).known (pt (suc d)) known) in
-            (subst (λ (x : State W). IsKept x) (sym same) k, subst (λ (x : State W). Grows s x) (sym same) g, more all)
+            (subst (λ (x : AnalysisState W). IsKept x) (sym same) k, subst (λ (x : AnalysisState W). Grows s x) (sym same) g, more all)
 
     chain_here : (j : ℕ) → j ≤ D → (chain pt D).known.store.fact (pt j) a ≡ Some v
     chain_here j h = (chain_kept D (omega arith)).2 j h
@@ -242,8 +242,8 @@ module _ {W : Type 0} (s : State W) (laws : HasLaws (along s.path)) (kept : IsKe
     pub chain_done : (k : Known) → k.last ≡ s.known.last → k.log ≡ s.known.log → k.left ≡ s.known.left → k.store.tracked ≡ s.known.store.tracked → k.store.places ≡ s.known.store.places → (s.work.joins ≡ true → s.known.store.spare ≤ k.store.spare) → ((q b : ℕ) → k.store.fact q b ≡ (chain pt D).known.store.fact q b) → IsKept (with_known s k) × Grows s (with_known s k)
     chain_done k last log left same_tracked places spare same =
         let t = chain_kept D (omega arith) in
-        let at : IsKept (with_known s (chain pt D).known) = subst (λ (x : State W). IsKept x) (chain_is pt D) t.0 in
-        let g : Grows s (with_known s (chain pt D).known) = subst (λ (x : State W). Grows s x) (chain_is pt D) t.1 in
+        let at : IsKept (with_known s (chain pt D).known) = subst (λ (x : AnalysisState W). IsKept x) (chain_is pt D) t.0 in
+        let g : Grows s (with_known s (chain pt D).known) = subst (λ (x : AnalysisState W). Grows s x) (chain_is pt D) t.1 in
         let facts : k.store.fact ≡ (chain pt D).known.store.fact = fun_ext (λ (q : ℕ). fun_ext (λ (b : ℕ). same q b)) in
         let k_log = log ∙ sym (chain_log pt D) in
         let roomy : IsRoomy s → HasRoom s.path k = λ j. room_like s.path s.known k (λ p c w e. more_of p c w (g.more p c w e) facts k_log) (spare j.0) (omega (arith, left)) same_tracked places (kept.roomy j) in (
@@ -286,11 +286,11 @@ module _ {W : Type 0} (s : State W) (laws : HasLaws (along s.path)) (kept : IsKe
     up : from ≤ to → IsKept (with_known s k) × Grows s (with_known s k)
     up le = chain_done (λ d. from + d) (to - from) (λ d h. omega (arith, h, to_early, le)) (λ d w h e. spreads.free (from + d) w (inl (omega arith, omega (arith, h, le))) e) start_up reach k last log left spreads.tracked spreads.places spreads.spare same
       where
-        reach : (d : ℕ) → d < to - from → (t : State W) → IsKept t → Grows s t → ((j : ℕ) → j ≤ d → Knows (from + j) (Byte a) v t) → IsBrought t (fact_of (from + suc d) (Byte a) v)
+        reach : (d : ℕ) → d < to - from → (t : AnalysisState W) → IsKept t → Grows s t → ((j : ℕ) → j ≤ d → Knows (from + j) (Byte a) v t) → IsBrought t (fact_of (from + suc d) (Byte a) v)
         reach d lt t kept_t g all =
             led_brought s t laws kept_t g (record { address = a; from = from; to = to; value = v }) small (from + suc d) (led (from + suc d) (inl (omega arith, omega (arith, lt))) (λ e. omega (arith, e))) before
           where
-            before : (p : ℕ) → IsBefore (record { address = a; from = from; to = to; value = v }) (from + suc d) p → Knows p (Byte a) v t
+            before : (p : ℕ) → StandsBefore (record { address = a; from = from; to = to; value = v }) (from + suc d) p → Knows p (Byte a) v t
             before p (inl x) = let low = x.0 in let high = x.1 in let at : from + (p - from) ≡ p = omega (arith, low) in subst (λ (n : ℕ). Knows n (Byte a) v t) at (all (p - from) (omega (arith, low, high)))
             before p (inr x) = let low = x.0 in let high = x.1 in absurd (omega (arith, low, high))
 
@@ -314,11 +314,11 @@ module _ {W : Type 0} (s : State W) (laws : HasLaws (along s.path)) (kept : IsKe
     down : to ≤ from → IsKept (with_known s k) × Grows s (with_known s k)
     down le = chain_done (λ d. from - d) (from - to) (λ d h. omega (arith, from_early)) (λ d w h e. spreads.free (from - d) w (inr (omega (arith, h, le), omega arith)) e) start_down reach k last log left spreads.tracked spreads.places spreads.spare same
       where
-        reach : (d : ℕ) → d < from - to → (t : State W) → IsKept t → Grows s t → ((j : ℕ) → j ≤ d → Knows (from - j) (Byte a) v t) → IsBrought t (fact_of (from - suc d) (Byte a) v)
+        reach : (d : ℕ) → d < from - to → (t : AnalysisState W) → IsKept t → Grows s t → ((j : ℕ) → j ≤ d → Knows (from - j) (Byte a) v t) → IsBrought t (fact_of (from - suc d) (Byte a) v)
         reach d lt t kept_t g all =
             led_brought s t laws kept_t g (record { address = a; from = from; to = to; value = v }) small (from - suc d) (led (from - suc d) (inr (omega (arith, lt), omega arith)) (λ e. omega (arith, e, lt))) before
           where
-            before : (p : ℕ) → IsBefore (record { address = a; from = from; to = to; value = v }) (from - suc d) p → Knows p (Byte a) v t
+            before : (p : ℕ) → StandsBefore (record { address = a; from = from; to = to; value = v }) (from - suc d) p → Knows p (Byte a) v t
             before p (inl x) = let low = x.0 in let high = x.1 in absurd (omega (arith, low, high))
             before p (inr x) = let low = x.0 in let high = x.1 in let at : from - (from - p) ≡ p = omega (arith, high) in subst (λ (n : ℕ). Knows n (Byte a) v t) at (all (from - p) (omega (arith, low, high, lt)))
 
@@ -347,7 +347,7 @@ module _ {W : Type 0} (s : State W) (laws : HasLaws (along s.path)) (kept : IsKe
         ]
 
 -- what a store's answer to `carry` comes to
-module _ {W : Type 0} (s : State W) (laws : HasLaws (along s.path)) (kept : IsKept s) (open_ : s.complete ≡ false) (a from to v : ℕ) (small : a < 2 ^ 32) (from_early : from ≤ s.path.given.moments.end) (to_early : to ≤ s.path.given.moments.end) (known : Knows from (Byte a) v s) (led : IsLed (record { address = a; from = from; to = to; value = v }) s) where
+module _ {W : Type 0} (s : AnalysisState W) (laws : HasLaws (along s.path)) (kept : IsKept s) (open_ : s.complete ≡ false) (a from to v : ℕ) (small : a < 2 ^ 32) (from_early : from ≤ s.path.given.moments.end) (to_early : to ≤ s.path.given.moments.end) (known : Knows from (Byte a) v s) (led : IsLed (record { address = a; from = from; to = to; value = v }) s) where
   tracked : IsTracked a s
   tracked = kept.listed from a v known
 
@@ -373,7 +373,7 @@ module _ {W : Type 0} (s : State W) (laws : HasLaws (along s.path)) (kept : IsKe
     not_first (inl y) e = let low = y.0 in out (inl (omega (arith, e), omega (arith, e, low)))
     not_first (inr y) e = let high = y.1 in out (inr (omega (arith, e, high), omega (arith, e)))
 
-    reached : (before + 1 ≡ stop) ⊎ (stop + 1 ≡ before) → Between from to before → Between from to stop → (p : ℕ) → IsBefore (record { address = a; from = from; to = to; value = v }) stop p → Between from before p
+    reached : (before + 1 ≡ stop) ⊎ (stop + 1 ≡ before) → Between from to before → Between from to stop → (p : ℕ) → StandsBefore (record { address = a; from = from; to = to; value = v }) stop p → Between from before p
     reached (inl next) (inl y) (inl x) p (inl z) = let high = z.1 in inl (z.0, omega (arith, next, high))
     reached (inl next) (inl y) (inl x) p (inr z) = let low = x.0 in let under = z.0 in let over = z.1 in absurd (omega (arith, low, under, over))
     reached (inr next) (inl y) (inl x) p z = absurd (out (inl (x.0, omega (arith, next))))
@@ -411,7 +411,7 @@ module _ {W : Type 0} (s : State W) (laws : HasLaws (along s.path)) (kept : IsKe
   sent k log (Err e) h = let both = spread k log h.reaches.before h.reaches.toward h.reaches.spreads in (both.0, (both.1, λ j. false≢true (sym h.plain ∙ j.0)))
 
 -- a segment in which no row may write the byte
-pub segment_spread : {W : Type 0} (s : State W) (a from to at v : ℕ) → from ≤ at → at ≤ to → IsSpreadTo (record { address = a; from = at; to = to; value = v }) s → IsSpreadTo (record { address = a; from = at; to = from; value = v }) s → IsCarriedFrom a from to s
+pub segment_spread : {W : Type 0} (s : AnalysisState W) (a from to at v : ℕ) → from ≤ at → at ≤ to → IsSpreadTo (record { address = a; from = at; to = to; value = v }) s → IsSpreadTo (record { address = a; from = at; to = from; value = v }) s → IsCarriedFrom a from to s
 segment_spread s a from to at v low high right left i le lt = record {
   onward = λ w spared h. each (i + 1) (omega (arith, le)) (omega (arith, lt)) ∙ ap Some (same_some (sym (each i le (omega (arith, lt))) ∙ h));
   back = λ w spared h. each i le (omega (arith, lt)) ∙ ap Some (same_some (sym (each (i + 1) (omega (arith, le)) (omega (arith, lt))) ∙ h));
@@ -424,19 +424,19 @@ segment_spread s a from to at v low high right left i le lt = record {
           | inr more ↦ right q (inl (more, high_q))
         ]
 
-pub segment_free : {W : Type 0} (s : State W) (a from to : ℕ) → ((q : ℕ) → from ≤ q → q ≤ to → s.known.store.fact q a ≡ None) → IsCarriedFrom a from to s
+pub segment_free : {W : Type 0} (s : AnalysisState W) (a from to : ℕ) → ((q : ℕ) → from ≤ q → q ≤ to → s.known.store.fact q a ≡ None) → IsCarriedFrom a from to s
 segment_free s a from to none i le lt = record {
   onward = λ w spared h. absurd (none_some (sym (none i le (omega (arith, lt))) ∙ h));
   back = λ w spared h. absurd (none_some (sym (none (i + 1) (omega (arith, le)) (omega (arith, lt))) ∙ h));
 }
 
-pub next_free : {W : Type 0} (s : State W) (a from to : ℕ) → Nexts s.known.store.fact a from None → IsCarriedFrom a from to s
+pub next_free : {W : Type 0} (s : AnalysisState W) (a from to : ℕ) → Nexts s.known.store.fact a from None → IsCarriedFrom a from to s
 next_free s a from to h = segment_free s a from to (λ q low high. h q low)
 
-pub next_past : {W : Type 0} (s : State W) (a from to : ℕ) (stretch : Stretch) → Nexts s.known.store.fact a from (Some stretch) → to < stretch.first → IsCarriedFrom a from to s
+pub next_past : {W : Type 0} (s : AnalysisState W) (a from to : ℕ) (stretch : Stretch) → Nexts s.known.store.fact a from (Some stretch) → to < stretch.first → IsCarriedFrom a from to s
 next_past s a from to stretch h past = segment_free s a from to (λ q low high. h.free q low (omega (arith, high, past)))
 
-pub next_value : {W : Type 0} (s : State W) (a from at : ℕ) (stretch : Stretch) → Nexts s.known.store.fact a from (Some stretch) → at ≡ max stretch.first from → Knows at (Byte a) stretch.value s
+pub next_value : {W : Type 0} (s : AnalysisState W) (a from at : ℕ) (stretch : Stretch) → Nexts s.known.store.fact a from (Some stretch) → at ≡ max stretch.first from → Knows at (Byte a) stretch.value s
 next_value s a from at stretch h is =
     let reaches = h.reaches in
     let ordered = h.run.ordered in
@@ -446,7 +446,7 @@ pub next_at : (from to at first : ℕ) → from ≤ to → first ≤ to → at �
 next_at from to at first le reach is = (omega (arith, is), omega (arith, is, reach, le))
 
 -- one stretch has all points of a segment
-pub segment_covered : {W : Type 0} (s : State W) (a from to : ℕ) (stretch : Stretch) → Nexts s.known.store.fact a from (Some stretch) → (stretch.first ≤ from) × (to ≤ stretch.last) → IsCarriedFrom a from to s
+pub segment_covered : {W : Type 0} (s : AnalysisState W) (a from to : ℕ) (stretch : Stretch) → Nexts s.known.store.fact a from (Some stretch) → (stretch.first ≤ from) × (to ≤ stretch.last) → IsCarriedFrom a from to s
 segment_covered s a from to stretch h covers i le lt =
     let low = covers.0 in
     let high = covers.1 in
@@ -457,14 +457,14 @@ segment_covered s a from to stretch h covers i le lt =
       back = λ w spared e. here ∙ ap Some (same_some (sym after ∙ e));
     }
 
-pub spared_up : {W : Type 0} (s : State W) (from to at a : ℕ) → from ≤ at → at ≤ to → IsSparedBetween from to a s → IsSparedBetween at to a s
+pub spared_up : {W : Type 0} (s : AnalysisState W) (from to at a : ℕ) → from ≤ at → at ≤ to → IsSparedBetween from to a s → IsSparedBetween at to a s
 spared_up s from to at a low high h i (inl x) = let p = x.0 in h i (inl (omega (arith, p, low), x.1))
 spared_up s from to at a low high h i (inr x) = let p = x.0 in let q = x.1 in absurd (omega (arith, p, q, high))
 
-pub spared_down : {W : Type 0} (s : State W) (from to at a : ℕ) → from ≤ at → at ≤ to → IsSparedBetween from to a s → IsSparedBetween at from a s
+pub spared_down : {W : Type 0} (s : AnalysisState W) (from to at a : ℕ) → from ≤ at → at ≤ to → IsSparedBetween from to a s → IsSparedBetween at from a s
 spared_down s from to at a low high h i (inl x) = let p = x.0 in let q = x.1 in absurd (omega (arith, p, q, low))
 spared_down s from to at a low high h i (inr x) = let q = x.1 in h i (inl (x.0, omega (arith, q, high)))
 
-pub between_none : {W : Type 0} (s : State W) (p a : ℕ) → IsSparedBetween p p a s
+pub between_none : {W : Type 0} (s : AnalysisState W) (p a : ℕ) → IsSparedBetween p p a s
 between_none s p a i (inl x) = let q = x.0 in let r = x.1 in absurd (omega (arith, q, r))
 between_none s p a i (inr x) = let q = x.0 in let r = x.1 in absurd (omega (arith, q, r))

@@ -21,7 +21,7 @@ use Rattle.rept_report.proofs.Places.{oldest_more, oldest_less, oldest_new}
 use Rattle.rept_report.proofs.ViewLaws.{known_fact}
 use Rattle.rept_report.proofs.Monotony.{quiet_less}
 use Rattle.rept_report.proofs.Traces.{derived_below, least_conflict, clash_closure, front_closure, next_derivation}
-use Rattle.rept_analysis.specs.State.{State, all_known, along}
+use Rattle.rept_analysis.specs.State.{AnalysisState, all_known, along}
 use Rattle.rept_analysis.specs.Drawing.{IsClash, IsSettled, IsRowDrawn}
 use Rattle.rept_report.proofs.Search.{source}
 use Rattle.rept_analysis.specs.Answers.{byte_answer}
@@ -44,7 +44,7 @@ logged_in (e ∷ es) f h = either (λ k. logged_in es f k) e.logged h
     either older true (inr k) = inr (older k)
     either older false k = inr (older k)
 
-module _ {W : Type 0} (s : State W) (laws : HasLaws (along s.path)) (kept : IsKept s) where
+module _ {W : Type 0} (s : AnalysisState W) (laws : HasLaws (along s.path)) (kept : IsKept s) where
   -- what is quiet was quiet at each place before
   pub quiet_before : (t u : ℕ) → u ≤ t → IsQuiet (along s.path) (told (oldest t s.known.log)) → IsQuiet (along s.path) (told (oldest u s.known.log))
   quiet_before t u le quiet = quiet_less (along s.path) laws (told (oldest u s.known.log)) (told (oldest t s.known.log)) (λ p r v e. oldest_more u t s.known.log kept.once le p (Register r) v e) quiet
@@ -108,7 +108,7 @@ module _ {W : Type 0} (s : State W) (laws : HasLaws (along s.path)) (kept : IsKe
           front_closure (along s.path) laws kept.traced.entries kept.traced.trace s.shown (λ u below. rw kept.traced.logged (kept.calm u below)) (fact_of p (Byte a) v) (rw kept.traced.logged (told_in (oldest s.shown s.known.log) p (Byte a) v logged))
       of some None is h = at_end some (rw is at h)
 
-  abbrev pub stopped_at : ℕ → ConflictKind → State W
+  abbrev pub stopped_at : ℕ → ConflictKind → AnalysisState W
   stopped_at limit kind = record { path = s.path; known = s.known; spans = s.spans; filled = s.filled; shown = limit; complete = s.complete; conflict = Some kind; work = s.work }
 
   -- an analysis that stops at a place
@@ -135,7 +135,7 @@ module _ {W : Type 0} (s : State W) (laws : HasLaws (along s.path)) (kept : IsKe
       some_kind : {x y : ConflictKind} → Some x ≡ Some y → x ≡ y
       some_kind e = cc
 
-  abbrev shown_to : ℕ → State W
+  abbrev shown_to : ℕ → AnalysisState W
   shown_to limit = record { path = s.path; known = s.known; spans = s.spans; filled = s.filled; shown = limit; complete = s.complete; conflict = s.conflict; work = s.work }
 
   -- one that answers more
@@ -159,7 +159,7 @@ module _ {W : Type 0} (s : State W) (laws : HasLaws (along s.path)) (kept : IsKe
     roomy = kept.roomy;
   }
 
-  abbrev finished_at : State W
+  abbrev finished_at : AnalysisState W
   finished_at = record { path = s.path; known = s.known; spans = s.spans; filled = s.filled; shown = length s.known.log; complete = true; conflict = s.conflict; work = s.work }
 
   again : (i : ℕ) (row : StepRow) → IsRowDrawn row i s → IsRowDrawn row i finished_at

@@ -6,7 +6,7 @@ use Rattle.rept_reason.specs.declared.fact.Cell.TheVariants.{Register, Byte}
 use Rattle.rept_reason.specs.Facts.{Knowledge, In, told}
 use Rattle.rept_report.specs.Setting.{Setting}
 use Rattle.rept_report.specs.Log.{oldest}
-use Rattle.rept_analysis.specs.State.{State, along}
+use Rattle.rept_analysis.specs.State.{AnalysisState, along}
 
 -- the value of a register other than x0 at the last point of a thread, by the row that leads from the point, if one does
 abbrev pub value_at_end : Option StepRow → List ℕ → ℕ → Option ℕ
@@ -19,8 +19,8 @@ ends_told S p (Register r) = if nat_lt S.legs.count p then None else value_at_en
 ends_told S p (Byte a) = None
 
 -- each of these facts is such a value
-abbrev pub AreEnds : {W : Type 0} → Setting W → List Fact → Type 0
-AreEnds S facts = (f : Fact) → In facts f → ends_told S f.point f.cell ≡ Some f.value
+abbrev pub AreEndFacts : {W : Type 0} → Setting W → List Fact → Type 0
+AreEndFacts S facts = (f : Fact) → In facts f → ends_told S f.point f.cell ≡ Some f.value
 
 -- all such values are known
 abbrev pub KnowsEnds : {W : Type 0} → Setting W → Knowledge → Type 0
@@ -30,19 +30,19 @@ KnowsEnds S K = (p r v : ℕ) → ends_told S p (Register r) ≡ Some v → K p 
 pub record BeginsWithEnds {W : Type 0} (S : Setting W) (log : List Fact) : Type 0 where
   pub count : ℕ
   pub within : count ≤ length log
-  pub ends : AreEnds S (oldest count log)
+  pub ends : AreEndFacts S (oldest count log)
   pub all : KnowsEnds S (told (oldest count log))
 
 -- nothing but such values was learnt yet
-abbrev pub HasEndsAlone : {W : Type 0} → State W → Type 0
-HasEndsAlone s = AreEnds (along s.path) s.known.log
+abbrev pub HasEndsAlone : {W : Type 0} → AnalysisState W → Type 0
+HasEndsAlone s = AreEndFacts (along s.path) s.known.log
 
 -- all of them were learnt before anything else
-abbrev pub HasEndsFirst : {W : Type 0} → State W → Type 0
+abbrev pub HasEndsFirst : {W : Type 0} → AnalysisState W → Type 0
 HasEndsFirst s = BeginsWithEnds (along s.path) s.known.log
 
 -- nothing else was learnt before them
-abbrev pub LearnsEndsFirst : {W : Type 0} → State W → Type 0
+abbrev pub LearnsEndsFirst : {W : Type 0} → AnalysisState W → Type 0
 LearnsEndsFirst s = HasEndsAlone s ⊎ HasEndsFirst s
 
 -- the log has at most this fact more

@@ -17,7 +17,7 @@ use Rattle.rept_analysis.specs.declared.pass.Pass.{Pass}
 use Rattle.rept_analysis.specs.declared.pass.Pass.TheVariants.{Never, With, Cut}
 use Rattle.rept_analysis.specs.Cells.{cells_known}
 use Rattle.rept_analysis.specs.Room.{HasRoom}
-use Rattle.rept_analysis.specs.State.{State, IsRoomy, all_known, along}
+use Rattle.rept_analysis.specs.State.{AnalysisState, IsRoomy, all_known, along}
 use Rattle.rept_analysis.specs.Drawing.{IsTracked, IsSettled, Knows, KnowsDrawn}
 
 -- whether an address is one of these
@@ -26,28 +26,28 @@ is_among [] a = false
 is_among (x ∷ xs) a = x == a || is_among xs a
 
 -- what is answered of registers: x0 is 0, and of the others what the oldest facts of the log tell
-abbrev pub register_answer : {W : Type 0} → State W → ℕ → ℕ → Option ℕ
+abbrev pub register_answer : {W : Type 0} → AnalysisState W → ℕ → ℕ → Option ℕ
 register_answer s p r = register_known (told (oldest s.shown s.known.log)) p r
 
 -- all that an analysis says that has ended: what it knows, and the bytes of the dump that no row may write
-abbrev pub answers : {W : Type 0} → State W → Knowledge
+abbrev pub answers : {W : Type 0} → AnalysisState W → Knowledge
 answers s = with_implied (along s.path) (all_known s) (is_among s.known.store.tracked)
 
 -- how the facts were learnt
-pub record IsTraced {W : Type 0} (s : State W) : Type 0 where
+pub record HasTrace {W : Type 0} (s : AnalysisState W) : Type 0 where
   pub entries : List Entry
   pub trace : IsTrace (along s.path) entries
   pub logged : logged_of entries ≡ s.known.log
   pub agree : (p : ℕ) (c : Cell) → told (facts_of entries) p c ≡ all_known s p c
 
-pub record IsFinished {W : Type 0} (s : State W) : Type 0 where
+pub record IsFinished {W : Type 0} (s : AnalysisState W) : Type 0 where
   pub settled : IsSettled s
   pub report : IsReport (along s.path) (answers s)
   pub all : s.shown ≡ length s.known.log
 
 -- The row's rules were drawn from something that was seen around the row, in which so many of its cells were known: what they let one
 -- conclude from it is known, and so is all that was seen.
-pub record IsDrawnWith {W : Type 0} (row : StepRow) (i k : ℕ) (s : State W) : Type 0 where
+pub record IsDrawnWith {W : Type 0} (row : StepRow) (i k : ℕ) (s : AnalysisState W) : Type 0 where
   pub view : Seen
   pub lawful : IsLawful view
   pub count : cells_known s.path.rules row view ≡ k
@@ -55,19 +55,19 @@ pub record IsDrawnWith {W : Type 0} (row : StepRow) (i k : ℕ) (s : State W) : 
   pub less : (w : When) (c : Cell) (v : ℕ) → seen_cell view w c ≡ Some v → seen_cell (around s.path.given.moments s.known i) w c ≡ Some v
 
 -- what is kept of how far they were drawn is so
-abbrev pub IsPass : {W : Type 0} → StepRow → ℕ → Pass → State W → Type 0
+abbrev pub IsPass : {W : Type 0} → StepRow → ℕ → Pass → AnalysisState W → Type 0
 IsPass row i Never s = Unit {0}
 IsPass row i (With k) s = IsDrawnWith row i k s
 IsPass row i Cut s = Unit {0}
 
-pub record IsKept {W : Type 0} (s : State W) : Type 0 where
+pub record IsKept {W : Type 0} (s : AnalysisState W) : Type 0 where
   pub few : s.path.given.legs.count ≤ 66560
   pub registers : (p : ℕ) → length (s.path.given.last p) ≡ 32
   pub last_is : s.known.last ≡ s.path.given.legs.count
   pub sized : s.spans.points ≡ s.path.given.legs.count + 1
   pub filled : s.filled ≤ length s.known.log
   pub once : OnceEach s.known.log
-  pub traced : IsTraced s
+  pub traced : HasTrace s
   pub listed : (p a v : ℕ) → Knows p (Byte a) v s → IsTracked a s
   pub shown : s.shown ≤ length s.known.log
   pub calm : (u : ℕ) → u < s.shown → IsQuiet (along s.path) (told (oldest u s.known.log))

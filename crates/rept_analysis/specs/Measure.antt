@@ -2,7 +2,7 @@
 use Rattle.std.specs.Prelude.{ℕ, ◌+◌, ◌^◌, not, is_none}
 use Rattle.rept_reason.specs.declared.fact.Cell.TheVariants.{Register, Byte}
 use Rattle.rept_reason.specs.Facts.{Knowledge}
-use Rattle.rept_analysis.specs.State.{State, all_known}
+use Rattle.rept_analysis.specs.State.{AnalysisState, all_known}
 use Rattle.rept_analysis.specs.Kept.{is_among}
 use Rattle.rept_analysis.specs.Sums.{count_true, sum_to}
 use Rattle.rept_analysis.specs.Work.{left}
@@ -15,5 +15,5 @@ abbrev pub bytes_unknown : Knowledge → ℕ → ℕ
 bytes_unknown K m = count_true (λ a. is_none (K m (Byte a))) (2 ^ 32)
 
 -- how many cells aren't known, how many addresses aren't tracked, and how often rules can be drawn still
-abbrev pub measure : {W : Type 0} → State W → ℕ
+abbrev pub measure : {W : Type 0} → AnalysisState W → ℕ
 measure s = sum_to (registers_unknown (all_known s)) (s.path.given.legs.count + 1) + sum_to (bytes_unknown (all_known s)) (s.path.given.moments.end + 1) + count_true (λ a. not (is_among s.known.store.tracked a)) (2 ^ 32) + left s.work.drawn

@@ -10,7 +10,7 @@ use Rattle.rept_span.specs.Moves.{Moves}
 use Rattle.rept_view.specs.Rules.{Rules}
 use Rattle.rept_report.specs.Timeline.{Timeline}
 use Rattle.rept_log.specs.Fronts.{FrontView}
-use Rattle.rept_analysis.specs.State.{Whole, State, Reader, given_of}
+use Rattle.rept_analysis.specs.State.{Whole, AnalysisState, Reader, given_of}
 
 -- the facts at places below t, of what is given
 abbrev pub front_below : {P L B W R : Type 0} → Reader P L → Sets W → Moves W → Rules → Whole P L B W R → ℕ → FrontView W
@@ -28,7 +28,7 @@ pub record AreSetsOf {W : Type 0} (S : Setting W) (facts : List Fact) (spans : V
   pub filled : IsFilled (way_of S) spans (told facts)
 
 -- All that an analysis answers, and all that it holds but for how often rules were drawn, is as it was.
-pub record KeepsAll {W : Type 0} (old new : State W) : Type 0 where
+pub record KeepsAll {W : Type 0} (old new : AnalysisState W) : Type 0 where
   pub path : new.path ≡ old.path
   pub known : new.known ≡ old.known
   pub spans : new.spans ≡ old.spans

@@ -51,7 +51,7 @@ abbrev pub along : {W : Type 0} → Subject W → Setting W
 along p = setting_by p.sets p.moves p.rules p.given
 
 -- the same, with what is given
-pub record State (W : Type 0) : Type 0 where
+pub record AnalysisState (W : Type 0) : Type 0 where
   pub path : Subject W
   pub known : Known
   pub spans : View W
@@ -90,7 +90,7 @@ path_of read sets moves rules a = record {
 abbrev pub setting_of : {P L B W R : Type 0} → Reader P L → Sets W → Moves W → Rules → Whole P L B W R → Setting W
 setting_of read sets moves rules a = along (path_of read sets moves rules a)
 
-abbrev pub state_of : {P L B W R : Type 0} → Reader P L → Sets W → Moves W → Rules → (B → Store) → Whole P L B W R → State W
+abbrev pub state_of : {P L B W R : Type 0} → Reader P L → Sets W → Moves W → Rules → (B → Store) → Whole P L B W R → AnalysisState W
 state_of read sets moves rules store a = record {
   path = path_of read sets moves rules a;
   known = known_of store a.known;
@@ -103,34 +103,34 @@ state_of read sets moves rules store a = record {
 }
 
 -- the same with other work
-abbrev pub with_work : {W : Type 0} → State W → Work → State W
+abbrev pub with_work : {W : Type 0} → AnalysisState W → Work → AnalysisState W
 with_work s w = record { path = s.path; known = s.known; spans = s.spans; filled = s.filled; shown = s.shown; complete = s.complete; conflict = s.conflict; work = w }
 
 -- the same with another list of rows that may write
-abbrev pub with_writing : {W : Type 0} → State W → List Writing → State W
+abbrev pub with_writing : {W : Type 0} → AnalysisState W → List Writing → AnalysisState W
 with_writing s list = with_work s (record { joins = s.work.joins; writing = list; room = s.work.room; draws = s.work.draws; drawn = s.work.drawn })
 
 -- the same, where rules were drawn so often
-abbrev pub with_draws : {W : Type 0} → State W → ℕ → State W
+abbrev pub with_draws : {W : Type 0} → AnalysisState W → ℕ → AnalysisState W
 with_draws s n = with_work s (record { joins = s.work.joins; writing = s.work.writing; room = s.work.room; draws = n; drawn = s.work.drawn })
 
 -- the same, where they were drawn so far
-abbrev pub with_drawn : {W : Type 0} → State W → List Pass → State W
+abbrev pub with_drawn : {W : Type 0} → AnalysisState W → List Pass → AnalysisState W
 with_drawn s passes = with_work s (record { joins = s.work.joins; writing = s.work.writing; room = s.work.room; draws = s.work.draws; drawn = passes })
 
 -- the same but for how often rules were drawn
-abbrev pub but_draws : {W : Type 0} → State W → State W
+abbrev pub but_draws : {W : Type 0} → AnalysisState W → AnalysisState W
 but_draws s = with_draws s 0
 
 -- the rows and moments
-abbrev pub timeline_of : {W : Type 0} → State W → Timeline
+abbrev pub timeline_of : {W : Type 0} → AnalysisState W → Timeline
 timeline_of s = record { legs = s.path.given.legs; moments = s.path.given.moments }
 
 -- The room that was taken at first is enough: the store joins what stands side by side, and a value is carried to the next number alone,
 -- so that it takes no place.
-abbrev pub IsRoomy : {W : Type 0} → State W → Type 0
+abbrev pub IsRoomy : {W : Type 0} → AnalysisState W → Type 0
 IsRoomy s = (s.work.joins ≡ true) × IsLined (timeline_of s)
 
 -- all that is known
-abbrev pub all_known : {W : Type 0} → State W → Knowledge
+abbrev pub all_known : {W : Type 0} → AnalysisState W → Knowledge
 all_known s = knows s.known

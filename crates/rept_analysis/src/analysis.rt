@@ -47,6 +47,7 @@ use crate::pass::Passes;
 use crate::recent::Recent;
 use crate::stop::Stop;
 use crate::tables::Tables;
+use crate::walls::Walls;
 use rept_dump::Dump;
 use rept_isa::{Reg, StepRow};
 use rept_log::{FactLog, LastValues};
@@ -104,6 +105,8 @@ pub struct Analysis<
     fresh: Fresh,
     /// the bytes of which something was learnt lately
     recent: Recent,
+    /// the rows at which bytes stopped
+    walls: Walls,
 }
 
 impl<'a, P: Reaches + Drop, L: LastValues + Drop, B: ByteFacts, W: Transfer, R: RowRules> Model
@@ -178,6 +181,7 @@ impl<'a, P: Reaches + Drop, L: LastValues + Drop, B: ByteFacts, W: Transfer, R: 
             drawn,
             fresh,
             recent,
+            walls,
         } = tables;
         Ok(Analysis {
             alloc,
@@ -197,6 +201,7 @@ impl<'a, P: Reaches + Drop, L: LastValues + Drop, B: ByteFacts, W: Transfer, R: 
             has_put: false,
             fresh,
             recent,
+            walls,
         })
     }
 

@@ -17,6 +17,7 @@ mod tables;
 pub mod thread_end;
 mod trail;
 mod turns;
+mod walls;
 
 pub use analysis::Analysis;
 pub use stop::Stop;

@@ -7,6 +7,7 @@ ghost use Rattle.rept_analysis.specs.declared.pass.Pass.{Pass};
 use crate::fresh::Fresh;
 use crate::pass::Passes;
 use crate::recent::Recent;
+use crate::walls::Walls;
 use rept_log::FactLog;
 use rept_span::{Spans, Transfer};
 use rept_versions::ByteFacts;
@@ -28,6 +29,8 @@ pub struct Tables<B: ByteFacts, W: Transfer> {
     pub fresh: Fresh,
     /// the bytes of which something was learnt lately
     pub recent: Recent,
+    /// the rows at which bytes stopped
+    pub walls: Walls,
 }
 
 impl<B: ByteFacts, W: Transfer> Tables<B, W> {
@@ -48,6 +51,7 @@ impl<B: ByteFacts, W: Transfer> Tables<B, W> {
         let drawn = Passes::new(alloc, count as usize)?;
         let fresh = Fresh::new(alloc, count as usize)?;
         let recent = Recent::new(alloc)?;
+        let walls = Walls::new(alloc, end as usize + 1)?;
         Ok(Tables {
             known,
             spans,
@@ -55,6 +59,7 @@ impl<B: ByteFacts, W: Transfer> Tables<B, W> {
             drawn,
             fresh,
             recent,
+            walls,
         })
     }
 }

@@ -4,7 +4,7 @@ use Rattle.std.proofs.lemmas.List.{length-append, take-append-le}
 use Rattle.std.proofs.Math.Seq.{take-append-add}
 use Rattle.std.specs.Io.KnownBytes.{Appends}
 use Rattle.rept_ports.specs.Causes.{OneFault, AppendsPrefix}
-use Rattle.rept_ports.specs.Port.{Port, Move, move}
+use Rattle.rept_ports.specs.Port.{Port, PortMove, move}
 use Rattle.rept_ports.proofs.CallerLemmas.{Appends-trans, fault_after}
 use Rattle.rept_app.specs.Delivered.{Delivers, SaysOrNoMemory}
 use Rattle.rept_app.specs.Ends.{Yields, FaultEnds, PortsEnd}
@@ -14,7 +14,7 @@ use Rattle.rept_app.specs.declared.status.Status.{Status}
 use Rattle.rept_app.specs.declared.status.Status.TheVariants as ends
 
 -- what goes with a status by one relation goes with it by a wider one
-pub delivers_as : (Goes Wider : List ℕ → Status → Type 0) (out : Move Port) (result : Status) → ((text : List ℕ) (s : Status) → Goes text s → Wider text s) → Delivers Goes out result → Delivers Wider out result
+pub delivers_as : (Goes Wider : List ℕ → Status → Type 0) (out : PortMove Port) (result : Status) → ((text : List ℕ) (s : Status) → Goes text s → Wider text s) → Delivers Goes out result → Delivers Wider out result
 delivers_as Goes Wider out result wider (inl h) = inl (h.0, wider h.0 result h.1, h.2, h.3)
 delivers_as Goes Wider out result wider (inr h) = inr (h.0, h.1, (h.2.0, h.2.1, wider h.2.0 h.2.1 h.2.2, h.2.3))
 
@@ -46,7 +46,7 @@ fails_after Whole old mid new front next rest all status calm fault h p e goes =
     inr (refl, fault_after old.faults mid.faults new.faults calm fault, (all, status, goes, rw e (prefix_after old.bytes mid.bytes new.bytes front (next ++ rest) h (prefix_of_longer mid.bytes new.bytes next rest p))))
 
 -- how a call ends that tells a refusal: with its status, or cut short
-pub ends_told : (r : Refusal) (out : Move Port) (result : Status) → Delivers (SaysOrNoMemory r) out result → Yields (status_of r) result
+pub ends_told : (r : Refusal) (out : PortMove Port) (result : Status) → Delivers (SaysOrNoMemory r) out result → Yields (status_of r) result
 ends_told r out result (inl (text, inl says, appended, calm)) = inl says.ending
 ends_told r out result (inl (text, inr says, appended, calm)) = inr (inr says.ending)
 ends_told r out result (inr (failed, fault, whole)) = inr (inl failed)
@@ -58,7 +58,7 @@ not_yielded expected other status a b c (inr (inl h)) e = b (sym e ∙ h)
 not_yielded expected other status a b c (inr (inr h)) e = c (sym e ∙ h)
 
 -- a call that tells a refusal reads nothing, and a fault of the output ends it
-pub told_ports : (r : Refusal) (source : Port) (out : Move Port) (result : Status) → (status_of r ≡ ends.InputFault → ⊥) → (status_of r ≡ ends.OutputFault → ⊥) → Delivers (SaysOrNoMemory r) out result → PortsEnd (move source source) out result
+pub told_ports : (r : Refusal) (source : Port) (out : PortMove Port) (result : Status) → (status_of r ≡ ends.InputFault → ⊥) → (status_of r ≡ ends.OutputFault → ⊥) → Delivers (SaysOrNoMemory r) out result → PortsEnd (move source source) out result
 told_ports r source out result no_input no_output d = record {
   input = λ e. absurd (not_yielded (status_of r) ends.InputFault result no_input (λ (same : ends.InputFault ≡ ends.OutputFault). cc) (λ (same : ends.InputFault ≡ ends.OutOfMemory). cc) (ends_told r out result d) e);
   input_ends = inl refl;

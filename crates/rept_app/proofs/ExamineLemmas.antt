@@ -6,11 +6,11 @@ use Rattle.rept_path.specs.declared.fault.PathFault.{PathFault}
 use Rattle.rept_path.specs.declared.fault.PathFault.TheVariants as fault
 use Rattle.rept_steps.specs.declared.run.Run.{Run}
 use Rattle.rept_runs.specs.Kind.{is_several}
-use Rattle.rept_ports.specs.Port.{Port, Move}
+use Rattle.rept_ports.specs.Port.{Port, PortMove}
 use Rattle.rept_serve.specs.Serving.{Reading}
-use Rattle.rept_app.specs.Delivered.{Says, SaysOrNoMemory}
+use Rattle.rept_app.specs.Delivered.{SaysOrNoMemory, SaysRefusal}
 use Rattle.rept_app.specs.Ends.{Stopped, Yields, PortsEnd}
-use Rattle.rept_app.specs.Examine.{Walks, Examines, RunYields, WalkYields, NoteYields, FilesEnd, FilesHold, IsRunStatus, IsWalkStatus, IsWalked, IsExamined, TraceExcludes, FilesExclude, WalkHolds}
+use Rattle.rept_app.specs.Examine.{WalksTrace, Examines, RunYields, WalkYields, NoteYields, FilesEnd, FilesHold, IsRunStatus, IsWalkStatus, IsWalked, IsExamined, TraceExcludes, FilesExclude, WalkHolds}
 use Rattle.rept_app.specs.Forms.{executable_fault, program_fault, core_image_fault}
 use Rattle.rept_app.specs.Lines.{status_of}
 use Rattle.rept_app.specs.Reading.{HasNoCrash, HasNoDump, NotesRefuse}
@@ -103,7 +103,7 @@ not_input (fault.OtherThread k context) e = cc
 not_input fault.OutOfMemory e = cc
 
 module _ (t : CrashTrace) (status : Status) where
-  pub told_walked : (source sink : Move Port) → PortsEnd source sink status → WalkTold status → WalkYields t status → IsWalked t source sink status
+  pub told_walked : (source sink : PortMove Port) → PortsEnd source sink status → WalkTold status → WalkYields t status → IsWalked t source sink status
   told_walked source sink ports so yields = record {
     ports = ports;
     yields = yields;
@@ -158,7 +158,7 @@ module _ (t : CrashTrace) (status : Status) where
       only = λ e. absurd (never e);
     }
 
-    pub studied_walked : (source sink : Move Port) → IsStudied (run_in t run) source sink status → IsWalked t source sink status
+    pub studied_walked : (source sink : PortMove Port) → IsStudied (run_in t run) source sink status → IsWalked t source sink status
     studied_walked source sink s = record {
       ports = s.ports;
       yields = run_yields (record { conflict = s.conflict; report = s.report }) (no_trace status s.ends_so);
@@ -166,18 +166,18 @@ module _ (t : CrashTrace) (status : Status) where
     }
 
 module _ (t : CrashTrace) (reading : Reading) (text : List ℕ) (status : Status) where
-  as_memory : (f : PathFault) → f ≡ fault.OutOfMemory → Says (refusal.Path f) text status → Says refusal.OutOfMemory text status
-  as_memory f e h = plain (subst (λ (g : PathFault). Says (refusal.Path g) text status) e h)
+  as_memory : (f : PathFault) → f ≡ fault.OutOfMemory → SaysRefusal (refusal.Path f) text status → SaysRefusal refusal.OutOfMemory text status
+  as_memory f e h = plain (subst (λ (g : PathFault). SaysRefusal (refusal.Path g) text status) e h)
     where
-      plain : Says (refusal.Path fault.OutOfMemory) text status → Says refusal.OutOfMemory text status
+      plain : SaysRefusal (refusal.Path fault.OutOfMemory) text status → SaysRefusal refusal.OutOfMemory text status
       plain s = record { line = s.line; ending = s.ending }
 
-  pub refused_walks : (f : PathFault) → (f ≡ fault.OutOfMemory) ⊎ HasNoRunOf t.crash t.trace t.manner.from f → SaysOrNoMemory (refusal.Path f) text status → Walks t reading text status
+  pub refused_walks : (f : PathFault) → (f ≡ fault.OutOfMemory) ⊎ HasNoRunOf t.crash t.trace t.manner.from f → SaysOrNoMemory (refusal.Path f) text status → WalksTrace t reading text status
   refused_walks f (inl e) (inl h) = inr (inl (as_memory f e h))
   refused_walks f (inr has) (inl h) = inl (inl (f, has, h))
   refused_walks f why (inr h) = inr (inl h)
 
-  pub studies_walk : (run : Run) → IsRunOf t.crash t.trace t.manner.from run → Studies (run_in t run) reading text status → Walks t reading text status
+  pub studies_walk : (run : Run) → IsRunOf t.crash t.trace t.manner.from run → Studies (run_in t run) reading text status → WalksTrace t reading text status
   studies_walk run is (inl h) = inl (inr (run, is, inl h))
   studies_walk run is (inr (inl (a, account, inl h))) = inl (inr (run, is, inr (a, account, h)))
   studies_walk run is (inr (inl (a, account, inr h))) = inr (inr (run, a, is, account, h))
@@ -242,30 +242,30 @@ module _ (bytes : CrashBytes) (status : Status) where
   all_statuses (inr (inl h)) = inr (inl h)
   all_statuses (inr (inr h)) = inr (inr (inr (stopped_run status h)))
 
-  pub told_examined : (source sink : Move Port) → PortsEnd source sink status → (status ≡ ends.Executable) ⊎ (status ≡ ends.Core) ⊎ Stopped status → FilesEnd bytes status → IsExamined bytes source sink status
+  pub told_examined : (source sink : PortMove Port) → PortsEnd source sink status → (status ≡ ends.Executable) ⊎ (status ≡ ends.Core) ⊎ Stopped status → FilesEnd bytes status → IsExamined bytes source sink status
   told_examined source sink ports so yields = record { ports = ports; yields = yields; ends_so = all_statuses so }
 
-  pub walked_examined : (notes : List (List ℕ)) → FilesEnd bytes status → (source sink : Move Port) → IsWalked (trace_in bytes notes) source sink status → IsExamined bytes source sink status
+  pub walked_examined : (notes : List (List ℕ)) → FilesEnd bytes status → (source sink : PortMove Port) → IsWalked (trace_in bytes notes) source sink status → IsExamined bytes source sink status
   walked_examined notes yields source sink w = record { ports = w.ports; yields = yields; ends_so = inr (inr w.ends_so) }
 
 -- what is written of them
 module _ (bytes : CrashBytes) (reading : Reading) (text : List ℕ) (status : Status) where
   abbrev TextExe : Option ElfFault → Type 0
-  TextExe o = MatchOption o (MatchOption (core_image_fault bytes.core) (NotesTold bytes reading.input text status) (λ fault. Says (refusal.CoreImage fault) text status)) (λ fault. Says (refusal.Executable fault) text status)
+  TextExe o = MatchOption o (MatchOption (core_image_fault bytes.core) (NotesTold bytes reading.input text status) (λ fault. SaysRefusal (refusal.CoreImage fault) text status)) (λ fault. SaysRefusal (refusal.Executable fault) text status)
 
   abbrev TextCore : Option ElfFault → Type 0
-  TextCore o = MatchOption o (NotesTold bytes reading.input text status) (λ fault. Says (refusal.CoreImage fault) text status)
+  TextCore o = MatchOption o (NotesTold bytes reading.input text status) (λ fault. SaysRefusal (refusal.CoreImage fault) text status)
 
   -- what is told of a refusal of the files
   pub refused_examines : (r : Refusal) → HasNoCrash (is_several bytes.trace) bytes r → SaysOrNoMemory r text status → Examines bytes reading text status
   refused_examines r why (inr h) = inr (inl h)
   refused_examines r why (inl h) = inl (at (program_fault bytes.program) (core_image_fault bytes.core) why)
     where
-      named : (s : Refusal) → r ≡ s → Says s text status
-      named s e = subst (λ (x : Refusal). Says x text status) e h
+      named : (s : Refusal) → r ≡ s → SaysRefusal s text status
+      named s e = subst (λ (x : Refusal). SaysRefusal x text status) e h
 
       at : (a b : Option ElfFault) → MatchOption a (MatchOption b (NotesRefuse (is_several bytes.trace) bytes.core r) (λ f. r ≡ refusal.CoreImage f)) (λ f. r ≡ refusal.Executable f)
-          → MatchOption a (MatchOption b (NotesTold bytes reading.input text status) (λ f. Says (refusal.CoreImage f) text status)) (λ f. Says (refusal.Executable f) text status)
+          → MatchOption a (MatchOption b (NotesTold bytes reading.input text status) (λ f. SaysRefusal (refusal.CoreImage f) text status)) (λ f. SaysRefusal (refusal.Executable f) text status)
       at (Some f) b e = named (refusal.Executable f) e
       at None (Some f) e = named (refusal.CoreImage f) e
       at None None (f, says, only, e) = (Err f, says, named (refusal.Core f) e)
@@ -275,7 +275,7 @@ module _ (bytes : CrashBytes) (reading : Reading) (text : List ℕ) (status : St
     notes_examine h = subst TextExe e (subst TextCore k h)
 
     module _ (notes : List (List ℕ)) (says : CoreSays bytes (Ok notes)) where
-      pub walks_examine : Walks (trace_in bytes notes) reading text status → Examines bytes reading text status
+      pub walks_examine : WalksTrace (trace_in bytes notes) reading text status → Examines bytes reading text status
       walks_examine (inl h) = inl (notes_examine (Ok notes, says, h))
       walks_examine (inr (inl h)) = inr (inl h)
       walks_examine (inr (inr cut)) = inr (inr (notes, reads_here bytes notes e k says, cut))

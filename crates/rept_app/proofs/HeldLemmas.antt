@@ -1,10 +1,10 @@
 -- From how a session was served to what the call writes and how it ends.
 use Rattle.std.proofs.Common.{◌≡◌, ◌⊎◌, ℕ, List, ◌++◌, inl, inr, refl, sym, ap, subst, ◌∙◌}
 use Rattle.rept_ports.specs.Causes.{OneFault}
-use Rattle.rept_ports.specs.Port.{Port, Move, move}
+use Rattle.rept_ports.specs.Port.{Port, PortMove, move}
 use Rattle.rept_ports.proofs.CallerLemmas.{fault_after}
 use Rattle.rept_session.specs.Shown.{SessionTold}
-use Rattle.rept_serve.specs.Serving.{Reading, Serves, CountsAt, IsCaused as IsServed}
+use Rattle.rept_serve.specs.Serving.{Reading, Serves, CountsAt, IsServeCaused as IsServed}
 use Rattle.rept_serve.specs.declared.serving.Served.{Served}
 use Rattle.rept_serve.specs.declared.serving.Served.TheVariants as served
 use Rattle.rept_app.specs.Delivered.{Delivers}
@@ -34,10 +34,10 @@ fault_at before now expected (inl h) = h.1
 fault_at before now expected (inr h) = absurd (h.0 refl)
 
 -- the output didn't fail
-pub calm_out : (source sink : Move Port) (result : Served) → (result ≡ served.OutputFault → ⊥) → IsServed source sink result → sink.after.faults ≡ sink.before.faults
+pub calm_out : (source sink : PortMove Port) (result : Served) → (result ≡ served.OutputFault → ⊥) → IsServed source sink result → sink.after.faults ≡ sink.before.faults
 calm_out source sink result never c = calm_at sink.before.faults sink.after.faults served.OutputFault result never c.output
 
-pub calm_in : (source sink : Move Port) (result : Served) → (result ≡ served.ReadFault → ⊥) → IsServed source sink result → source.after.faults ≡ source.before.faults
+pub calm_in : (source sink : PortMove Port) (result : Served) → (result ≡ served.ReadFault → ⊥) → IsServed source sink result → source.after.faults ≡ source.before.faults
 calm_in source sink result never c = calm_at source.before.faults source.after.faults served.ReadFault result never c.input
 
 module _ (t : SessionTold) (reading : Reading) (old mid : Port) where
@@ -70,11 +70,11 @@ module _ (t : SessionTold) (reading : Reading) (old mid : Port) where
     ran_out (inr (e, rest)) d = let no : ⊥ = cc in absurd no
 
 -- how a line ends a call, after which its status is told
-line_told : (r : Refusal) (status result : Status) (out : Move Port) → Delivers (Line r status) out result → (result ≡ status) ⊎ (result ≡ ends.OutputFault)
+line_told : (r : Refusal) (status result : Status) (out : PortMove Port) → Delivers (Line r status) out result → (result ≡ status) ⊎ (result ≡ ends.OutputFault)
 line_told r status result out (inl (text, goes, appended, calm)) = inl goes.1
 line_told r status result out (inr (e, fault, rest)) = inr e
 
-line_yields : (r : Refusal) (status result : Status) (out : Move Port) → Delivers (Line r status) out result → Yields status result
+line_yields : (r : Refusal) (status result : Status) (out : PortMove Port) → Delivers (Line r status) out result → Yields status result
 line_yields r status result out d = stops (line_told r status result out d)
   where
     stops : (result ≡ status) ⊎ (result ≡ ends.OutputFault) → Yields status result
@@ -82,7 +82,7 @@ line_yields r status result out d = stops (line_told r status result out d)
     stops (inr e) = inr (inl e)
 
 -- the causes of a call that ends with such a line
-pub line_causes : (r : Refusal) (status : Status) (source : Move Port) (old mid new : Port) (result : Status) → (status ≡ ends.OutputFault → ⊥) → (Yields status result → EndsSession result) → (result ≡ ends.InputFault → OneFault source.before.faults source.after.faults)
+pub line_causes : (r : Refusal) (status : Status) (source : PortMove Port) (old mid new : Port) (result : Status) → (status ≡ ends.OutputFault → ⊥) → (Yields status result → EndsSession result) → (result ≡ ends.InputFault → OneFault source.before.faults source.after.faults)
     → FaultEnds source.before.faults source.after.faults (TellsInputFault result) → mid.faults ≡ old.faults → Delivers (Line r status) (move mid new) result → IsCaused source (move old new) result
 line_causes r status source old mid new result not_output so input input_ends calm d = record {
   ports = record { input = input; input_ends = input_ends; output = fails d; output_ends = count d };
@@ -98,7 +98,7 @@ line_causes r status source old mid new result not_output so input input_ends ca
     count (inr (e', fault, rest)) = inr (fault_after old.faults mid.faults new.faults calm fault, e')
 
 -- the session ended at the end of the input or at `quit`
-pub ended_causes : (source sink : Move Port) → IsServed source sink served.Ended → IsCaused source sink ends.Ok
+pub ended_causes : (source sink : PortMove Port) → IsServed source sink served.Ended → IsCaused source sink ends.Ok
 ended_causes source sink c = record {
   ports = record {
     input = λ (e : ends.Ok ≡ ends.InputFault). cc;
@@ -109,13 +109,13 @@ ended_causes source sink c = record {
   answered = inl refl;
 }
 
-pub fault_in : (source sink : Move Port) → IsServed source sink served.ReadFault → OneFault source.before.faults source.after.faults
+pub fault_in : (source sink : PortMove Port) → IsServed source sink served.ReadFault → OneFault source.before.faults source.after.faults
 fault_in source sink c = fault_at source.before.faults source.after.faults served.ReadFault c.input
 
-pub fault_out : (source sink : Move Port) → IsServed source sink served.OutputFault → OneFault sink.before.faults sink.after.faults
+pub fault_out : (source sink : PortMove Port) → IsServed source sink served.OutputFault → OneFault sink.before.faults sink.after.faults
 fault_out source sink c = fault_at sink.before.faults sink.after.faults served.OutputFault c.output
 
-pub failed_causes : (source sink : Move Port) → IsServed source sink served.OutputFault → IsCaused source sink ends.OutputFault
+pub failed_causes : (source sink : PortMove Port) → IsServed source sink served.OutputFault → IsCaused source sink ends.OutputFault
 failed_causes source sink c = record {
   ports = record {
     input = λ (e : ends.OutputFault ≡ ends.InputFault). cc;
@@ -126,7 +126,7 @@ failed_causes source sink c = record {
   answered = inr (inr (inr (inl refl)));
 }
 
-pub read_causes : (source : Move Port) (old mid new : Port) (result : Status) → IsServed source (move old mid) served.ReadFault → Delivers (Line refusal.InputFault ends.InputFault) (move mid new) result → IsCaused source (move old new) result
+pub read_causes : (source : PortMove Port) (old mid new : Port) (result : Status) → IsServed source (move old mid) served.ReadFault → Delivers (Line refusal.InputFault ends.InputFault) (move mid new) result → IsCaused source (move old new) result
 read_causes source old mid new result c d =
     let fault = fault_in source (move old mid) c in
     line_causes refusal.InputFault ends.InputFault source old mid new result (λ (e : ends.InputFault ≡ ends.OutputFault). cc) so (λ _. fault) (inr (fault, line_told refusal.InputFault ends.InputFault result (move mid new) d))
@@ -136,7 +136,7 @@ read_causes source old mid new result c d =
     so (inl e) = inr (inl e)
     so (inr s) = inr (inr (inr s))
 
-pub other_causes : (r : Refusal) (status : Status) (source : Move Port) (old mid new : Port) (result : Status) → (status ≡ ends.OutputFault → ⊥) → (status ≡ ends.InputFault → ⊥) → EndsSession status → source.after.faults ≡ source.before.faults → mid.faults ≡ old.faults
+pub other_causes : (r : Refusal) (status : Status) (source : PortMove Port) (old mid new : Port) (result : Status) → (status ≡ ends.OutputFault → ⊥) → (status ≡ ends.InputFault → ⊥) → EndsSession status → source.after.faults ≡ source.before.faults → mid.faults ≡ old.faults
     → Delivers (Line r status) (move mid new) result → IsCaused source (move old new) result
 other_causes r status source old mid new result not_output not_input ends_so still calm d =
     line_causes r status source old mid new result not_output so (λ e. absurd (never (line_yields r status result (move mid new) d) e)) (inl still) calm d

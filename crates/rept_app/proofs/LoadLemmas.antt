@@ -3,7 +3,7 @@ use Rattle.std.proofs.Common.{◌≡◌, ℕ, ◌≤◌, List, length, Option, N
 use Rattle.rept_ports.specs.Causes.{Rose, next_count}
 use Rattle.rept_ports.specs.Port.{move}
 use Rattle.rept_ports.specs.Shelves.{Files, Shelved, IsOver}
-use Rattle.rept_app.specs.Loading.{BothLoaded, CoreStopsAt, Fits, LoadRefuses, StopsAt, limit_of}
+use Rattle.rept_app.specs.Loading.{BothLoaded, CoreStopsAt, FileFits, IsLastLoad, LoadRefuses, limit_of}
 use Rattle.rept_words.specs.Words.{CoreNames, Names}
 use Rattle.rept_app.specs.declared.refusal.FileKind.{FileKind}
 use Rattle.rept_app.specs.declared.refusal.FileKind.TheVariants as file
@@ -36,7 +36,7 @@ module _ (old mid new : Shelved) (name : List ℕ) (kind : FileKind) (files : mi
   refuses_before refusal.InputFault h = absurd h
 
 -- the bytes that a shelf gave are those of a file that fits
-fits : (o : Option Files) (kind : FileKind) (name bytes : List ℕ) → length bytes ≤ limit_of kind → IfSome o (λ fs. fs name ≡ Some bytes) → IfSome o (λ fs. Fits fs kind name)
+fits : (o : Option Files) (kind : FileKind) (name bytes : List ℕ) → length bytes ≤ limit_of kind → IfSome o (λ fs. fs name ≡ Some bytes) → IfSome o (λ fs. FileFits fs kind name)
 fits None kind name bytes short h = tt
 fits (Some fs) kind name bytes short h = (bytes, h, short)
 
@@ -52,9 +52,9 @@ three (Some fs) P Q R h k l = (h, k, l)
 pub trace_stops : (a b c d : Shelved) (names : Names) (exe core : List ℕ) (r : Refusal) → b.files ≡ a.files → c.files ≡ b.files → b.faults ≡ a.faults → c.faults ≡ b.faults
     → b.loads ≡ next_count a.loads → c.loads ≡ next_count b.loads → d.loads ≡ next_count c.loads
     → length exe ≤ limit_of file.Exe → IfSome a.files (λ fs. fs names.exe ≡ Some exe) → length core ≤ limit_of file.Core → IfSome b.files (λ fs. fs names.core ≡ Some core)
-    → LoadRefuses (move c d) names.trace file.Trace r → StopsAt (move a d) names file.Trace r
+    → LoadRefuses (move c d) names.trace file.Trace r → IsLastLoad (move a d) names file.Trace r
 trace_stops a b c d names exe core r e f calm calmer one two_ three short here shorter there h = record {
-  before = two a.files (λ fs. Fits fs file.Exe names.exe) (λ fs. Fits fs file.Core names.core) (fits a.files file.Exe names.exe exe short here)
+  before = two a.files (λ fs. FileFits fs file.Exe names.exe) (λ fs. FileFits fs file.Core names.core) (fits a.files file.Exe names.exe exe short here)
       (fits a.files file.Core names.core core shorter (let P : Option Files → Type 0 = λ o. IfSome o (λ fs. fs names.core ≡ Some core) in subst P e there));
   loads = three ∙ ap next_count (two_ ∙ ap next_count one);
   why = refuses_before a c d names.trace file.Trace (f ∙ e) (calmer ∙ calm) r h;
@@ -74,7 +74,7 @@ core_trace_stops a b c names core r e calm one two_ short here h = record {
 pub both_loaded : (a b c : Shelved) (names : CoreNames) (core trace : List ℕ) → b.files ≡ a.files → b.loads ≡ next_count a.loads → c.loads ≡ next_count b.loads
     → length core ≤ limit_of file.Core → IfSome a.files (λ fs. fs names.core ≡ Some core) → length trace ≤ limit_of file.Trace → IfSome b.files (λ fs. fs names.trace ≡ Some trace) → BothLoaded names core (move a c)
 both_loaded a b c names core trace e one two_ short here shorter there = record {
-  found = three a.files (λ fs. fs names.core ≡ Some core) (λ fs. Fits fs file.Core names.core) (λ fs. Fits fs file.Trace names.trace) here (fits a.files file.Core names.core core short here)
+  found = three a.files (λ fs. fs names.core ≡ Some core) (λ fs. FileFits fs file.Core names.core) (λ fs. FileFits fs file.Trace names.trace) here (fits a.files file.Core names.core core short here)
       (fits a.files file.Trace names.trace trace shorter (let P : Option Files → Type 0 = λ o. IfSome o (λ fs. fs names.trace ≡ Some trace) in subst P e there));
   loads = two_ ∙ ap next_count one;
 }

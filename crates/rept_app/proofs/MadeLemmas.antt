@@ -12,7 +12,7 @@ use Rattle.rept_isa.specs.declared.row.StepRow.{StepRow}
 use Rattle.rept_machine.specs.State.{State}
 use Rattle.rept_trace.specs.Stream.{plain}
 use Rattle.rept_path.specs.Code.{words}
-use Rattle.rept_path.specs.Traced.{IsTraced}
+use Rattle.rept_path.specs.Traced.{IsTracedPath}
 use Rattle.rept_path.specs.declared.fault.PathFault.{PathFault}
 use Rattle.rept_path.specs.declared.fault.PathFault.TheVariants as fault
 use Rattle.rept_path.specs.declared.rebuilding.Path.{Path}
@@ -20,9 +20,9 @@ use Rattle.rept_steps.specs.Runs.{course_of, run_of_one}
 use Rattle.rept_steps.specs.declared.run.Run.{Run}
 use Rattle.rept_runs.specs.Kind.{is_several}
 use Rattle.rept_ports.specs.Causes.{OneFault}
-use Rattle.rept_ports.specs.Port.{Port, Move, move}
+use Rattle.rept_ports.specs.Port.{Port, PortMove, move}
 use Rattle.rept_report.specs.Closure.{ClosureHas, IsConsistent}
-use Rattle.rept_report.specs.OneThread.{along}
+use Rattle.rept_report.specs.OneThread.{path_setting}
 use Rattle.rept_report.specs.declared.conflict.ConflictKind.{ConflictKind}
 use Rattle.rept_found.specs.Crash.{Crash, last_value, last_values, path_of, setting}
 use Rattle.rept_found.specs.Truth.{ExecutesPath, HasNoExecutionOfPath}
@@ -31,7 +31,7 @@ use Rattle.rept_make.specs.Laid.{laid}
 use Rattle.rept_make.specs.Made.{IsMade}
 use Rattle.rept_make.specs.declared.made.Made.{Made}
 use Rattle.rept_words.specs.declared.request.Domain.TheVariants as domain
-use Rattle.rept_app.specs.Delivered.{Delivers, Says, SaysOrNoMemory}
+use Rattle.rept_app.specs.Delivered.{Delivers, SaysOrNoMemory, SaysRefusal}
 use Rattle.rept_app.specs.Domains.{means_of}
 use Rattle.rept_app.specs.Ends.{Yields, EndsSession, PortsEnd}
 use Rattle.rept_app.specs.Examine.{Examines, WalkYields, NoteYields, FilesEnd}
@@ -42,7 +42,7 @@ use Rattle.rept_app.specs.Claims.{MadeHolds}
 use Rattle.rept_app.specs.Path.{IsTracePath}
 use Rattle.rept_app.specs.Reading.{NotesSay}
 use Rattle.rept_app.specs.Loading.{CrashBytes}
-use Rattle.rept_app.specs.Told.{CoreSays, CrashTrace, trace_in, NotesTold, Walked, ReadsNotes, Opening, OpensMade, made_bytes, run_at, summary_line}
+use Rattle.rept_app.specs.Told.{CoreSays, CrashTrace, trace_in, NotesTold, WalkedTrace, ReadsNotes, Opening, OpensMade, made_bytes, run_at, summary_line}
 use Rattle.rept_app.specs.TraceRun.{IsRunOf}
 use Rattle.rept_app.specs.True.{IsExecuted}
 use Rattle.rept_app.specs.declared.refusal.Refusal.TheVariants as refusal
@@ -95,7 +95,7 @@ module _ (seed steps : ℕ) (made : Made) (m : IsMade seed steps made) where
   reads_made = record { program_accepted = m.exe_read; core_accepted = m.core_read; noted = says_made }
 
   traced_made : IsTracePath crash_made made.trace 0 (path_along m.rows)
-  traced_made = (record { halves = false; bytes = m.rest }, m.layout, subst (λ (p : ℕ). IsTraced (record { code = words (of_executable made.exe); stream = plain false m.rest; from = 0; pc = p }) 0 m.rows) (sym m.last_pc) m.path)
+  traced_made = (record { halves = false; bytes = m.rest }, m.layout, subst (λ (p : ℕ). IsTracedPath (record { code = words (of_executable made.exe); stream = plain false m.rest; from = 0; pc = p }) 0 m.rows) (sym m.last_pc) m.path)
 
   -- the run of its one thread
   abbrev run_made : Run
@@ -120,7 +120,7 @@ module _ (seed steps : ℕ) (made : Made) (m : IsMade seed steps made) where
   executed_made = (m.rows, refl, states_made, runs_made)
 
   -- so the closure has no conflict
-  consistent_made : ((kind : ConflictKind) → ClosureHas (along (path_of (means_of domain.Ranges) crash_made m.rows)) kind → HasNoExecutionOfPath (path_of (means_of domain.Ranges) crash_made m.rows)) → IsConsistent (setting (means_of domain.Ranges) crash_made (course_of run_made))
+  consistent_made : ((kind : ConflictKind) → ClosureHas (path_setting (path_of (means_of domain.Ranges) crash_made m.rows)) kind → HasNoExecutionOfPath (path_of (means_of domain.Ranges) crash_made m.rows)) → IsConsistent (setting (means_of domain.Ranges) crash_made (course_of run_made))
   consistent_made none kind has = none kind has states_made runs_made
 
   abbrev AfterCore : Status → Option ElfFault → Type 0
@@ -129,7 +129,7 @@ module _ (seed steps : ℕ) (made : Made) (m : IsMade seed steps made) where
   abbrev AfterExe : Status → Option ElfFault → Type 0
   AfterExe status o = MatchOption o (AfterCore status (core_image_fault made.core)) (λ _. Yields ends.Executable status)
 
-  pub session_made : ((kind : ConflictKind) → ClosureHas (along (path_of (means_of domain.Ranges) crash_made m.rows)) kind → HasNoExecutionOfPath (path_of (means_of domain.Ranges) crash_made m.rows)) → (status : Status) → FilesEnd (made_bytes made) status → EndsSession status
+  pub session_made : ((kind : ConflictKind) → ClosureHas (path_setting (path_of (means_of domain.Ranges) crash_made m.rows)) kind → HasNoExecutionOfPath (path_of (means_of domain.Ranges) crash_made m.rows)) → (status : Status) → FilesEnd (made_bytes made) status → EndsSession status
   session_made none status h =
       let notes : (said : Result (List (List ℕ)) CoreFault) → CoreSays (made_bytes made) said → NoteYields (made_bytes made) said status =
       subst (AfterCore status) m.core_read (subst (AfterExe status) m.exe_read h) in
@@ -170,7 +170,7 @@ no_path_status (fault.OtherThread k context) e = cc
 no_path_status fault.OutOfMemory e = cc
 
 module _ (bytes : CrashBytes) (text : List ℕ) where
-  walked_short : (t : CrashTrace) → Walked t summary_line text ends.TooMuchInput → ⊥
+  walked_short : (t : CrashTrace) → WalkedTrace t summary_line text ends.TooMuchInput → ⊥
   walked_short t (inl (f, has, says)) = no_path_status f (sym says.ending)
   walked_short t (inr (run, is, inl (kind, has, says))) = let bad : ends.TooMuchInput ≡ ends.Inconsistent = says.ending in cc
   walked_short t (inr (run, is, inr (a, account, (answered, over, e)))) = let long : 1048576 < 8 = over.long in omega arith
@@ -179,7 +179,7 @@ module _ (bytes : CrashBytes) (text : List ℕ) where
   notes_short (Ok notes, said, h) = walked_short (trace_in bytes notes) h
   notes_short (Err f, said, says) = let bad : ends.TooMuchInput ≡ ends.Core = says.ending in cc
 
-  examined_short : (a b : Option ElfFault) → MatchOption a (MatchOption b (NotesTold bytes summary_line text ends.TooMuchInput) (λ f. Says (refusal.CoreImage f) text ends.TooMuchInput)) (λ f. Says (refusal.Executable f) text ends.TooMuchInput) → ⊥
+  examined_short : (a b : Option ElfFault) → MatchOption a (MatchOption b (NotesTold bytes summary_line text ends.TooMuchInput) (λ f. SaysRefusal (refusal.CoreImage f) text ends.TooMuchInput)) (λ f. SaysRefusal (refusal.Executable f) text ends.TooMuchInput) → ⊥
   examined_short (Some f) b says = let bad : ends.TooMuchInput ≡ ends.Executable = says.ending in cc
   examined_short None (Some f) says = let bad : ends.TooMuchInput ≡ ends.Core = says.ending in cc
   examined_short None None h = notes_short h
@@ -194,7 +194,7 @@ never_failed : OneFault 0 0 → ⊥
 never_failed h = let rose : 1 ≤ 0 = h.rose in omega arith
 
 -- how the call ends, from how the session may end
-pub yields_made : (bytes : CrashBytes) (left : Option (List ℕ)) (out : Move Port) (status : Status) → EndsSession status → (status ≡ ends.InputFault → OneFault 0 0)
+pub yields_made : (bytes : CrashBytes) (left : Option (List ℕ)) (out : PortMove Port) (status : Status) → EndsSession status → (status ≡ ends.InputFault → OneFault 0 0)
     → Delivers (Examines bytes (record { input = summary_line; left = left })) out status → Yields ends.Ok status
 yields_made bytes left out status so input (inr (e, fault, rest)) = inr (inl e)
 yields_made bytes left out status (inl e) input (inl d) = inl e
@@ -204,7 +204,7 @@ yields_made bytes left out status (inr (inr (inl e))) input (inl (text, goes, ap
 yields_made bytes left out status (inr (inr (inr s))) input (inl d) = inr s
 
 -- a call that ends so reads nothing of the input of the program
-pub ports_made : (source : Port) (inner out : Move Port) (status : Status) → Yields ends.Ok status → PortsEnd inner out status → PortsEnd (move source source) out status
+pub ports_made : (source : Port) (inner out : PortMove Port) (status : Status) → Yields ends.Ok status → PortsEnd inner out status → PortsEnd (move source source) out status
 ports_made source inner out status so p = record { input = λ e. absurd (never so e); input_ends = inl refl; output = p.output; output_ends = p.output_ends }
   where
     never : Yields ends.Ok status → status ≡ ends.InputFault → ⊥
@@ -218,12 +218,12 @@ at_bytes P {exe} {exe'} {core} {core'} {trace} {trace'} {input} {input'} e k t i
     subst (λ x. P exe' core' trace' x) i (subst (λ x. P exe' core' x input) t (subst (λ x. P exe' x trace input) k (subst (λ x. P x core trace input) e h)))
 
 -- where there was no memory for the files
-module _ (out : Move Port) (result : Status) (d : Delivers (Says refusal.OutOfMemory) out result) where
+module _ (out : PortMove Port) (result : Status) (d : Delivers (SaysRefusal refusal.OutOfMemory) out result) where
   as_told : Delivers (SaysOrNoMemory refusal.OutOfMemory) out result
-  as_told = delivers_as (Says refusal.OutOfMemory) (SaysOrNoMemory refusal.OutOfMemory) out result (λ text status h. inl h) d
+  as_told = delivers_as (SaysRefusal refusal.OutOfMemory) (SaysOrNoMemory refusal.OutOfMemory) out result (λ text status h. inl h) d
 
   pub memory_sums : (seed steps : ℕ) → Delivers (Sums seed steps) out result
-  memory_sums seed steps = delivers_as (Says refusal.OutOfMemory) (Sums seed steps) out result (λ text status h. inr (inl h)) d
+  memory_sums seed steps = delivers_as (SaysRefusal refusal.OutOfMemory) (Sums seed steps) out result (λ text status h. inr (inl h)) d
 
   pub memory_yields : Yields ends.Ok result
   memory_yields = stop (ends_told refusal.OutOfMemory out result as_told)

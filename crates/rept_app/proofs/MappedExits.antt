@@ -4,9 +4,9 @@ use Rattle.rept_maps.specs.Views.{desc_of}
 use Rattle.rept_maps.specs.declared.fault.MapFault.{MapFault}
 use Rattle.rept_mapped.specs.Mapped.{Mapping}
 use Rattle.rept_mapfiles.specs.Kept.{asked_names, loads_after}
-use Rattle.rept_ports.specs.Port.{Port, Move, move}
+use Rattle.rept_ports.specs.Port.{Port, PortMove, move}
 use Rattle.rept_ports.specs.Shelves.{Files, Shelved}
-use Rattle.rept_app.specs.Delivered.{Delivers, Says, SaysOrNoMemory}
+use Rattle.rept_app.specs.Delivered.{Delivers, SaysOrNoMemory, SaysRefusal}
 use Rattle.rept_app.specs.Ends.{EndsSession, Stopped, Yields}
 use Rattle.rept_app.specs.Examine.{Examines, FilesEnd, FilesExclude, FilesHold, IsExamined}
 use Rattle.rept_app.specs.Forms.{core_image_fault}
@@ -26,20 +26,20 @@ use Rattle.rept_app.proofs.MadeLemmas.{memory_ports}
 use Rattle.rept_app.proofs.MappedLemmas.{Ended, calm_move, core_ends, core_not_loading, ended_move, examined_so, files_excluded, files_held, files_written, idle_move, image_written, image_yields, list_ends, list_written, list_yields, memory_stopped, name_ports, name_told, name_written, named_so, named_yields, never_loading, stopped_move, stopped_so, stopped_yields, where_both, where_files}
 
 -- so many loads of the names of a list
-pub are_asked : (core desc : List ℕ) (asked : Move ℕ) (status : Status) (count : ℕ) → ListSays core (Ok desc) → count ≤ length (asked_names desc) → asked.after ≡ loads_after count asked.before
+pub are_asked : (core desc : List ℕ) (asked : PortMove ℕ) (status : Status) (count : ℕ) → ListSays core (Ok desc) → count ≤ length (asked_names desc) → asked.after ≡ loads_after count asked.before
     → (count ≡ length (asked_names desc)) ⊎ (status ≡ ends.LoadFault) ⊎ Stopped status → NamesLoaded core asked status
 are_asked core desc asked status count listed within loads all = inr (desc, listed, record { count = count; within = within; loads = loads; all = all })
 
 -- all files of the list were asked for
-pub loaded_all : (core : List ℕ) (shelf : Move Shelved) (l : ListedFiles) (status : Status) → AreLoaded core shelf l → NamesLoaded core (move shelf.before.loads shelf.after.loads) status
+pub loaded_all : (core : List ℕ) (shelf : PortMove Shelved) (l : ListedFiles) (status : Status) → AreLoaded core shelf l → NamesLoaded core (move shelf.before.loads shelf.after.loads) status
 loaded_all core shelf l status is =
     are_asked core (desc_of l.maps) (move shelf.before.loads shelf.after.loads) status (length (asked_names (desc_of l.maps))) is.listed (omega arith) is.loads (inl refl)
 
 -- there was no memory
-module _ (c : CoreBytes) (old new : Shelved) (source : Port) (out : Move Port) (status : Status) (d : Delivers (Says refusal.OutOfMemory) out status) where
+module _ (c : CoreBytes) (old new : Shelved) (source : Port) (out : PortMove Port) (status : Status) (d : Delivers (SaysRefusal refusal.OutOfMemory) out status) where
   pub memory_written : (left : Option (List ℕ)) → IfSome old.files (λ told. IfSome source.bytes (λ input. Delivers (ExaminesMapped (mapped_call (mapped_crash told c) (move old.loads new.loads) (record { input = input; left = left }))) out status))
   memory_written left = where_both old.files source.bytes _ (λ told input.
-      delivers_as (Says refusal.OutOfMemory) (ExaminesMapped (mapped_call (mapped_crash told c) (move old.loads new.loads) (record { input = input; left = left }))) out status (λ text s says. inr (inl says)) d)
+      delivers_as (SaysRefusal refusal.OutOfMemory) (ExaminesMapped (mapped_call (mapped_crash told c) (move old.loads new.loads) (record { input = input; left = left }))) out status (λ text s says. inr (inl says)) d)
 
   pub memory_causes : new.files ≡ old.files → old.faults ≤ new.faults → IfSome old.files (λ _. new.faults ≤ old.faults + 1) → (Stopped status → NamesLoaded c.core (move old.loads new.loads) status)
       → IsExaminedMapped c (port_moves (move old new) (move source source) out) status
@@ -61,7 +61,7 @@ module _ (c : CoreBytes) (old new : Shelved) (source : Port) (out : Move Port) (
       never (inr h) = let bad : ends.OutOfMemory ≡ ends.Inconsistent = sym h ∙ e in let no : ⊥ = cc in absurd no
 
 -- the load of a name failed
-module _ (c : CoreBytes) (old new : Shelved) (source : Port) (out : Move Port) (status : Status) (name : List ℕ) (d : Delivers (TellsName name) out status) where
+module _ (c : CoreBytes) (old new : Shelved) (source : Port) (out : PortMove Port) (status : Status) (name : List ℕ) (d : Delivers (TellsName name) out status) where
   pub name_impossible : {P : Type 0} → status ≡ ends.Inconsistent → P
   name_impossible {P} e = never (name_told name out status d)
     where
@@ -90,15 +90,15 @@ module _ (c : CoreBytes) (old new : Shelved) (source : Port) (out : Move Port) (
         }
 
 -- the core file or its list is refused, or there was no memory for it
-module _ (c : CoreBytes) (old new : Shelved) (source : Port) (out : Move Port) (status : Status) (r : Refusal) (why : HasNoFiles c.core (move old new) (stops.Refused r)) (d : Delivers (SaysOrNoMemory r) out status) where
+module _ (c : CoreBytes) (old new : Shelved) (source : Port) (out : PortMove Port) (status : Status) (r : Refusal) (why : HasNoFiles c.core (move old new) (stops.Refused r)) (d : Delivers (SaysOrNoMemory r) out status) where
   -- what is written of a refusal is that of the same one
   told_as : (other : Refusal) → r ≡ other → Delivers (SaysOrNoMemory other) out status
   told_as other is = subst (λ (x : Refusal). Delivers (SaysOrNoMemory x) out status) is d
 
-  no_memory : r ≡ refusal.OutOfMemory → Delivers (Says refusal.OutOfMemory) out status
-  no_memory is = delivers_as (SaysOrNoMemory refusal.OutOfMemory) (Says refusal.OutOfMemory) out status (λ text s told. alike text s told) (told_as refusal.OutOfMemory is)
+  no_memory : r ≡ refusal.OutOfMemory → Delivers (SaysRefusal refusal.OutOfMemory) out status
+  no_memory is = delivers_as (SaysOrNoMemory refusal.OutOfMemory) (SaysRefusal refusal.OutOfMemory) out status (λ text s told. alike text s told) (told_as refusal.OutOfMemory is)
     where
-      alike : (text : List ℕ) (s : Status) → SaysOrNoMemory refusal.OutOfMemory text s → Says refusal.OutOfMemory text s
+      alike : (text : List ℕ) (s : Status) → SaysOrNoMemory refusal.OutOfMemory text s → SaysRefusal refusal.OutOfMemory text s
       alike text s (inl says) = says
       alike text s (inr says) = says
 
@@ -168,7 +168,7 @@ module _ (c : CoreBytes) (old new : Shelved) (source : Port) (out : Move Port) (
       by (inr (is, cut)) = memory_impossible c old new source out status (no_memory is) e
 
 -- all that are there were loaded, and the files are examined
-module _ (c : CoreBytes) (old new : Shelved) (source out : Move Port) (status : Status) (desc : List ℕ) (ms : List Mapping) (program : IfSome old.files (λ files. ms ≡ mapped_files files desc)) (accepted : core_image_fault c.core ≡ None) (listed : ListSays c.core (Ok desc)) where
+module _ (c : CoreBytes) (old new : Shelved) (source out : PortMove Port) (status : Status) (desc : List ℕ) (ms : List Mapping) (program : IfSome old.files (λ files. ms ≡ mapped_files files desc)) (accepted : core_image_fault c.core ≡ None) (listed : ListSays c.core (Ok desc)) where
   program_at : (files : Files) → old.files ≡ Some files → ms ≡ mapped_files files desc
   program_at files told = let P : Option Files → Type 0 = λ o. IfSome o (λ fs. ms ≡ mapped_files fs desc) in subst P told program
 

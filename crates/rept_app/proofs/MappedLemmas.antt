@@ -18,10 +18,10 @@ use Rattle.rept_maps.specs.FileMap.{entry_at, entry_named}
 use Rattle.rept_mapped.specs.Mapped.{Mapping, mapping_by, mappings, mappings_from}
 use Rattle.rept_mapfiles.specs.Kept.{as_image, asked_names, image_at, is_image, kept_all, kept_at, kept_by, kept_in, loads_after, most_bytes, most_in_all, names_of, place_in, taken}
 use Rattle.rept_ports.specs.Causes.{Rose, OneFault}
-use Rattle.rept_ports.specs.Port.{Port, Move, move}
+use Rattle.rept_ports.specs.Port.{Port, PortMove, move}
 use Rattle.rept_ports.specs.Shelves.{Files, Shelved}
 use Rattle.rept_runs.specs.Kind.{is_several}
-use Rattle.rept_app.specs.Delivered.{Delivers, Says, SaysOrNoMemory}
+use Rattle.rept_app.specs.Delivered.{Delivers, SaysOrNoMemory, SaysRefusal}
 use Rattle.rept_app.specs.Ends.{FaultEnds, PortsEnd, Stopped, Yields}
 use Rattle.rept_app.specs.Examine.{Examines, FilesExclude, FilesHold, IsWalkStatus}
 use Rattle.rept_app.specs.Forms.{core_image_fault, crash_in}
@@ -94,17 +94,17 @@ stopped_fails : (status : Status) → Stopped status → status ≡ ends.LoadFau
 stopped_fails status s e = not_load_fault status (all_walks status (inr s)) e
 
 -- where there was no memory
-pub memory_stopped : (out : Move Port) (status : Status) → Delivers (Says refusal.OutOfMemory) out status → Stopped status
+pub memory_stopped : (out : PortMove Port) (status : Status) → Delivers (SaysRefusal refusal.OutOfMemory) out status → Stopped status
 memory_stopped out status (inl (text, says, written, calm)) = inr says.ending
 memory_stopped out status (inr (e, fault, whole)) = inl e
 
 -- the line of a name
-pub name_told : (name : List ℕ) (out : Move Port) (status : Status) → Delivers (TellsName name) out status → (status ≡ ends.LoadFault) ⊎ Stopped status
+pub name_told : (name : List ℕ) (out : PortMove Port) (status : Status) → Delivers (TellsName name) out status → (status ≡ ends.LoadFault) ⊎ Stopped status
 name_told name out status (inl (text, inl h, written, calm)) = inl h.1
 name_told name out status (inl (text, inr says, written, calm)) = inr (inr says.ending)
 name_told name out status (inr (e, fault, whole)) = inr (inl e)
 
-pub name_ports : (name : List ℕ) (source : Port) (out : Move Port) (status : Status) → Delivers (TellsName name) out status → PortsEnd (move source source) out status
+pub name_ports : (name : List ℕ) (source : Port) (out : PortMove Port) (status : Status) → Delivers (TellsName name) out status → PortsEnd (move source source) out status
 name_ports name source out status d = record {
   input = λ e. absurd (unread (name_told name out status d) e);
   input_ends = inl refl;
@@ -208,8 +208,8 @@ list_yields o c status f accepted only so = where_files o (λ files. MappedEnd (
 module _ (c : MappedCall) (text : List ℕ) (status : Status) where
   abbrev Whole : Option ElfFault → Type 0
   Whole o = MatchOption o
-      ((said : Result (List ℕ) MapFault) × ListSays c.crash.bytes.core said × MatchResult said (λ desc. Examined (mapped_bytes c.crash desc) c.reading.input text status) (λ fault. Says (refusal.Maps fault) text status))
-      (λ fault. Says (refusal.CoreImage fault) text status)
+      ((said : Result (List ℕ) MapFault) × ListSays c.crash.bytes.core said × MatchResult said (λ desc. Examined (mapped_bytes c.crash desc) c.reading.input text status) (λ fault. SaysRefusal (refusal.Maps fault) text status))
+      (λ fault. SaysRefusal (refusal.CoreImage fault) text status)
 
   pub image_written : (f : ElfFault) → Some f ≡ core_image_fault c.crash.bytes.core → SaysOrNoMemory (refusal.CoreImage f) text status → ExaminesMapped c text status
   image_written f e (inl says) = inl (subst Whole e says)

@@ -1,7 +1,7 @@
 -- How the top call ends on words that ask for mapped files, from how its parts end.
 use Rattle.std.proofs.Common.{◌≡◌, ◌⊎◌, ℕ, ◌≤◌, List, Option, None, Some, IfSome, MatchOption, Result, Ok, IfOk, inl, inr, refl, sym, subst, ◌∙◌, arith}
 use Rattle.rept_ports.specs.Causes.{Rose, OneFault}
-use Rattle.rept_ports.specs.Port.{Port, Move, move}
+use Rattle.rept_ports.specs.Port.{Port, PortMove, move}
 use Rattle.rept_ports.specs.Shelves.{Files, Shelved}
 use Rattle.rept_serve.specs.Serving.{Reading}
 use Rattle.rept_app.specs.Ends.{EndsSession, FaultEnds, Stopped}
@@ -81,7 +81,7 @@ no_walk_usage (inr (inr (inr (inr (inr (inl h)))))) = cc
 no_walk_usage (inr (inr (inr (inr (inr (inr h)))))) = cc
 
 -- the ports
-module _ (old mid new : Shelved) (c : CoreBytes) (source sink : Move Port) (status : Status) (files : mid.files ≡ old.files) (calm : mid.faults ≡ old.faults) (is : IsExaminedMapped c (port_moves (move mid new) source sink) status) where
+module _ (old mid new : Shelved) (c : CoreBytes) (source sink : PortMove Port) (status : Status) (files : mid.files ≡ old.files) (calm : mid.faults ≡ old.faults) (is : IsExaminedMapped c (port_moves (move mid new) source sink) status) where
   rose : Rose mid.faults new.faults → Rose old.faults new.faults
   rose h = subst (λ n. Rose n new.faults) calm h
 
@@ -161,7 +161,7 @@ module _ (words : List (List ℕ)) (files : Files) (c : CoreBytes) (at : loading
   pub mapped_excludes : MappedExcludes (mapped_crash files c) → NoExecution words files
   mapped_excludes none o opens = none o.bytes (subst (λ (l : Loading). IsCrashOf files l o.bytes) at opens.loaded) o.notes opens.read o.run opens.told
 
-  module _ (shelf : Move Shelved) (asked_before : ℕ) (reading : Reading) (text : List ℕ) (status : Status) (loads : asked_before ≡ core_loads_to file.Trace shelf.before.loads) where
+  module _ (shelf : PortMove Shelved) (asked_before : ℕ) (reading : Reading) (text : List ℕ) (status : Status) (loads : asked_before ≡ core_loads_to file.Trace shelf.before.loads) where
     abbrev Here : CallInput
     Here = call_input words files shelf reading
 

@@ -6,12 +6,12 @@ use Rattle.std.proofs.lemmas.Bool.{cases_lt, lt-ltb, le-ltb, true≢false}
 use Rattle.rept_elf.specs.Segments.{ElfSegment, segments}
 use Rattle.rept_notes.specs.Notes.{Note}
 use Rattle.rept_dump.specs.Dump.{registers_of, threads_of, AreRead, AreReadOfAll}
-use Rattle.rept_dump.specs.Registers.{is_status, all_registers, by_size, by_count, by_twin, first_short, first_twin, descs_of, pid_of, most_threads, Says, SaysOfAll}
+use Rattle.rept_dump.specs.Registers.{is_status, all_registers, by_size, by_count, by_twin, first_short, first_twin, descs_of, pid_of, most_threads, SaysRegisters, SaysOfAll}
 use Rattle.rept_dump.specs.declared.dump.Dump.{Dump}
 use Rattle.rept_dump.specs.declared.fault.CoreFault.{CoreFault}
 use Rattle.rept_dump.specs.declared.fault.CoreFault.TheVariants.{TooManyThreads}
 use Rattle.rept_dump.proofs.NoteLemmas.{all_said_once}
-use Rattle.rept_runs.specs.Told.{AreApart}
+use Rattle.rept_runs.specs.Told.{AreNotesApart}
 use Rattle.rept_app.specs.Reading.{AreNotesOf, HasNotes, NotesSay, SaysOfOne}
 
 abbrev pub all_ok : List (List ℕ) → Result (List (List ℕ)) CoreFault
@@ -49,7 +49,7 @@ apart_by_twin descs ds None e h = (same_descs descs ds h, e)
 -- they are those that were found, of few threads, no two of one process
 record AreFound (descs ds : List (List ℕ)) : Type 0 where
   same : descs ≡ ds
-  apart : AreApart ds
+  apart : AreNotesApart ds
 
 found_by_count : (descs ds : List (List ℕ)) → all_ok descs ≡ by_count ds → AreFound descs ds
 found_by_count descs ds h =
@@ -71,7 +71,7 @@ found_by_size descs ds None h = found_by_count descs ds h
 -- there are some
 record AreSome (descs : List (List ℕ)) : Type 0 where
   some : 0 < length descs
-  apart : AreApart descs
+  apart : AreNotesApart descs
 
 some_of : (descs : List (List ℕ)) (statuses : List Note) → all_ok descs ≡ all_registers statuses → AreSome descs
 some_of descs [] h = let no : ⊥ = cc in absurd no
@@ -83,7 +83,7 @@ all_some : (size : ℕ) (ss : List ElfSegment) (descs : List (List ℕ)) → Say
 all_some size ss descs (inl cut) = let no : ⊥ = cc in absurd no
 all_some size ss descs (inr whole) = some_of descs (filter is_status whole.0) whole.2
 
-one_apart : (note : List ℕ) → AreApart (note ∷ [])
+one_apart : (note : List ℕ) → AreNotesApart (note ∷ [])
 one_apart note = record { few = omega arith; apart = refl }
 
 -- notes that are said are some
@@ -111,11 +111,11 @@ module _ (core : List ℕ) where
   abbrev Here : Result (List (List ℕ)) CoreFault → Type 0
   Here said = SaysOfOne (length core) (segments core) said
 
-  only_one : (note : List ℕ) → ((said : Result (List ℕ) CoreFault) → Says (length core) (segments core) said → said ≡ one_ok note) → (said : Result (List (List ℕ)) CoreFault) → Here said → said ≡ all_ok (note ∷ [])
+  only_one : (note : List ℕ) → ((said : Result (List ℕ) CoreFault) → SaysRegisters (length core) (segments core) said → said ≡ one_ok note) → (said : Result (List (List ℕ)) CoreFault) → Here said → said ≡ all_ok (note ∷ [])
   only_one note only (Ok other) (n, says, e) = ap all_ok (e ∙ ap (λ (x : List ℕ). x ∷ []) (same_note n note (only (one_ok n) says)))
   only_one note only (Err f) says = absurd (note_or_fault note f (sym (only (one_err f) says)))
 
-  only_fault : (fault : CoreFault) → ((said : Result (List ℕ) CoreFault) → Says (length core) (segments core) said → said ≡ one_err fault) → (said : Result (List (List ℕ)) CoreFault) → Here said → said ≡ all_err fault
+  only_fault : (fault : CoreFault) → ((said : Result (List ℕ) CoreFault) → SaysRegisters (length core) (segments core) said → said ≡ one_err fault) → (said : Result (List (List ℕ)) CoreFault) → Here said → said ≡ all_err fault
   only_fault fault only (Ok other) (n, says, e) = absurd (note_or_fault n fault (only (one_ok n) says))
   only_fault fault only (Err f) says = ap all_err (same_fault f fault (only (one_err f) says))
 

@@ -4,7 +4,7 @@ use Rattle.rept_isa.specs.declared.row.StepRow.{StepRow}
 use Rattle.rept_trace.specs.Header.{one_stream, IsHeaderFault}
 use Rattle.rept_trace.proofs.HeaderLemmas.{same_halves}
 use Rattle.rept_trace.specs.declared.fault.TraceFault.{TraceFault}
-use Rattle.rept_path.specs.Traced.{IsTraced, IsUntraced}
+use Rattle.rept_path.specs.Traced.{IsTracedPath, IsUntraced}
 use Rattle.rept_path.specs.declared.fault.PathFault.{PathFault}
 use Rattle.rept_path.specs.declared.fault.PathFault.TheVariants.{OutOfMemory}
 use Rattle.rept_path.specs.declared.rebuilding.Path.{Path}
@@ -28,8 +28,8 @@ module _ (crash : Crash) (trace : List ℕ) (from : ℕ) (file : TraceFile) (par
           let bytes : other.bytes ≡ file.bytes = cc in
           same_file other file (same_halves other.halves file.halves halves) bytes
 
-  pub traced_after : (path : Path) → IsTracePath crash trace from path → IsTraced (raw_run_of crash file from) path.skipped path.steps
-  traced_after path (other, e, h) = subst (λ (f : TraceFile). IsTraced (raw_run_of crash f from) path.skipped path.steps) (same_rest other e) h
+  pub traced_after : (path : Path) → IsTracePath crash trace from path → IsTracedPath (raw_run_of crash file from) path.skipped path.steps
+  traced_after path (other, e, h) = subst (λ (f : TraceFile). IsTracedPath (raw_run_of crash f from) path.skipped path.steps) (same_rest other e) h
 
   pub untraced_after : ((refused : TraceFault) → IsHeaderFault one_stream trace refused → ⊥) → (f : PathFault) → HasNoPath crash trace from f → IsUntraced (raw_run_of crash file from) 0 f
   untraced_after fine f (inl (refused, h, e)) = absurd (fine refused h)

@@ -1,13 +1,13 @@
 -- The promise of the whole program, from what is written, what the files say, and what is true of every report.
 use Rattle.std.proofs.Common.{◌≡◌, ◌⊎◌, ℕ, List, [], length, Bool, true, false, Option, None, Some, MatchOption, Result, Ok, Err, MatchResult, inl, inr, refl, sym, subst, ◌∙◌, cond, nat_lt}
 use Rattle.std.specs.Io.KnownBytes.{Appends}
-use Rattle.rept_ports.specs.Port.{Port, Move}
+use Rattle.rept_ports.specs.Port.{Port, PortMove}
 use Rattle.rept_ports.specs.Shelves.{Files}
 use Rattle.rept_elf.specs.declared.fault.ElfFault.{ElfFault}
 use Rattle.rept_maps.specs.declared.fault.MapFault.{MapFault}
 use Rattle.rept_path.specs.declared.fault.PathFault.{PathFault}
 use Rattle.rept_path.specs.declared.fault.PathFault.TheVariants as fault
-use Rattle.rept_app.specs.Delivered.{Delivers, Says}
+use Rattle.rept_app.specs.Delivered.{Delivers, SaysRefusal}
 use Rattle.rept_app.specs.Ends.{Yields}
 use Rattle.rept_app.specs.Forms.{program_fault, core_image_fault}
 use Rattle.rept_app.specs.Lines.{status_of, status_of_path}
@@ -16,7 +16,7 @@ use Rattle.rept_app.specs.Loading.Loading.{Refused, Loaded, LoadedCore, MadeRun}
 use Rattle.rept_app.specs.Mapped.{mapped_crash, mapped_bytes, ListSays}
 use Rattle.rept_app.specs.Claims.{NoExecution}
 use Rattle.rept_app.specs.Promise.{IsOpened, IsAnswered, IsImpossible, Promise}
-use Rattle.rept_app.specs.Told.{CallInput, Opening, ReadsNotes, Analysed, Walked, NotesTold, Examined, CallTold, ToldOf, IsCrashOf, CallWrites, crash_at, domain_at, run_at, trace_in, made_bytes, summary_line}
+use Rattle.rept_app.specs.Told.{CallInput, Opening, ReadsNotes, Analysed, WalkedTrace, NotesTold, Examined, CallTold, ToldOf, IsCrashOf, CallWrites, crash_at, domain_at, run_at, trace_in, made_bytes, summary_line}
 use Rattle.rept_app.specs.TraceRun.{IsRunOf}
 use Rattle.rept_app.specs.Top.{EndsAt, EndsByFiles}
 use Rattle.rept_app.specs.declared.refusal.FileKind.{FileKind}
@@ -132,7 +132,7 @@ module _ (lines text : List ℕ) (status : Status) (promised : (status ≡ ends.
   no_core e = never ends.Core (λ (k : ends.Core ≡ ends.Ok). cc) (λ (k : ends.Core ≡ ends.Inconsistent). cc) e
 
   module _ (bytes : CrashBytes) where
-    walked : (notes : List (List ℕ)) → ReadsNotes bytes notes → Walked (trace_in bytes notes) lines text status → Analyses bytes lines text status
+    walked : (notes : List (List ℕ)) → ReadsNotes bytes notes → WalkedTrace (trace_in bytes notes) lines text status → Analyses bytes lines text status
     walked notes read (inl (f, has, says)) = no_path f says.ending
     walked notes read (inr (run, is, analysed)) = record { opening = record { bytes = bytes; notes = notes; run = run }; same = refl; read = read; told = is; analysed = analysed }
 
@@ -140,12 +140,12 @@ module _ (lines text : List ℕ) (status : Status) (promised : (status ≡ ends.
     noted exe core (Ok notes, said, h) = walked notes (record { program_accepted = exe; core_accepted = core; noted = said }) h
     noted exe core (Err f, said, says) = no_core says.ending
 
-    core_read : (o : Option ElfFault) → core_image_fault bytes.core ≡ o → program_fault bytes.program ≡ None → MatchOption o (NotesTold bytes lines text status) (λ f. Says (refusal.CoreImage f) text status) → Analyses bytes lines text status
+    core_read : (o : Option ElfFault) → core_image_fault bytes.core ≡ o → program_fault bytes.program ≡ None → MatchOption o (NotesTold bytes lines text status) (λ f. SaysRefusal (refusal.CoreImage f) text status) → Analyses bytes lines text status
     core_read None core exe h = noted exe core h
     core_read (Some f) core exe says = no_core says.ending
 
     exe_read : (o : Option ElfFault) → program_fault bytes.program ≡ o
-        → MatchOption o (MatchOption (core_image_fault bytes.core) (NotesTold bytes lines text status) (λ f. Says (refusal.CoreImage f) text status)) (λ f. Says (refusal.Executable f) text status)
+        → MatchOption o (MatchOption (core_image_fault bytes.core) (NotesTold bytes lines text status) (λ f. SaysRefusal (refusal.CoreImage f) text status)) (λ f. SaysRefusal (refusal.Executable f) text status)
         → Analyses bytes lines text status
     exe_read None exe h = core_read (core_image_fault bytes.core) refl exe h
     exe_read (Some f) exe says = never ends.Executable (λ (k : ends.Executable ≡ ends.Ok). cc) (λ (k : ends.Executable ≡ ends.Inconsistent). cc) says.ending
@@ -181,13 +181,13 @@ module _ (g : CallInput) (text : List ℕ) (status : Status) (promised : (status
   never_core e = no_core [] text status promised e
 
   listed : (bytes : CoreBytes) → loading g.words g.files ≡ LoadedCore bytes → core_image_fault bytes.core ≡ None → (said : Result (List ℕ) MapFault) → ListSays bytes.core said
-      → MatchResult said (λ desc. Examined (mapped_bytes (mapped_crash g.files bytes) desc) g.reading.input text status) (λ fault. Says (refusal.Maps fault) text status) → IsOf g text status
+      → MatchResult said (λ desc. Examined (mapped_bytes (mapped_crash g.files bytes) desc) g.reading.input text status) (λ fault. SaysRefusal (refusal.Maps fault) text status) → IsOf g text status
   listed bytes e ok (Ok desc) says h =
       examined_of (LoadedCore bytes) (mapped_bytes (mapped_crash g.files bytes) desc) e (record { accepted = ok; desc = desc; listed = says; same = refl }) h
   listed bytes e ok (Err fault) says h = never_core h.ending
 
   mapped : (bytes : CoreBytes) → loading g.words g.files ≡ LoadedCore bytes → (o : Option ElfFault) → core_image_fault bytes.core ≡ o
-      → MatchOption o ((said : Result (List ℕ) MapFault) × ListSays bytes.core said × MatchResult said (λ desc. Examined (mapped_bytes (mapped_crash g.files bytes) desc) g.reading.input text status) (λ fault. Says (refusal.Maps fault) text status)) (λ fault. Says (refusal.CoreImage fault) text status)
+      → MatchOption o ((said : Result (List ℕ) MapFault) × ListSays bytes.core said × MatchResult said (λ desc. Examined (mapped_bytes (mapped_crash g.files bytes) desc) g.reading.input text status) (λ fault. SaysRefusal (refusal.Maps fault) text status)) (λ fault. SaysRefusal (refusal.CoreImage fault) text status)
       → IsOf g text status
   mapped bytes e None ok (said, says, h) = listed bytes e ok said says h
   mapped bytes e (Some fault) ok h = never_core h.ending
@@ -204,10 +204,10 @@ module _ (g : CallInput) (text : List ℕ) (status : Status) (promised : (status
   told_of_run h = by_loading (loading g.words g.files) refl h
 
 -- a call that was cut short ends with neither status
-no_memory_ok : {P : Type 0} (text : List ℕ) → Says refusal.OutOfMemory text ends.Ok → P
+no_memory_ok : {P : Type 0} (text : List ℕ) → SaysRefusal refusal.OutOfMemory text ends.Ok → P
 no_memory_ok text says = let bad : ends.Ok ≡ ends.OutOfMemory = says.ending in let no : ⊥ = cc in absurd no
 
-no_memory_conflict : {P : Type 0} (text : List ℕ) → Says refusal.OutOfMemory text ends.Inconsistent → P
+no_memory_conflict : {P : Type 0} (text : List ℕ) → SaysRefusal refusal.OutOfMemory text ends.Inconsistent → P
 no_memory_conflict text says = let bad : ends.Inconsistent ≡ ends.OutOfMemory = says.ending in let no : ⊥ = cc in absurd no
 
 whole_ok : (g : CallInput) (text : List ℕ) → CallWrites g text ends.Ok → IsOf g text ends.Ok
@@ -224,7 +224,7 @@ whole_conflict g text (inr (inr (inl says))) = no_memory_conflict text says
 whole_conflict g text (inr (inr (inr (inl (o, a, opens, is, cut))))) = absurd cut
 whole_conflict g text (inr (inr (inr (inr (seed, steps, asked, (made, m, o, opens, a, is, left, cut)))))) = absurd cut
 
-module _ (true_of : ReportsAreTrue) (g : CallInput) (out : Move Port) where
+module _ (true_of : ReportsAreTrue) (g : CallInput) (out : PortMove Port) where
   whole_of : (o : Opening) (lines : List ℕ) → IsOpened g o lines → IsWhole (crash_at o) o.run
   whole_of o lines (inl (opens, same)) = opened_whole o opens.read opens.told
   whole_of o lines (inr (seed, steps, made, asked, is, opens, same)) = opened_whole o opens.read opens.told

@@ -5,7 +5,7 @@ use Rattle.std.proofs.lemmas.List.{length-map}
 use Rattle.rept_dump.specs.Dump.{registers_of, threads_of}
 use Rattle.rept_dump.specs.declared.dump.Dump.{Dump}
 use Rattle.rept_isa.specs.declared.row.StepRow.{StepRow}
-use Rattle.rept_steps.specs.Course.{IsSound}
+use Rattle.rept_steps.specs.Course.{IsSoundCourse}
 use Rattle.rept_steps.specs.Runs.{course_of, run_of_one}
 use Rattle.rept_steps.specs.declared.run.Run.{Run}
 use Rattle.rept_path.specs.declared.fault.PathFault.{PathFault}
@@ -157,7 +157,7 @@ pub traced_threads : (t : Traced) (run : Run) → IsTracedRun t run → length r
 traced_threads t run is = thread_each (traces (files_in t is.0) is.2.0) run is.2.2 ∙ length-map t.notes note_in
 
 module _ (dump : Dump) where
-  pub fits_streams : (notes : List (List ℕ)) (t : Traced) (run : Run) → AreNotesOf dump notes → t.notes ≡ notes → IsTracedRun t run → IsSound (course_of run) → IsSmall (course_of run) → FitsDump dump run
+  pub fits_streams : (notes : List (List ℕ)) (t : Traced) (run : Run) → AreNotesOf dump notes → t.notes ≡ notes → IsTracedRun t run → IsSoundCourse (course_of run) → IsSmall (course_of run) → FitsDump dump run
   fits_streams notes t run are same is sound small =
       let count = are.count in
       let each = traced_threads t run is in
@@ -165,18 +165,18 @@ module _ (dump : Dump) where
       let some = some_first notes (registers_of dump) are.first in
       record { sound = sound; small = small; threads = omega (arith, count, each, its); some = omega (arith, count, each, its, some) }
 
-  pub fits_result : (notes : List (List ℕ)) (t : Traced) → AreNotesOf dump notes → (r : Result Run PathFault) → IfOk r (IsTracedRun t) → IfOk r (λ run. IsSound (course_of run)) → IfOk r (λ run. IsSmall (course_of run)) → t.notes ≡ notes → IfOk r (FitsDump dump)
+  pub fits_result : (notes : List (List ℕ)) (t : Traced) → AreNotesOf dump notes → (r : Result Run PathFault) → IfOk r (IsTracedRun t) → IfOk r (λ run. IsSoundCourse (course_of run)) → IfOk r (λ run. IsSmall (course_of run)) → t.notes ≡ notes → IfOk r (FitsDump dump)
   fits_result notes t are (Ok run) is sound small same = fits_streams notes t run are same is sound small
   fits_result notes t are (Err e) is sound small same = tt
 
-  pub fits_path : (rows : List StepRow) (skipped : ℕ) (run : Run) → threads_of dump ≡ 1 → length rows ≤ 65536 → run ≡ run_of_one rows skipped → IsSound (course_of run) → FitsDump dump run
+  pub fits_path : (rows : List StepRow) (skipped : ℕ) (run : Run) → threads_of dump ≡ 1 → length rows ≤ 65536 → run ≡ run_of_one rows skipped → IsSoundCourse (course_of run) → FitsDump dump run
   fits_path rows skipped run one few same sound =
-      subst (λ (r : Run). IsSound (course_of r) → FitsDump dump r) (sym same)
+      subst (λ (r : Run). IsSoundCourse (course_of r) → FitsDump dump r) (sym same)
       (λ its. record { sound = its; small = record { rows = omega (arith, few); threads = omega arith }; threads = one; some = omega arith }) sound
 
 -- what the trace of a crash tells is a sound run of some threads
 pub record IsWhole (crash : Crash) (run : Run) : Type 0 where
-  pub sound : IsSound (course_of run)
+  pub sound : IsSoundCourse (course_of run)
   pub some : 0 < length run.threads
   pub noted : 0 < length crash.notes
 

@@ -2,7 +2,7 @@
 use Rattle.std.proofs.Common.{◌≡◌, ◌⊎◌, ℕ, ◌≤◌, List, length, inl, inr, refl, sym, subst, arith}
 use Rattle.rept_dump.specs.declared.dump.Dump.{Dump}
 use Rattle.rept_isa.specs.declared.row.StepRow.{StepRow}
-use Rattle.rept_steps.specs.Course.{Course, IsSound}
+use Rattle.rept_steps.specs.Course.{Course, IsSoundCourse}
 use Rattle.rept_steps.specs.Runs.{course_of}
 use Rattle.rept_steps.specs.declared.run.Run.{Run}
 use Rattle.rept_moments.specs.Courses.{IsCourseOf}
@@ -10,9 +10,9 @@ use Rattle.rept_moments.specs.Points.{points_in}
 use Rattle.rept_timeline.specs.Small.{IsSmall}
 use Rattle.rept_timeline.proofs.Counting.{all_points}
 use Rattle.rept_moments.specs.declared.course.Course as courses
-use Rattle.rept_ports.specs.Port.{Port, Move, move}
+use Rattle.rept_ports.specs.Port.{Port, PortMove, move}
 use Rattle.rept_report.specs.Closure.{ClosureHas, IsConsistent}
-use Rattle.rept_report.specs.OneThread.{along}
+use Rattle.rept_report.specs.OneThread.{path_setting}
 use Rattle.rept_report.specs.Setting.{Setting}
 use Rattle.rept_report.specs.declared.conflict.ConflictKind.{ConflictKind}
 use Rattle.rept_analysis.specs.Kept.{answers}
@@ -23,7 +23,7 @@ use Rattle.rept_found.specs.Crash.{Crash, Means, Scene, crash_of, path_of, scene
 use Rattle.rept_found.specs.Ends.{AreNoted, Ends}
 use Rattle.rept_found.specs.Telling.{Account, told_on}
 use Rattle.rept_found.specs.Truth.{HasNoExecutionOfPath}
-use Rattle.rept_found.specs.View.{View, IsFoundIn, IsPreparedFor, scene_in, state_in, trip_in}
+use Rattle.rept_found.specs.View.{CrashView, IsFoundIn, IsPreparedFor, scene_in, state_in, trip_in}
 use Rattle.rept_found.specs.declared.contradiction.Contradiction.{Contradiction}
 use Rattle.rept_found.proofs.Alone.{alone_setting}
 use Rattle.rept_found.proofs.Settings.{found_there}
@@ -58,7 +58,7 @@ module _ {W : Type 0} (m : Means W) (crash : Crash) (run : Run) (reading : Readi
       by (inr h) = inr (inr h)
 
 -- what is told of an analysis that has ended, and of which it is the account
-module _ {W R : Type 0} (m : Means W) (v : View W R) (crash : Crash) (run : Run) (found : IsFoundIn m (route m crash (course_of run)) (scene_of crash) v) where
+module _ {W R : Type 0} (m : Means W) (v : CrashView W R) (crash : Crash) (run : Run) (found : IsFoundIn m (route m crash (course_of run)) (scene_of crash) v) where
   abbrev pub account_of : Account
   account_of = record { known = answers (state_in m v); log = (state_in m v).known.log; scene = scene_in v; skipped = run.skipped }
 
@@ -67,7 +67,7 @@ module _ {W R : Type 0} (m : Means W) (v : View W R) (crash : Crash) (run : Run)
       inr (inl (account_of, record { report = found.report; log = found.log; scene = found.same_scene; skipped = refl }, subst (λ (t : Trip W). IsHeldSession (told_on t account_of) reading text status) found.trip h))
 
 -- where the closure is consistent, a session is held
-pub held_causes : {W : Type 0} (m : Means W) (crash : Crash) (run : Run) (source sink : Move Port) (status : Status) → IsConsistent (setting m crash (course_of run)) → IsCaused source sink status → IsStudied (crash_run m crash run) source sink status
+pub held_causes : {W : Type 0} (m : Means W) (crash : Crash) (run : Run) (source sink : PortMove Port) (status : Status) → IsConsistent (setting m crash (course_of run)) → IsCaused source sink status → IsStudied (crash_run m crash run) source sink status
 held_causes m crash run source sink status consistent c = record {
   ports = c.ports;
   conflict = λ kind has. absurd (consistent kind has);
@@ -76,7 +76,7 @@ held_causes m crash run source sink status consistent c = record {
 }
 
 -- where it has a conflict, one is told
-pub told_causes : {W : Type 0} (m : Means W) (crash : Crash) (run : Run) (source sink : Move Port) (status : Status) (kind : ConflictKind) → ClosureHas (setting m crash (course_of run)) kind → PortsEnd source sink status → Yields ends.Inconsistent status → IsStudied (crash_run m crash run) source sink status
+pub told_causes : {W : Type 0} (m : Means W) (crash : Crash) (run : Run) (source sink : PortMove Port) (status : Status) (kind : ConflictKind) → ClosureHas (setting m crash (course_of run)) kind → PortsEnd source sink status → Yields ends.Inconsistent status → IsStudied (crash_run m crash run) source sink status
 told_causes m crash run source sink status kind has ports so = record {
   ports = ports;
   conflict = λ _ _. so;
@@ -89,7 +89,7 @@ told_causes m crash run source sink status kind has ports so = record {
     to_all (inr h) = inr (inr (inr (inr h)))
 
 -- where there was no memory for the analysis
-pub memory_causes : {W : Type 0} (m : Means W) (crash : Crash) (run : Run) (source sink : Move Port) (status : Status) → PortsEnd source sink status → Yields ends.OutOfMemory status → IsStudied (crash_run m crash run) source sink status
+pub memory_causes : {W : Type 0} (m : Means W) (crash : Crash) (run : Run) (source sink : PortMove Port) (status : Status) → PortsEnd source sink status → Yields ends.OutOfMemory status → IsStudied (crash_run m crash run) source sink status
 memory_causes m crash run source sink status ports so = record {
   ports = ports;
   conflict = λ _ _. inr (stops so);
@@ -110,7 +110,7 @@ module _ {W : Type 0} (m : Means W) (crash : Crash) (run : Run) (r : Refusal) (w
       by (inl (kind, has, none, is)) = conflict_studies m crash run reading kind (contradiction_on (course_of run) kind) refl has text status (subst (λ (x : Refusal). SaysOrNoMemory x text status) is told)
       by (inr is) = no_memory_studies m crash run reading text status (subst (λ (x : Refusal). SaysOrNoMemory x text status) is told)
 
-  pub refused_causes : (source : Port) (out : Move Port) (status : Status) → Delivers (SaysOrNoMemory r) out status → IsStudied (crash_run m crash run) (move source source) out status
+  pub refused_causes : (source : Port) (out : PortMove Port) (status : Status) → Delivers (SaysOrNoMemory r) out status → IsStudied (crash_run m crash run) (move source source) out status
   refused_causes source out status told = by why
     where
       by : HasNoReport (crash_run m crash run) r → IsStudied (crash_run m crash run) (move source source) out status
@@ -124,7 +124,7 @@ module _ {W : Type 0} (m : Means W) (crash : Crash) (run : Run) (r : Refusal) (w
           memory_causes m crash run (move source source) out status
           (told_ports refusal.OutOfMemory source out status (λ (same : ends.OutOfMemory ≡ ends.InputFault). cc) (λ (same : ends.OutOfMemory ≡ ends.OutputFault). cc) its) (ends_told refusal.OutOfMemory out status its)
 
-  pub refused_excludes : (out : Move Port) (status : Status) → Delivers (SaysOrNoMemory r) out status → status ≡ ends.Inconsistent → IsExcluded (crash_run m crash run)
+  pub refused_excludes : (out : PortMove Port) (status : Status) → Delivers (SaysOrNoMemory r) out status → status ≡ ends.Inconsistent → IsExcluded (crash_run m crash run)
   refused_excludes out status told e = by why
     where
       by : HasNoReport (crash_run m crash run) r → IsExcluded (crash_run m crash run)
@@ -147,13 +147,13 @@ in_domain P d e crash run same h = subst (λ (x : Domain). P x (crash_run (means
 
 -- what is prepared over the ends of a run's threads is so for the run
 module _ {W : Type 0} (m : Means W) (dump : Dump) (run : Run) (ends_of : Ends) (fits : FitsDump dump run) (its : AreEndsOf dump run ends_of) where
-  pub sound_ends : IsSound ends_of.course
-  sound_ends = subst (λ (C : Course). IsSound C) (sym its.course) fits.sound
+  pub sound_ends : IsSoundCourse ends_of.course
+  sound_ends = subst (λ (C : Course). IsSoundCourse C) (sym its.course) fits.sound
 
   pub course_ends : (c : courses.Course) → IsCourseOf (course_of run) c → IsCourseOf ends_of.course c
   course_ends c is = subst (λ (C : Course). IsCourseOf C c) (sym its.course) is
 
-  pub prepared_for : {R : Type 0} (notes : List (List ℕ)) → AreNotesOf dump notes → (p : View W R)
+  pub prepared_for : {R : Type 0} (notes : List (List ℕ)) → AreNotesOf dump notes → (p : CrashView W R)
       → ((ns : List (List ℕ)) → AreNoted ns ends_of.statuses → length ends_of.statuses ≡ length ns → IsPreparedFor m (route m (crash_of dump ns) ends_of.course) (scene_of (crash_of dump ns)) p)
       → IsPreparedFor m (route m (crash_of dump notes) (course_of run)) (scene_of (crash_of dump notes)) p
   prepared_for notes are p prepared =
@@ -171,19 +171,19 @@ pub whole_fits : (dump : Dump) (run : Run) (notes : List (List ℕ)) → FitsDum
 whole_fits dump run notes fits are = record { sound = fits.sound; some = fits.some; noted = some_first notes _ are.first }
 
 -- a conflict of the trip that was prepared
-pub conflict_there : {W R : Type 0} (m : Means W) (t : Trip W) (scene : Scene) (p : View W R) (kind : ConflictKind) → IsPreparedFor m t scene p → ClosureHas (setting_on (trip_in m p)) kind → ClosureHas (setting_on t) kind
+pub conflict_there : {W R : Type 0} (m : Means W) (t : Trip W) (scene : Scene) (p : CrashView W R) (kind : ConflictKind) → IsPreparedFor m t scene p → ClosureHas (setting_on (trip_in m p)) kind → ClosureHas (setting_on t) kind
 conflict_there {W} m t scene p kind at has = subst (λ (x : Trip W). ClosureHas (setting_on x) kind) at.trip has
 
 -- no execution of all threads, nor of the path that the run may be
 pub excluded_run : {W : Type 0} (m : Means W) (crash : Crash) (run : Run) (kind : ConflictKind) → IsWhole crash run → ClosureHas (setting m crash (course_of run)) kind → HasNoHistory (route m crash (course_of run))
-    → ((crash : Crash) (rows : List StepRow) (kind : ConflictKind) → ClosureHas (along (path_of m crash rows)) kind → HasNoExecutionOfPath (path_of m crash rows)) → IsExcluded (crash_run m crash run)
+    → ((crash : Crash) (rows : List StepRow) (kind : ConflictKind) → ClosureHas (path_setting (path_of m crash rows)) kind → HasNoExecutionOfPath (path_of m crash rows)) → IsExcluded (crash_run m crash run)
 excluded_run {W} m crash run kind whole has none excludes = record {
   threads = none;
   alone = λ rows one. excludes crash rows kind (subst (λ (S : Setting W). ClosureHas S kind) (alone_setting m rows crash (course_of run) one whole.noted) has);
 }
 
 -- what is prepared over the ends of a run's threads, and what is found of it
-module _ {W R : Type 0} (m : Means W) (dump : Dump) (run : Run) (ends_of : Ends) (fits : FitsDump dump run) (its : AreEndsOf dump run ends_of) (notes : List (List ℕ)) (are : AreNotesOf dump notes) (p : View W R)
+module _ {W R : Type 0} (m : Means W) (dump : Dump) (run : Run) (ends_of : Ends) (fits : FitsDump dump run) (its : AreEndsOf dump run ends_of) (notes : List (List ℕ)) (are : AreNotesOf dump notes) (p : CrashView W R)
     (prepared : (ns : List (List ℕ)) → AreNoted ns ends_of.statuses → length ends_of.statuses ≡ length ns → IsPreparedFor m (route m (crash_of dump ns) ends_of.course) (scene_of (crash_of dump ns)) p) where
   abbrev Crashed : Crash
   Crashed = crash_of dump notes
@@ -191,13 +191,13 @@ module _ {W R : Type 0} (m : Means W) (dump : Dump) (run : Run) (ends_of : Ends)
   here : IsPreparedFor m (route m Crashed (course_of run)) (scene_of Crashed) p
   here = prepared_for m dump run ends_of fits its notes are p prepared
 
-  pub found_here : (v : View W R) → IsFoundIn m (trip_in m p) (scene_in p) v → IsFoundIn m (route m Crashed (course_of run)) (scene_of Crashed) v
+  pub found_here : (v : CrashView W R) → IsFoundIn m (trip_in m p) (scene_in p) v → IsFoundIn m (route m Crashed (course_of run)) (scene_of Crashed) v
   found_here v found = found_there m p v (route m Crashed (course_of run)) (scene_of Crashed) here found
 
   pub conflict_here : (kind : ConflictKind) → ClosureHas (setting_on (trip_in m p)) kind → ClosureHas (setting m Crashed (course_of run)) kind
   conflict_here kind has = conflict_there m (route m Crashed (course_of run)) (scene_of Crashed) p kind here has
 
   pub excluded_here : (kind : ConflictKind) → ClosureHas (setting_on (trip_in m p)) kind → HasNoHistory (trip_in m p)
-      → ((crash : Crash) (rows : List StepRow) (kind : ConflictKind) → ClosureHas (along (path_of m crash rows)) kind → HasNoExecutionOfPath (path_of m crash rows)) → IsExcluded (crash_run m Crashed run)
+      → ((crash : Crash) (rows : List StepRow) (kind : ConflictKind) → ClosureHas (path_setting (path_of m crash rows)) kind → HasNoExecutionOfPath (path_of m crash rows)) → IsExcluded (crash_run m Crashed run)
   excluded_here kind has none excludes =
       excluded_run m Crashed run kind (whole_fits dump run notes fits are) (conflict_here kind has) (subst (λ (t : Trip W). HasNoHistory t) here.trip none) excludes

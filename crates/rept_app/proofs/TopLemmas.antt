@@ -2,18 +2,18 @@
 use Rattle.std.proofs.Common.{◌≡◌, ◌⊎◌, ℕ, ◌+◌, ◌<◌, ◌≤◌, List, length, Bool, true, false, Option, None, Some, MatchOption, IfSome, Result, Ok, IfOk, OnOk, inl, inr, refl, sym, ap, subst, ◌∙◌, arith, cond, nat_lt}
 use Rattle.std.proofs.lemmas.Bool.Decides.{nat_tests}
 use Rattle.rept_ports.specs.Causes.{Rose, OneFault}
-use Rattle.rept_ports.specs.Port.{Port, Move, move}
+use Rattle.rept_ports.specs.Port.{Port, PortMove, move}
 use Rattle.rept_ports.specs.Shelves.{Files, Shelved, IsOver}
 use Rattle.rept_steps.specs.declared.run.Run.{Run}
 use Rattle.rept_session.specs.Shown.{SessionTold}
 use Rattle.rept_found.specs.Telling.{told_on}
 use Rattle.rept_serve.specs.Serving.{Reading}
-use Rattle.rept_app.specs.Delivered.{Delivers, Says, SaysOrNoMemory}
+use Rattle.rept_app.specs.Delivered.{Delivers, SaysOrNoMemory, SaysRefusal}
 use Rattle.rept_app.specs.Ends.{Stopped, Yields, EndsSession, FaultEnds, PortsEnd}
 use Rattle.rept_app.specs.Held.{CutOff}
 use Rattle.rept_app.specs.Examine.{Examines, IsExamined, IsWalkStatus, FilesExclude, FilesHold}
 use Rattle.rept_app.specs.Lines.{status_of}
-use Rattle.rept_app.specs.Loading.{CrashBytes, crash_bytes, core_bytes, Loading, loading, loading_by, fetched, fetched_all, fetched_core, limit_of, Fits, FitBefore, CoreFitBefore, name_of, core_name_of, loads_to, core_loads_to, ComesTo, ComesToCore, LoadRefuses, MeaningStops, LoadingStops, LoadsAll, NamesNone, IsAsked, manner_of}
+use Rattle.rept_app.specs.Loading.{CrashBytes, crash_bytes, core_bytes, Loading, loading, loading_by, fetched, fetched_all, fetched_core, limit_of, FileFits, FitBefore, CoreFitBefore, name_of, core_name_of, loads_to, core_loads_to, ComesTo, ComesToCore, LoadRefuses, MeaningStops, LoadingStops, LoadsAll, NamesNone, IsAsked, manner_of}
 use Rattle.rept_app.specs.Loading.Loading.{Refused, Loaded, LoadedCore, MadeRun}
 use Rattle.rept_app.specs.Mapped.{mapped_crash}
 use Rattle.rept_app.specs.MadeRun.{Sums}
@@ -77,7 +77,7 @@ is_over : (limit n : ℕ) → limit < n → nat_lt limit n ≡ true
 is_over limit n h = grind (arith, nat_tests)
 
 module _ (files : Files) (names : Names) (manner : Manner) where
-  passes : (kind : FileKind) (name : List ℕ) (next : List ℕ → Loading) (fits : Fits files kind name) → fetched kind (files name) next ≡ next fits.0
+  passes : (kind : FileKind) (name : List ℕ) (next : List ℕ → Loading) (fits : FileFits files kind name) → fetched kind (files name) next ≡ next fits.0
   passes kind name next fits =
       ap (λ (o : Option (List ℕ)). fetched kind o next) fits.1 ∙ ap (λ (b : Bool). cond b (Refused (refusal.TooLarge kind)) (next fits.0)) (not_over (limit_of kind) (length fits.0) fits.2)
 
@@ -102,7 +102,7 @@ module _ (files : Files) (names : Names) (manner : Manner) where
 
 -- a core file and a trace come to the first one that is refused
 module _ (files : Files) (names : CoreNames) (manner : Manner) where
-  core_passes : (fits : Fits files file.Core names.core) (next : List ℕ → Loading) → fetched file.Core (files names.core) next ≡ next fits.0
+  core_passes : (fits : FileFits files file.Core names.core) (next : List ℕ → Loading) → fetched file.Core (files names.core) next ≡ next fits.0
   core_passes fits next =
       ap (λ (o : Option (List ℕ)). fetched file.Core o next) fits.1 ∙ ap (λ (b : Bool). cond b (Refused (refusal.TooLarge file.Core)) (next fits.0)) (not_over (limit_of file.Core) (length fits.0) fits.2)
 
@@ -233,15 +233,15 @@ module _ (words : List (List ℕ)) (files : Files) where
   pub made_ends : (seed steps : ℕ) (status : Status) → loading words files ≡ MadeRun seed steps → Yields ends.Ok status → EndsByFiles words files status
   made_ends seed steps status at so = subst (Ends status) (sym at) so
 
-  module _ (shelf : Move Shelved) (source : Move Port) (input text : List ℕ) (status : Status) where
+  module _ (shelf : PortMove Shelved) (source : PortMove Port) (input text : List ℕ) (status : Status) where
     abbrev Here : CallInput
     Here = call_input words files shelf (record { input = input; left = source.after.bytes })
 
     abbrev Whole : Loading → Type 0
     Whole l = ToldOf Here l text status
 
-    says_so : (r s : Refusal) → r ≡ s → Says r text status → Says s text status
-    says_so r s e h = subst (λ (x : Refusal). Says x text status) e h
+    says_so : (r s : Refusal) → r ≡ s → SaysRefusal r text status → SaysRefusal s text status
+    says_so r s e h = subst (λ (x : Refusal). SaysRefusal x text status) e h
 
     pub refused_writes : (r : Refusal) → Stops shelf.before shelf.after r → SaysOrNoMemory r text status → CallWrites Here text status
     refused_writes r h (inr s) = inr (inr (inl s))
@@ -265,7 +265,7 @@ module _ (words : List (List ℕ)) (files : Files) where
     pub files_hold : (status : Status) → FilesHold bytes status → ComeToReport words files
     files_hold status ((notes, run, read, is, consistent), so) = (opening bytes notes run, record { loaded = subst (λ (l : Loading). IsCrashOf files l bytes) (sym at) refl; read = read; told = is }, consistent)
 
-    pub examined_ends : (source sink : Move Port) (status : Status) → IsExamined bytes source sink status → EndsByFiles words files status
+    pub examined_ends : (source sink : PortMove Port) (status : Status) → IsExamined bytes source sink status → EndsByFiles words files status
     examined_ends source sink status c = subst (Ends status) (sym at) (inl c.yields)
 
     same_files : (other : CrashBytes) → IsCrashOf files (loading words files) other → bytes ≡ other
@@ -291,7 +291,7 @@ cut_ends t reading text ends.OutputFault h = absurd h
 cut_ends t reading text ends.TooMuchInput h = absurd h
 
 -- what is written where no count rose
-pub completed : (g : CallInput) (shelf : Move Shelved) (source sink : Move Port) (status : Status) → TopCauses shelf source sink status → Delivers (CallWrites g) sink status → NoneFails shelf source sink → Completes g sink status
+pub completed : (g : CallInput) (shelf : PortMove Shelved) (source sink : PortMove Port) (status : Status) → TopCauses shelf source sink status → Delivers (CallWrites g) sink status → NoneFails shelf source sink → Completes g sink status
 completed g shelf source sink status c (inr h) calm_ports = absurd (calm_ports.written h.1.rose)
 completed g shelf source sink status c (inl (text, inl h, appended, calm)) calm_ports = inr (text, h, appended)
 completed g shelf source sink status c (inl (text, inr (inl failed), appended, calm)) calm_ports = absurd (calm_ports.loaded (c.load (load_ending g text status failed)))
@@ -302,7 +302,7 @@ completed g shelf source sink status c (inl (text, inr (inr (inr (inr (seed, ste
     elim (cut_ends (told_on (route_at o) a) (record { input = summary_line; left = left }) text status cut) [ inl e ↦ absurd (calm_ports.read (c.ports.input e).rose) | inr e ↦ inl e ]
 
 -- what is said of a call of which one fault of the shelf at most was counted
-pub record AllCauses (shelf : Move Shelved) (source sink : Move Port) (status : Status) : Type 0 where
+pub record AllCauses (shelf : PortMove Shelved) (source sink : PortMove Port) (status : Status) : Type 0 where
   pub ports : PortsEnd source sink status
   pub load : status ≡ ends.LoadFault → OneFault shelf.before.faults shelf.after.faults
   pub untold : MatchOption shelf.before.files (LacksFile status → OneFault shelf.before.faults shelf.after.faults) (λ _. Unit {0})
@@ -313,7 +313,7 @@ not_less : {P : Type 0} (before now : ℕ) → FaultEnds before now P → before
 not_less before now (inl same) = omega (arith, same)
 not_less before now (inr (fault, so)) = fault.later
 
-pub causes_of : (shelf : Move Shelved) (source sink : Move Port) (status : Status) → AllCauses shelf source sink status → TopCauses shelf source sink status
+pub causes_of : (shelf : PortMove Shelved) (source sink : PortMove Port) (status : Status) → AllCauses shelf source sink status → TopCauses shelf source sink status
 causes_of shelf source sink status c = record {
   ports = c.ports;
   load = λ e. (c.load e).rose;
@@ -322,11 +322,11 @@ causes_of shelf source sink status c = record {
   files = c.files;
 }
 
-pub once_of : (shelf : Move Shelved) (source sink : Move Port) (status : Status) → AllCauses shelf source sink status → ShelfCauses shelf status
+pub once_of : (shelf : PortMove Shelved) (source sink : PortMove Port) (status : Status) → AllCauses shelf source sink status → ShelfCauses shelf status
 once_of shelf source sink status c = record { load = c.load; load_ends = c.load_ends }
 
 -- how a call ends whose files aren't loaded
-module _ (old new : Shelved) (source : Port) (sink : Move Port) (status : Status) (files : new.files ≡ old.files) (later : old.faults ≤ new.faults) (once : new.faults ≤ old.faults + 1) (ports : PortsEnd (move source source) sink status) where
+module _ (old new : Shelved) (source : Port) (sink : PortMove Port) (status : Status) (files : new.files ≡ old.files) (later : old.faults ≤ new.faults) (once : new.faults ≤ old.faults + 1) (ports : PortsEnd (move source source) sink status) where
   one : Rose old.faults new.faults → OneFault old.faults new.faults
   one rose = record { rose = rose; later = later; once = once }
 
@@ -499,7 +499,7 @@ all_loads old new (Some (Maps names from)) status h = absurd h
 all_loads old new (Some (Open d names from)) status h = inl (record { last = file.Trace; before = h.before; loads = h.loads; all = inl refl })
 
 -- the causes of a call whose files were loaded
-pub examined_causes : (old new : Shelved) (bytes : CrashBytes) (source sink : Move Port) (status : Status) → new.files ≡ old.files → new.faults ≡ old.faults → IsExamined bytes source sink status → AllCauses (move old new) source sink status
+pub examined_causes : (old new : Shelved) (bytes : CrashBytes) (source sink : PortMove Port) (status : Status) → new.files ≡ old.files → new.faults ≡ old.faults → IsExamined bytes source sink status → AllCauses (move old new) source sink status
 examined_causes old new bytes source sink status files calm c = record {
   ports = c.ports;
   load = λ e. absurd (not_loading (inl e) c.ends_so);
@@ -606,7 +606,7 @@ module _ (m : Option Meaning) (seed steps : ℕ) (named : m ≡ Some (Made seed 
   pub made_asks : (status : Status) → Yields ends.Ok status → AskedEnds m status
   made_asks status so = subst (λ (x : Option Meaning). AskedEnds x status) (sym named) so
 
-  pub made_loads : (shelf : Move Shelved) (status : Status) → LoadsOf m shelf status
+  pub made_loads : (shelf : PortMove Shelved) (status : Status) → LoadsOf m shelf status
   made_loads shelf status = subst (λ (x : Option Meaning). LoadsOf x shelf status) (sym named) tt
 
   pub made_means : {P : Type 0} → m ≡ None → P

@@ -2,7 +2,7 @@
 use Rattle.std.proofs.Common.{ℕ, ◌<◌, Bool, List, length, sym, ◌∙◌, subst}
 use Rattle.rept_ports.specs.Shelves.{Files}
 use Rattle.rept_isa.specs.declared.row.StepRow.{StepRow}
-use Rattle.rept_steps.specs.Course.{Course, IsSound}
+use Rattle.rept_steps.specs.Course.{Course, IsSoundCourse}
 use Rattle.rept_steps.specs.Runs.{course_of}
 use Rattle.rept_steps.specs.declared.run.Run.{Run}
 use Rattle.rept_order.specs.History.{Ending}
@@ -12,7 +12,7 @@ use Rattle.rept_report.specs.Closure.{IsReport}
 use Rattle.rept_report.specs.Implied.{HasEnded, known_at_end}
 use Rattle.rept_report.specs.Knowing.{Extends}
 use Rattle.rept_report.specs.Log.{Entry}
-use Rattle.rept_report.specs.OneThread.{along}
+use Rattle.rept_report.specs.OneThread.{path_setting}
 use Rattle.rept_report.specs.Setting.{Setting, Uses}
 use Rattle.rept_partial.specs.Ranges.{range_sets}
 use Rattle.rept_span.specs.Finer.{kind, IsFiner}
@@ -43,8 +43,8 @@ abbrev pub TrueOf : {W : Type 0} → Means W → Type 0
 TrueOf m = (crash : Crash) (run : Run) (known : Knowledge) → IsWhole crash run → IsReport (setting m crash (course_of run)) known → IsTrue (crash_run m crash run) known
 
 -- of all threads, and of one path in its own words
-pub true_of : {W : Type 0} (m : Means W) → ((C : Course) (D : Ending) (K : Knowledge) → IsSound C → 0 < length C.threads → IsReport (setting_on (trip_by m C D)) K → IsTrueTrip (trip_by m C D) K)
-    → ((crash : Crash) (rows : List StepRow) (K : Knowledge) → IsReport (along (path_of m crash rows)) K → IsTrueReport (path_of m crash rows) K) → TrueOf m
+pub true_of : {W : Type 0} (m : Means W) → ((C : Course) (D : Ending) (K : Knowledge) → IsSoundCourse C → 0 < length C.threads → IsReport (setting_on (trip_by m C D)) K → IsTrueTrip (trip_by m C D) K)
+    → ((crash : Crash) (rows : List StepRow) (K : Knowledge) → IsReport (path_setting (path_of m crash rows)) K → IsTrueReport (path_of m crash rows) K) → TrueOf m
 true_of {W} m trips paths crash run known whole report = record {
   threads = trips (course_of run) (ending_of crash) known whole.sound whole.some report;
   alone = λ rows one. record {

@@ -2,7 +2,7 @@
 use Rattle.std.specs.Prelude.{◌≡◌, ◌⊎◌, List, ℕ}
 use Rattle.std.specs.Io.KnownBytes.{Appends}
 use Rattle.rept_ports.specs.Causes.{OneFault, AppendsPrefix}
-use Rattle.rept_ports.specs.Port.{Port, Move}
+use Rattle.rept_ports.specs.Port.{Port, PortMove}
 use Rattle.rept_app.specs.Lines.{line_of, status_of}
 use Rattle.rept_app.specs.declared.refusal.Refusal.{Refusal}
 use Rattle.rept_app.specs.declared.refusal.Refusal.TheVariants as refusal
@@ -11,16 +11,16 @@ use Rattle.rept_app.specs.declared.status.Status.TheVariants as ends
 
 -- The output is what it was, followed by a text that goes with the status, and no fault was counted; or the output failed once,
 -- and what follows is a prefix of such a text.
-abbrev pub Delivers : (List ℕ → Status → Type 0) → Move Port → Status → Type 0
+abbrev pub Delivers : (List ℕ → Status → Type 0) → PortMove Port → Status → Type 0
 Delivers Goes out result =
     ((text : List ℕ) × Goes text result × Appends out.before.bytes out.after.bytes text × (out.after.faults ≡ out.before.faults))
     ⊎ ((result ≡ ends.OutputFault) × OneFault out.before.faults out.after.faults × ((whole : List ℕ) × (status : Status) × Goes whole status × AppendsPrefix out.before.bytes out.after.bytes whole))
 
 -- the line of a refusal, with its status
-pub record Says (r : Refusal) (text : List ℕ) (status : Status) : Type 0 where
+pub record SaysRefusal (r : Refusal) (text : List ℕ) (status : Status) : Type 0 where
   pub line : text ≡ line_of r
   pub ending : status ≡ status_of r
 
 -- the same, or memory ran out
 abbrev pub SaysOrNoMemory : Refusal → List ℕ → Status → Type 0
-SaysOrNoMemory r text status = Says r text status ⊎ Says refusal.OutOfMemory text status
+SaysOrNoMemory r text status = SaysRefusal r text status ⊎ SaysRefusal refusal.OutOfMemory text status

@@ -1,7 +1,7 @@
 -- How a call ends: its status, and what faults of its ports were counted.
 use Rattle.std.specs.Prelude.{◌≡◌, ◌⊎◌, ℕ}
 use Rattle.rept_ports.specs.Causes.{OneFault}
-use Rattle.rept_ports.specs.Port.{Port, Move}
+use Rattle.rept_ports.specs.Port.{Port, PortMove}
 use Rattle.rept_app.specs.declared.status.Status.{Status}
 use Rattle.rept_app.specs.declared.status.Status.TheVariants as ends
 
@@ -27,13 +27,13 @@ FaultEnds before now EndsSo = (now ≡ before) ⊎ (OneFault before now × EndsS
 
 -- A status that tells a fault of the input or the output comes only where that port counted one. A fault of either ends the call:
 -- no other is counted, and the status tells it, unless the line of an input fault can't be written.
-pub record PortsEnd (source sink : Move Port) (status : Status) : Type 0 where
+pub record PortsEnd (source sink : PortMove Port) (status : Status) : Type 0 where
   pub input : status ≡ ends.InputFault → OneFault source.before.faults source.after.faults
   pub input_ends : FaultEnds source.before.faults source.after.faults (TellsInputFault status)
   pub output : status ≡ ends.OutputFault → OneFault sink.before.faults sink.after.faults
   pub output_ends : FaultEnds sink.before.faults sink.after.faults (status ≡ ends.OutputFault)
 
 -- each fault has its cause and ends the session, and no other status comes than these
-pub record IsCaused (source sink : Move Port) (status : Status) : Type 0 where
+pub record IsCaused (source sink : PortMove Port) (status : Status) : Type 0 where
   pub ports : PortsEnd source sink status
   pub answered : EndsSession status

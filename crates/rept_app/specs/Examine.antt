@@ -3,17 +3,17 @@ use Rattle.std.specs.Prelude.{◌≡◌, ◌⊎◌, ℕ, List, Result, MatchOpti
 use Rattle.rept_dump.specs.declared.fault.CoreFault.{CoreFault}
 use Rattle.rept_path.specs.declared.fault.PathFault.{PathFault}
 use Rattle.rept_steps.specs.declared.run.Run.{Run}
-use Rattle.rept_ports.specs.Port.{Port, Move}
+use Rattle.rept_ports.specs.Port.{Port, PortMove}
 use Rattle.rept_report.specs.Closure.{ClosureHas, IsConsistent}
 use Rattle.rept_report.specs.declared.conflict.ConflictKind.{ConflictKind}
 use Rattle.rept_found.specs.Telling.{Account, told_on}
 use Rattle.rept_serve.specs.Serving.{Reading}
-use Rattle.rept_app.specs.Delivered.{Says}
+use Rattle.rept_app.specs.Delivered.{SaysRefusal}
 use Rattle.rept_app.specs.Ends.{Yields, EndsSession, PortsEnd}
 use Rattle.rept_app.specs.Forms.{program_fault, core_image_fault, crash_in}
 use Rattle.rept_app.specs.Held.{CutOff}
 use Rattle.rept_app.specs.Loading.{CrashBytes}
-use Rattle.rept_app.specs.Told.{CrashRun, CoreSays, route_of, setting_of, CrashTrace, trace_in, run_in, Walked, Examined, ReadsNotes, IsAccountOf}
+use Rattle.rept_app.specs.Told.{CrashRun, CoreSays, route_of, run_setting, CrashTrace, trace_in, run_in, WalkedTrace, Examined, ReadsNotes, IsAccountOf}
 use Rattle.rept_app.specs.TraceRun.{IsRunOf, HasNoRunOf}
 use Rattle.rept_app.specs.True.{IsExcluded}
 use Rattle.rept_app.specs.declared.refusal.Refusal.TheVariants as refusal
@@ -26,18 +26,18 @@ WalkCut t reading text status =
     (run : Run) × (a : Account) × IsRunOf t.crash t.trace t.manner.from run × IsAccountOf (run_in t run) a × CutOff (told_on (route_of (run_in t run)) a) reading text status
 
 -- all of it; or memory ran out; or the session was cut short
-abbrev pub Walks : CrashTrace → Reading → List ℕ → Status → Type 0
-Walks t reading text status = Walked t reading.input text status ⊎ Says refusal.OutOfMemory text status ⊎ WalkCut t reading text status
+abbrev pub WalksTrace : CrashTrace → Reading → List ℕ → Status → Type 0
+WalksTrace t reading text status = WalkedTrace t reading.input text status ⊎ SaysRefusal refusal.OutOfMemory text status ⊎ WalkCut t reading text status
 
 abbrev pub Examines : CrashBytes → Reading → List ℕ → Status → Type 0
 Examines bytes reading text status =
-    Examined bytes reading.input text status ⊎ Says refusal.OutOfMemory text status
+    Examined bytes reading.input text status ⊎ SaysRefusal refusal.OutOfMemory text status
     ⊎ ((notes : List (List ℕ)) × ReadsNotes bytes notes × WalkCut (trace_in bytes notes) reading text status)
 
 -- how the analysis of a run ends the call
 pub record RunYields {W : Type 0} (p : CrashRun W) (status : Status) : Type 0 where
-  pub conflict : (kind : ConflictKind) → ClosureHas (setting_of p) kind → Yields ends.Inconsistent status
-  pub report : IsConsistent (setting_of p) → EndsSession status
+  pub conflict : (kind : ConflictKind) → ClosureHas (run_setting p) kind → Yields ends.Inconsistent status
+  pub report : IsConsistent (run_setting p) → EndsSession status
 
 -- How a trace ends the call, whatever the input is. Its status comes only where it tells no run.
 pub record WalkYields (t : CrashTrace) (status : Status) : Type 0 where
@@ -65,25 +65,25 @@ abbrev pub IsWalkStatus : Status → Type 0
 IsWalkStatus status = (status ≡ ends.Trace) ⊎ IsRunStatus status
 
 -- each fault has its cause and ends the call, and each status comes where the trace says so
-pub record IsWalked (t : CrashTrace) (source sink : Move Port) (status : Status) : Type 0 where
+pub record IsWalked (t : CrashTrace) (source sink : PortMove Port) (status : Status) : Type 0 where
   pub ports : PortsEnd source sink status
   pub yields : WalkYields t status
   pub ends_so : IsWalkStatus status
 
 -- the same of the files
-pub record IsExamined (bytes : CrashBytes) (source sink : Move Port) (status : Status) : Type 0 where
+pub record IsExamined (bytes : CrashBytes) (source sink : PortMove Port) (status : Status) : Type 0 where
   pub ports : PortsEnd source sink status
   pub yields : FilesEnd bytes status
   pub ends_so : (status ≡ ends.Executable) ⊎ (status ≡ ends.Core) ⊎ IsWalkStatus status
 
 -- a session may have been held, since the trace tells a run whose closure has no conflict
 abbrev pub WalkHolds : CrashTrace → Status → Type 0
-WalkHolds t status = ((run : Run) × IsRunOf t.crash t.trace t.manner.from run × IsConsistent (setting_of (run_in t run))) × EndsSession status
+WalkHolds t status = ((run : Run) × IsRunOf t.crash t.trace t.manner.from run × IsConsistent (run_setting (run_in t run))) × EndsSession status
 
 -- the same of the files
 abbrev pub FilesHold : CrashBytes → Status → Type 0
 FilesHold bytes status =
-    ((notes : List (List ℕ)) × (run : Run) × ReadsNotes bytes notes × IsRunOf (crash_in bytes.program bytes.core notes) bytes.trace bytes.manner.from run × IsConsistent (setting_of (run_in (trace_in bytes notes) run)))
+    ((notes : List (List ℕ)) × (run : Run) × ReadsNotes bytes notes × IsRunOf (crash_in bytes.program bytes.core notes) bytes.trace bytes.manner.from run × IsConsistent (run_setting (run_in (trace_in bytes notes) run)))
     × EndsSession status
 
 -- no execution of the run ends in the crash

@@ -119,7 +119,7 @@ abbrev pub cell_text : Cell → List ℕ
 cell_text (Register r) = codes "x" ++ decimal r
 cell_text (Byte address) = hex_word address
 
--- the value of a register as a word, that of a byte as two digits
+-- the value of a register as a word, that of a byte as two digits; which cell it is, `cell_text` prints before it
 abbrev pub value_text_in : Cell → ℕ → List ℕ
 value_text_in (Register r) value = hex_word value
 value_text_in (Byte address) value = hex_byte (value % 256)

@@ -7,7 +7,7 @@ use Rattle.rept_maps.specs.Views.{desc_of}
 use Rattle.rept_maps.specs.declared.fault.MapFault.{MapFault}
 use Rattle.rept_mapfiles.specs.Kept.{asked_names, kept_all, loads_after, most_in_all}
 use Rattle.rept_ports.specs.Causes.{Rose}
-use Rattle.rept_ports.specs.Port.{Move, move}
+use Rattle.rept_ports.specs.Port.{PortMove, move}
 use Rattle.rept_ports.specs.Shelves.{Shelved}
 use Rattle.rept_app.specs.Forms.{core_image_fault}
 use Rattle.rept_app.specs.Mapped.{ListSays}
@@ -18,7 +18,7 @@ use Rattle.rept_app.specs.declared.refusal.Refusal.{Refusal}
 use Rattle.rept_app.specs.declared.refusal.Refusal.TheVariants as refusal
 
 -- The core file is accepted as an image, and so is its list, which says nothing else. The names are those of the list, the shelf was asked for the file of each, and what is kept is what is kept of these files.
-pub record AreLoaded (core : List ℕ) (shelf : Move Shelved) (l : ListedFiles) : Type 0 where
+pub record AreLoaded (core : List ℕ) (shelf : PortMove Shelved) (l : ListedFiles) : Type 0 where
   pub image : file_of l.core ≡ core
   pub accepted : core_image_fault core ≡ None
   pub listed : ListSays core (Ok (desc_of l.maps))
@@ -34,7 +34,7 @@ IsListRefused core r =
     ⊎ ((fault : MapFault) × (core_image_fault core ≡ None) × ListSays core (Err fault) × ((said : Result (List ℕ) MapFault) → ListSays core said → said ≡ Err fault) × (r ≡ refusal.Maps fault))
 
 -- the list is accepted, and the shelf was asked for the files of so many of its names
-pub record IsCutShort (core : List ℕ) (asked : Move ℕ) : Type 0 where
+pub record IsListCutShort (core : List ℕ) (asked : PortMove ℕ) : Type 0 where
   pub desc : List ℕ
   pub listed : ListSays core (Ok desc)
   pub count : ℕ
@@ -42,7 +42,7 @@ pub record IsCutShort (core : List ℕ) (asked : Move ℕ) : Type 0 where
   pub loads : asked.after ≡ loads_after count asked.before
 
 -- The load of the file of this name, which is one of the accepted list's, failed, where a fault was counted: it was the last.
-pub record LoadStops (core : List ℕ) (shelf : Move Shelved) (name : List ℕ) : Type 0 where
+pub record LoadStops (core : List ℕ) (shelf : PortMove Shelved) (name : List ℕ) : Type 0 where
   pub accepted : core_image_fault core ≡ None
   pub desc : List ℕ
   pub listed : ListSays core (Ok desc)
@@ -53,6 +53,6 @@ pub record LoadStops (core : List ℕ) (shelf : Move Shelved) (name : List ℕ) 
   pub rose : Rose shelf.before.faults shelf.after.faults
 
 -- why no files are listed: a refusal, before any load; or memory ran out; or a load failed
-abbrev pub HasNoFiles : List ℕ → Move Shelved → ListStop → Type 0
-HasNoFiles core shelf (stops.Refused r) = (IsListRefused core r × (shelf.after ≡ shelf.before)) ⊎ ((r ≡ refusal.OutOfMemory) × IsCutShort core (move shelf.before.loads shelf.after.loads))
+abbrev pub HasNoFiles : List ℕ → PortMove Shelved → ListStop → Type 0
+HasNoFiles core shelf (stops.Refused r) = (IsListRefused core r × (shelf.after ≡ shelf.before)) ⊎ ((r ≡ refusal.OutOfMemory) × IsListCutShort core (move shelf.before.loads shelf.after.loads))
 HasNoFiles core shelf (stops.LoadFault name) = LoadStops core shelf name.now

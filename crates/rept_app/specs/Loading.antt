@@ -1,7 +1,7 @@
 -- What the words and the files come to, before the files are read.
 use Rattle.std.specs.Prelude.{◌≡◌, ◌⊎◌, ℕ, ◌+◌, ◌≤◌, List, [], length, Option, None, Some, MatchOption, IfSome, Result, OnOk, nat_lt, if◌then◌else◌}
 use Rattle.rept_ports.specs.Causes.{Rose, next_count}
-use Rattle.rept_ports.specs.Port.{Move}
+use Rattle.rept_ports.specs.Port.{PortMove}
 use Rattle.rept_ports.specs.Shelves.{Files, Shelved, IsOver}
 use Rattle.rept_dump.specs.Program.{Program}
 use Rattle.rept_mapped.specs.Mapped.{Mapping}
@@ -89,14 +89,14 @@ abbrev pub loading : List (List ℕ) → Files → Loading
 loading words files = loading_by files (meaning_of words)
 
 -- the file of that name is there and within the limit
-abbrev pub Fits : Files → FileKind → List ℕ → Type 0
-Fits files kind name = (bytes : List ℕ) × (files name ≡ Some bytes) × (length bytes ≤ limit_of kind)
+abbrev pub FileFits : Files → FileKind → List ℕ → Type 0
+FileFits files kind name = (bytes : List ℕ) × (files name ≡ Some bytes) × (length bytes ≤ limit_of kind)
 
 -- the files that are loaded before this one are there and within their limits
 abbrev pub FitBefore : Files → Names → FileKind → Type 0
 FitBefore files names file.Exe = Unit {0}
-FitBefore files names file.Core = Fits files file.Exe names.exe
-FitBefore files names file.Trace = Fits files file.Exe names.exe × Fits files file.Core names.core
+FitBefore files names file.Core = FileFits files file.Exe names.exe
+FitBefore files names file.Trace = FileFits files file.Exe names.exe × FileFits files file.Core names.core
 
 -- the name of a file
 abbrev pub name_of : Names → FileKind → List ℕ
@@ -114,7 +114,7 @@ loads_to file.Trace loads = next_count (next_count (next_count loads))
 abbrev pub CoreFitBefore : Files → CoreNames → FileKind → Type 0
 CoreFitBefore files names file.Exe = ⊥
 CoreFitBefore files names file.Core = Unit {0}
-CoreFitBefore files names file.Trace = Fits files file.Core names.core
+CoreFitBefore files names file.Trace = FileFits files file.Core names.core
 
 abbrev pub core_name_of : CoreNames → FileKind → List ℕ
 core_name_of names file.Exe = []
@@ -141,7 +141,7 @@ abbrev pub ComesToCore : List (List ℕ) → Files → FileKind → Type 0
 ComesToCore words files kind = (names : CoreNames) × (from : Option ℕ) × (meaning_of words ≡ Some (Maps names from)) × CoreFitBefore files names kind
 
 -- Why this file isn't loaded: by the files where they are told, and otherwise by the count of the shelf's faults.
-abbrev pub LoadRefuses : Move Shelved → List ℕ → FileKind → Refusal → Type 0
+abbrev pub LoadRefuses : PortMove Shelved → List ℕ → FileKind → Refusal → Type 0
 LoadRefuses shelf name kind (refusal.LoadFault k) = (k ≡ kind) × Rose shelf.before.faults shelf.after.faults
 LoadRefuses shelf name kind (refusal.NoFile k) =
     (k ≡ kind) × MatchOption shelf.before.files (Rose shelf.before.faults shelf.after.faults) (λ files. (files name ≡ None) × (shelf.after.faults ≡ shelf.before.faults))
@@ -151,27 +151,27 @@ LoadRefuses shelf name kind refusal.OutOfMemory = Unit {0}
 LoadRefuses shelf name kind other = ⊥
 
 -- The last load was that of this file: those before it were loaded, and it is refused.
-pub record StopsAt (shelf : Move Shelved) (names : Names) (kind : FileKind) (r : Refusal) : Type 0 where
+pub record IsLastLoad (shelf : PortMove Shelved) (names : Names) (kind : FileKind) (r : Refusal) : Type 0 where
   pub before : IfSome shelf.before.files (λ files. FitBefore files names kind)
   pub loads : shelf.after.loads ≡ loads_to kind shelf.before.loads
   pub why : LoadRefuses shelf (name_of names kind) kind r
 
 -- the same of a core file and a trace
-pub record CoreStopsAt (shelf : Move Shelved) (names : CoreNames) (kind : FileKind) (r : Refusal) : Type 0 where
+pub record CoreStopsAt (shelf : PortMove Shelved) (names : CoreNames) (kind : FileKind) (r : Refusal) : Type 0 where
   pub one : IsOfCore kind
   pub before : IfSome shelf.before.files (λ files. CoreFitBefore files names kind)
   pub loads : shelf.after.loads ≡ core_loads_to kind shelf.before.loads
   pub why : LoadRefuses shelf (core_name_of names kind) kind r
 
 -- why the words or the files that they name don't come to files that are loaded: by the words, or by the file whose load was the last
-abbrev pub MeaningStops : Option Meaning → Move Shelved → Refusal → Type 0
+abbrev pub MeaningStops : Option Meaning → PortMove Shelved → Refusal → Type 0
 MeaningStops None shelf r = (r ≡ refusal.Usage) × (shelf.after ≡ shelf.before)
 MeaningStops (Some (Made seed steps)) shelf r = ⊥
 MeaningStops (Some (Maps names from)) shelf r = (kind : FileKind) × CoreStopsAt shelf names kind r
-MeaningStops (Some (Open d names from)) shelf r = (kind : FileKind) × StopsAt shelf names kind r
+MeaningStops (Some (Open d names from)) shelf r = (kind : FileKind) × IsLastLoad shelf names kind r
 
 -- why no files are loaded: there was no memory to read the words, or by these
-abbrev pub LoadingStops : Option Meaning → Move Shelved → Refusal → Type 0
+abbrev pub LoadingStops : Option Meaning → PortMove Shelved → Refusal → Type 0
 LoadingStops m shelf r = ((r ≡ refusal.OutOfMemory) × (shelf.after ≡ shelf.before)) ⊎ MeaningStops m shelf r
 
 -- words that name no files, for which no load is made
@@ -182,31 +182,31 @@ NamesNone (Some (Maps names from)) = ⊥
 NamesNone (Some (Open d names from)) = ⊥
 
 -- what all loads do to a shelf: its files stay, at most one fault is counted, and none where all files are loaded
-pub record ShelfMoves {T E : Type 0} (shelf : Move Shelved) (result : Result T E) : Type 0 where
+pub record ShelfMoves {T E : Type 0} (shelf : PortMove Shelved) (result : Result T E) : Type 0 where
   pub files : shelf.after.files ≡ shelf.before.files
   pub later : shelf.before.faults ≤ shelf.after.faults
   pub once : shelf.after.faults ≤ shelf.before.faults + 1
   pub calm : OnOk result (shelf.after.faults ≡ shelf.before.faults)
 
 -- all three files were loaded
-pub record AllLoaded (names : Names) (shelf : Move Shelved) : Type 0 where
+pub record AllLoaded (names : Names) (shelf : PortMove Shelved) : Type 0 where
   pub before : IfSome shelf.before.files (λ files. FitBefore files names file.Trace)
   pub loads : shelf.after.loads ≡ loads_to file.Trace shelf.before.loads
 
 -- the words name three files, and all of them were loaded
-abbrev pub LoadsAll : Option Meaning → Move Shelved → Type 0
+abbrev pub LoadsAll : Option Meaning → PortMove Shelved → Type 0
 LoadsAll None shelf = ⊥
 LoadsAll (Some (Made seed steps)) shelf = ⊥
 LoadsAll (Some (Maps names from)) shelf = ⊥
 LoadsAll (Some (Open d names from)) shelf = AllLoaded names shelf
 
 -- the core file, of these bytes, and the trace were loaded
-pub record BothLoaded (names : CoreNames) (core : List ℕ) (shelf : Move Shelved) : Type 0 where
-  pub found : IfSome shelf.before.files (λ files. (files names.core ≡ Some core) × Fits files file.Core names.core × Fits files file.Trace names.trace)
+pub record BothLoaded (names : CoreNames) (core : List ℕ) (shelf : PortMove Shelved) : Type 0 where
+  pub found : IfSome shelf.before.files (λ files. (files names.core ≡ Some core) × FileFits files file.Core names.core × FileFits files file.Trace names.trace)
   pub loads : shelf.after.loads ≡ core_loads_to file.Trace shelf.before.loads
 
 -- the words name a core file and a trace, and both were loaded
-abbrev pub LoadsBoth : Option Meaning → List ℕ → Move Shelved → Type 0
+abbrev pub LoadsBoth : Option Meaning → List ℕ → PortMove Shelved → Type 0
 LoadsBoth None core shelf = ⊥
 LoadsBoth (Some (Made seed steps)) core shelf = ⊥
 LoadsBoth (Some (Maps names from)) core shelf = BothLoaded names core shelf
@@ -219,7 +219,7 @@ asked_for (asked.Maps l) = LoadedCore (core_bytes l.core.items l.trace.items l.m
 asked_for (asked.Made seed steps) = MadeRun seed steps
 
 -- All files that the words name were loaded, and the trace is within its limit; or the words ask for a made run, and the shelf is as it was.
-abbrev pub IsAsked : Asked → Option Meaning → Move Shelved → Type 0
+abbrev pub IsAsked : Asked → Option Meaning → PortMove Shelved → Type 0
 IsAsked (asked.Files l) m shelf = LoadsAll m shelf × (length l.trace.items ≤ limit_of file.Trace)
 IsAsked (asked.Maps l) m shelf = LoadsBoth m l.core.items shelf × (length l.trace.items ≤ limit_of file.Trace)
 IsAsked (asked.Made seed steps) m shelf = (m ≡ Some (Made seed steps)) × (shelf.after ≡ shelf.before)

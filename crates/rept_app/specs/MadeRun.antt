@@ -1,10 +1,10 @@
 -- What is written of a made run, where the output doesn't fail.
 use Rattle.std.specs.Prelude.{◌⊎◌, ℕ, List}
-use Rattle.rept_app.specs.Delivered.{Says}
+use Rattle.rept_app.specs.Delivered.{SaysRefusal}
 use Rattle.rept_app.specs.Told.{Summed, SumCut}
 use Rattle.rept_app.specs.declared.refusal.Refusal.TheVariants as refusal
 use Rattle.rept_app.specs.declared.status.Status.{Status}
 
 -- all of it; or memory ran out; or the session was cut short
 abbrev pub Sums : ℕ → ℕ → List ℕ → Status → Type 0
-Sums seed steps text status = Summed seed steps text status ⊎ Says refusal.OutOfMemory text status ⊎ SumCut seed steps text status
+Sums seed steps text status = Summed seed steps text status ⊎ SaysRefusal refusal.OutOfMemory text status ⊎ SumCut seed steps text status

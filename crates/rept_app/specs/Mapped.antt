@@ -7,7 +7,7 @@ use Rattle.rept_maps.specs.declared.fault.MapFault.{MapFault}
 use Rattle.rept_mapped.specs.Mapped.{Mapping}
 use Rattle.rept_mapfiles.specs.Kept.{asked_names, kept_all, kept_at, loads_after, most_in_all, names_of}
 use Rattle.rept_ports.specs.Causes.{Rose}
-use Rattle.rept_ports.specs.Port.{Move}
+use Rattle.rept_ports.specs.Port.{PortMove}
 use Rattle.rept_ports.specs.Shelves.{Files, Shelved}
 use Rattle.rept_session.specs.Texts.{visible}
 use Rattle.rept_app.specs.Ends.{Stopped, FaultEnds}
@@ -61,7 +61,7 @@ abbrev pub name_line : List ℕ → List ℕ
 name_line name = codes "load-fault " ++ map visible name ++ 10 ∷ []
 
 -- The load of the file of one of the names failed: it was the last, and what was written is its line.
-pub record NameFails (m : MappedCrash) (asked : Move ℕ) (text : List ℕ) (status : Status) : Type 0 where
+pub record NameFails (m : MappedCrash) (asked : PortMove ℕ) (text : List ℕ) (status : Status) : Type 0 where
   pub accepted : core_image_fault m.bytes.core ≡ None
   pub desc : List ℕ
   pub listed : ListSays m.bytes.core (Ok desc)
@@ -73,20 +73,20 @@ pub record NameFails (m : MappedCrash) (asked : Move ℕ) (text : List ℕ) (sta
   pub ending : status ≡ ends.LoadFault
 
 -- How many of the names' files a shelf was asked for: all of them, unless the call ends before.
-pub record AreAsked (desc : List ℕ) (asked : Move ℕ) (status : Status) : Type 0 where
+pub record AreAsked (desc : List ℕ) (asked : PortMove ℕ) (status : Status) : Type 0 where
   pub count : ℕ
   pub within : count ≤ length (asked_names desc)
   pub loads : asked.after ≡ loads_after count asked.before
   pub all : (count ≡ length (asked_names desc)) ⊎ (status ≡ ends.LoadFault) ⊎ Stopped status
 
 -- The loads that a core file's list brings: none where the core file or its list is refused.
-abbrev pub NamesLoaded : List ℕ → Move ℕ → Status → Type 0
+abbrev pub NamesLoaded : List ℕ → PortMove ℕ → Status → Type 0
 NamesLoaded core asked status =
     ((asked.after ≡ asked.before) × ((status ≡ ends.Core) ⊎ Stopped status))
     ⊎ ((desc : List ℕ) × ListSays core (Ok desc) × AreAsked desc asked status)
 
 -- What these loads do to a shelf: its files stay. Where it tells them, a fault ends the call; where it doesn't, each file that is passed over may count one.
-pub record NamesMove (shelf : Move Shelved) (status : Status) : Type 0 where
+pub record NamesMove (shelf : PortMove Shelved) (status : Status) : Type 0 where
   pub files : shelf.after.files ≡ shelf.before.files
   pub later : shelf.before.faults ≤ shelf.after.faults
   pub told : IfSome shelf.before.files (λ _. FaultEnds shelf.before.faults shelf.after.faults ((status ≡ ends.LoadFault) ⊎ Stopped status))

@@ -1,10 +1,10 @@
 -- What is written of a crash whose core file lists the files of its program, and how it ends the call.
 use Rattle.std.specs.Prelude.{◌≡◌, ◌⊎◌, ℕ, List, Result, MatchOption, MatchResult, IfSome}
 use Rattle.rept_maps.specs.declared.fault.MapFault.{MapFault}
-use Rattle.rept_ports.specs.Port.{Port, Move, move}
+use Rattle.rept_ports.specs.Port.{Port, PortMove, move}
 use Rattle.rept_ports.specs.Shelves.{Shelved}
 use Rattle.rept_serve.specs.Serving.{Reading}
-use Rattle.rept_app.specs.Delivered.{Says}
+use Rattle.rept_app.specs.Delivered.{SaysRefusal}
 use Rattle.rept_app.specs.Ends.{Yields, PortsEnd}
 use Rattle.rept_app.specs.Examine.{FilesEnd, FilesExclude, FilesHold, IsWalkStatus, WalkCut}
 use Rattle.rept_app.specs.Forms.{core_image_fault}
@@ -18,16 +18,16 @@ use Rattle.rept_app.specs.declared.status.Status.TheVariants as ends
 -- What a call is given that examines a core file: the crash, how many loads the shelf was asked for before and after, and the bytes of the input with those that are left of it.
 pub record MappedCall : Type 0 where
   pub crash : MappedCrash
-  pub loads : Move ℕ
+  pub loads : PortMove ℕ
   pub reading : Reading
 
-abbrev pub mapped_call : MappedCrash → Move ℕ → Reading → MappedCall
+abbrev pub mapped_call : MappedCrash → PortMove ℕ → Reading → MappedCall
 mapped_call crash loads reading = record { crash = crash; loads = loads; reading = reading }
 
 -- all of it; or memory ran out; or the load of a mapped file failed; or the session was cut short
 abbrev pub ExaminesMapped : MappedCall → List ℕ → Status → Type 0
 ExaminesMapped c text status =
-    MappedTold c.crash c.reading.input text status ⊎ Says refusal.OutOfMemory text status ⊎ NameFails c.crash c.loads text status
+    MappedTold c.crash c.reading.input text status ⊎ SaysRefusal refusal.OutOfMemory text status ⊎ NameFails c.crash c.loads text status
     ⊎ ((bytes : CrashBytes) × (notes : List (List ℕ)) × IsMappedAs c.crash bytes × ReadsNotes bytes notes × WalkCut (trace_in bytes notes) c.reading text status)
 
 -- how what the core file's list says ends the call
@@ -40,11 +40,11 @@ MappedEnd m status = MatchOption (core_image_fault m.bytes.core) ((said : Result
 
 -- What a call does to its three ports.
 pub record PortMoves : Type 0 where
-  pub shelf : Move Shelved
-  pub source : Move Port
-  pub sink : Move Port
+  pub shelf : PortMove Shelved
+  pub source : PortMove Port
+  pub sink : PortMove Port
 
-abbrev pub port_moves : Move Shelved → Move Port → Move Port → PortMoves
+abbrev pub port_moves : PortMove Shelved → PortMove Port → PortMove Port → PortMoves
 port_moves shelf source sink = record { shelf = shelf; source = source; sink = sink }
 
 -- Each fault has its cause, and each status comes where the core file and the files that it lists say so: where these are told, they decide on it, unless a load fails.
@@ -65,4 +65,4 @@ MappedExcludes m = (bytes : CrashBytes) → IsMappedAs m bytes → FilesExclude 
 
 -- the line of a mapped file whose load failed, with its status; or memory ran out
 abbrev pub TellsName : List ℕ → List ℕ → Status → Type 0
-TellsName name text status = ((text ≡ name_line name) × (status ≡ ends.LoadFault)) ⊎ Says refusal.OutOfMemory text status
+TellsName name text status = ((text ≡ name_line name) × (status ≡ ends.LoadFault)) ⊎ SaysRefusal refusal.OutOfMemory text status

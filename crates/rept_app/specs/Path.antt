@@ -4,7 +4,7 @@ use Rattle.rept_dump.specs.Program.{contents}
 use Rattle.rept_trace.specs.Header.{one_stream, IsHeaderFault}
 use Rattle.rept_trace.specs.Stream.{header, plain}
 use Rattle.rept_trace.specs.declared.fault.TraceFault.{TraceFault}
-use Rattle.rept_path.specs.Traced.{RawRun, IsTraced, IsUntraced}
+use Rattle.rept_path.specs.Traced.{RawRun, IsTracedPath, IsUntraced}
 use Rattle.rept_path.specs.declared.fault.PathFault.{PathFault}
 use Rattle.rept_path.specs.declared.fault.PathFault.TheVariants.{Packet}
 use Rattle.rept_path.specs.declared.rebuilding.Path.{Path}
@@ -25,7 +25,7 @@ raw_run_of crash file from = record { code = record { contents = contents crash.
 -- The file begins with the trace's header, and the packets after it have this path over the executable: from the first packet of
 -- that number or a later one from which a path may begin, to the program counter of the register note.
 abbrev pub IsTracePath : Crash → List ℕ → ℕ → Path → Type 0
-IsTracePath crash trace from path = (file : TraceFile) × (trace ≡ file_bytes file) × IsTraced (raw_run_of crash file from) path.skipped path.steps
+IsTracePath crash trace from path = (file : TraceFile) × (trace ≡ file_bytes file) × IsTracedPath (raw_run_of crash file from) path.skipped path.steps
 
 -- The file doesn't begin with the header; or a packet is refused; or the packets have no path to the program counter.
 abbrev pub HasNoPath : Crash → List ℕ → ℕ → PathFault → Type 0

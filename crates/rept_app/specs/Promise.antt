@@ -2,7 +2,7 @@
 -- that ends in the crash; where the files are said to be inconsistent, there is none. This project's own.
 use Rattle.std.specs.Prelude.{◌≡◌, ◌⊎◌, ℕ, List}
 use Rattle.std.specs.Io.KnownBytes.{Appends}
-use Rattle.rept_ports.specs.Port.{Port, Move}
+use Rattle.rept_ports.specs.Port.{Port, PortMove}
 use Rattle.rept_found.specs.Telling.{Account, told_on}
 use Rattle.rept_serve.specs.Serving.{InputEnded}
 use Rattle.rept_make.specs.Made.{IsMade}
@@ -21,9 +21,11 @@ IsOpened g o lines =
     (Opens g.words g.files o × (lines ≡ g.reading.input))
     ⊎ ((seed : ℕ) × (steps : ℕ) × (made : Made) × (loading g.words g.files ≡ MadeRun seed steps) × IsMade seed steps made × OpensMade made o × (lines ≡ summary_line))
 
--- What was written is the answers to the lines, to their end or to `quit`, over the report of the run; and each register, byte, range
--- and writer of that report holds in every execution of the run that ends in the crash.
-pub record IsAnswered (g : CallInput) (out : Move Port) : Type 0 where
+-- What was written is the answers to the lines, to their end or to `quit`, over the report of the run. Each register, byte, range,
+-- known bit and writer that is told of that report holds in every execution of all threads that ends in the crash; the facts that a
+-- reason rests on are of the report, and the ranges that it lists hold in each of those executions. Of a run that is one path all of
+-- this holds of that path's executions too (`IsTrue`).
+pub record IsAnswered (g : CallInput) (out : PortMove Port) : Type 0 where
   pub opening : Opening
   pub lines : List ℕ
   pub opened : IsOpened g opening lines
@@ -41,6 +43,6 @@ pub record IsImpossible (g : CallInput) : Type 0 where
   pub none : IsExcluded (run_at opening)
 
 -- status 0, and status 1
-pub record Promise (g : CallInput) (out : Move Port) (status : Status) : Type 0 where
+pub record Promise (g : CallInput) (out : PortMove Port) (status : Status) : Type 0 where
   pub answered : status ≡ ends.Ok → IsAnswered g out
   pub impossible : status ≡ ends.Inconsistent → IsImpossible g

@@ -3,10 +3,10 @@ use Rattle.std.specs.Prelude.{◌≡◌, ℕ, Bool, false, List, [], ◌∷◌, 
 use Rattle.rept_elf.specs.Segments.{ElfSegment, segments}
 use Rattle.rept_dump.specs.Dump.{registers_of, threads_of, HasThreads}
 use Rattle.rept_dump.specs.Program.Program.{OneFile}
-use Rattle.rept_dump.specs.Registers.{Says, SaysOfAll}
+use Rattle.rept_dump.specs.Registers.{SaysOfAll, SaysRegisters}
 use Rattle.rept_dump.specs.declared.dump.Dump.{Dump}
 use Rattle.rept_dump.specs.declared.fault.CoreFault.{CoreFault}
-use Rattle.rept_runs.specs.Told.{AreApart}
+use Rattle.rept_runs.specs.Told.{AreNotesApart}
 use Rattle.rept_found.specs.Crash.{crash_of}
 use Rattle.rept_app.specs.Forms.{executable_fault, program_fault, core_image_fault, crash_in}
 use Rattle.rept_app.specs.Loading.{CrashBytes}
@@ -15,8 +15,8 @@ use Rattle.rept_app.specs.declared.refusal.Refusal.TheVariants as refusal
 
 -- what the notes of a core file of so many bytes say where there is one thread: the descriptor of the only register note, or why they don't give it
 abbrev pub SaysOfOne : ℕ → List ElfSegment → Result (List (List ℕ)) CoreFault → Type 0
-SaysOfOne size ss (Ok notes) = (note : List ℕ) × Says size ss (Ok note) × (notes ≡ note ∷ [])
-SaysOfOne size ss (Err fault) = Says size ss (Err fault)
+SaysOfOne size ss (Ok notes) = (note : List ℕ) × SaysRegisters size ss (Ok note) × (notes ≡ note ∷ [])
+SaysOfOne size ss (Err fault) = SaysRegisters size ss (Err fault)
 
 -- what the notes of a core file say where there may be many threads, and where there is one: the descriptors of the register notes, one of each thread, or why they don't give them
 abbrev pub NotesSay : Bool → List ℕ → Result (List (List ℕ)) CoreFault → Type 0
@@ -27,7 +27,7 @@ pub record AreNotesOf (dump : Dump) (notes : List (List ℕ)) : Type 0 where
   pub threads : HasThreads dump notes
   pub count : threads_of dump ≡ length notes
   pub first : slice_get notes 0 ≡ Some (registers_of dump)
-  pub apart : AreApart notes
+  pub apart : AreNotesApart notes
 
 -- the dump has them; and where there may not be many threads there is one
 pub record HasNotes (many : Bool) (dump : Dump) : Type 0 where

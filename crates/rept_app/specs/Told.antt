@@ -6,7 +6,7 @@ use Rattle.rept_path.specs.declared.fault.PathFault.{PathFault}
 use Rattle.rept_steps.specs.Runs.{course_of}
 use Rattle.rept_steps.specs.declared.run.Run.{Run}
 use Rattle.rept_runs.specs.Kind.{is_several}
-use Rattle.rept_ports.specs.Port.{Move, move}
+use Rattle.rept_ports.specs.Port.{PortMove, move}
 use Rattle.rept_ports.specs.Shelves.{Files, Shelved}
 use Rattle.rept_report.specs.Closure.{ClosureHas, IsReport}
 use Rattle.rept_report.specs.Setting.{Setting}
@@ -24,7 +24,7 @@ use Rattle.rept_words.specs.Words.{meaning_of}
 use Rattle.rept_words.specs.Words.Meaning.{Made as MadeWords}
 use Rattle.rept_words.specs.declared.request.Domain.{Domain}
 use Rattle.rept_words.specs.declared.request.Domain.TheVariants as domain
-use Rattle.rept_app.specs.Delivered.{Says}
+use Rattle.rept_app.specs.Delivered.{SaysRefusal}
 use Rattle.rept_app.specs.Domains.{SetsOf, means_of}
 use Rattle.rept_app.specs.Forms.{program_fault, core_image_fault, crash_in}
 use Rattle.rept_app.specs.Held.{Replies, CutOff}
@@ -53,8 +53,8 @@ abbrev pub route_of : {W : Type 0} → CrashRun W → Trip W
 route_of p = route p.means p.crash (course_of p.run)
 
 -- the analysis of the run
-abbrev pub setting_of : {W : Type 0} → CrashRun W → Setting W
-setting_of p = setting p.means p.crash (course_of p.run)
+abbrev pub run_setting : {W : Type 0} → CrashRun W → Setting W
+run_setting p = setting p.means p.crash (course_of p.run)
 
 -- a conflict of it, by the names of a session
 abbrev pub contradiction_in : {W : Type 0} → CrashRun W → ConflictKind → Contradiction
@@ -63,15 +63,15 @@ contradiction_in p kind = contradiction_on (course_of p.run) kind
 -- what a session tells by: the report of the run, an order in which it was learnt, the program counters and the processes of the notes, the functions that
 -- the program's files name, and the count of packets that were left out
 pub record IsAccountOf {W : Type 0} (p : CrashRun W) (a : Account) : Type 0 where
-  pub report : IsReport (setting_of p) a.known
-  pub log : IsLogOf (setting_of p) a.known a.log
+  pub report : IsReport (run_setting p) a.known
+  pub log : IsLogOf (run_setting p) a.known a.log
   pub scene : a.scene ≡ scene_of p.crash
   pub skipped : a.skipped ≡ p.run.skipped
 
 -- The closure of the run and the crash has a conflict, of which the line tells one; or its report answers the input.
 abbrev pub Analysed : {W : Type 0} → CrashRun W → List ℕ → List ℕ → Status → Type 0
 Analysed p input text status =
-    ((kind : ConflictKind) × ClosureHas (setting_of p) kind × Says (refusal.Inconsistent (contradiction_in p kind)) text status)
+    ((kind : ConflictKind) × ClosureHas (run_setting p) kind × SaysRefusal (refusal.Inconsistent (contradiction_in p kind)) text status)
     ⊎ ((a : Account) × IsAccountOf p a × Replies (told_on (route_of p) a) input text status)
 
 -- the bytes of a trace file, the crash in which the run ends, the number of the packet to begin from, and the domain of values
@@ -92,9 +92,9 @@ abbrev pub trace_in : CrashBytes → List (List ℕ) → CrashTrace
 trace_in bytes notes = crash_trace (crash_in bytes.program bytes.core notes) bytes.trace bytes.manner
 
 -- The trace tells no run, for a reason that the line tells; or the one that it tells is analysed.
-abbrev pub Walked : CrashTrace → List ℕ → List ℕ → Status → Type 0
-Walked t input text status =
-    ((fault : PathFault) × HasNoRunOf t.crash t.trace t.manner.from fault × Says (refusal.Path fault) text status)
+abbrev pub WalkedTrace : CrashTrace → List ℕ → List ℕ → Status → Type 0
+WalkedTrace t input text status =
+    ((fault : PathFault) × HasNoRunOf t.crash t.trace t.manner.from fault × SaysRefusal (refusal.Path fault) text status)
     ⊎ ((run : Run) × IsRunOf t.crash t.trace t.manner.from run × Analysed (run_in t run) input text status)
 
 -- what the core file's notes say: of each thread, where the trace is one of several streams; else of the only one
@@ -105,20 +105,20 @@ CoreSays bytes said = NotesSay (is_several bytes.trace) bytes.core said
 abbrev pub NotesTold : CrashBytes → List ℕ → List ℕ → Status → Type 0
 NotesTold bytes input text status =
     (said : Result (List (List ℕ)) CoreFault) × CoreSays bytes said
-    × MatchResult said (λ notes. Walked (trace_in bytes notes) input text status) (λ fault. Says (refusal.Core fault) text status)
+    × MatchResult said (λ notes. WalkedTrace (trace_in bytes notes) input text status) (λ fault. SaysRefusal (refusal.Core fault) text status)
 
 -- The program's executable is refused; or the core file is refused as an image; or its notes are read.
 abbrev pub Examined : CrashBytes → List ℕ → List ℕ → Status → Type 0
 Examined bytes input text status =
-    MatchOption (program_fault bytes.program) (MatchOption (core_image_fault bytes.core) (NotesTold bytes input text status) (λ fault. Says (refusal.CoreImage fault) text status))
-    (λ fault. Says (refusal.Executable fault) text status)
+    MatchOption (program_fault bytes.program) (MatchOption (core_image_fault bytes.core) (NotesTold bytes input text status) (λ fault. SaysRefusal (refusal.CoreImage fault) text status))
+    (λ fault. SaysRefusal (refusal.Executable fault) text status)
 
 -- The core file is refused as an image; or its list of mapped files is; or the crash with the files of that list is examined.
 abbrev pub MappedTold : MappedCrash → List ℕ → List ℕ → Status → Type 0
 MappedTold m input text status =
     MatchOption (core_image_fault m.bytes.core)
-    ((said : Result (List ℕ) MapFault) × ListSays m.bytes.core said × MatchResult said (λ desc. Examined (mapped_bytes m desc) input text status) (λ fault. Says (refusal.Maps fault) text status))
-    (λ fault. Says (refusal.CoreImage fault) text status)
+    ((said : Result (List ℕ) MapFault) × ListSays m.bytes.core said × MatchResult said (λ desc. Examined (mapped_bytes m desc) input text status) (λ fault. SaysRefusal (refusal.Maps fault) text status))
+    (λ fault. SaysRefusal (refusal.CoreImage fault) text status)
 
 -- the input that is answered of a made run: the command `summary`
 abbrev pub summary_line : List ℕ
@@ -162,7 +162,7 @@ abbrev pub route_at : (o : Opening) → Trip (SetsOf (domain_at o))
 route_at o = route_of (run_at o)
 
 abbrev pub setting_at : (o : Opening) → Setting (SetsOf (domain_at o))
-setting_at o = setting_of (run_at o)
+setting_at o = run_setting (run_at o)
 
 -- what was loaded comes to the bytes of this crash: these were loaded, or the core file that was lists its other files
 abbrev pub IsCrashOf : Files → Loading → CrashBytes → Type 0
@@ -194,10 +194,10 @@ SumCut seed steps text status =
 pub record CallInput : Type 0 where
   pub words : List (List ℕ)
   pub files : Files
-  pub loads : Move ℕ
+  pub loads : PortMove ℕ
   pub reading : Reading
 
-abbrev pub call_input : List (List ℕ) → Files → Move Shelved → Reading → CallInput
+abbrev pub call_input : List (List ℕ) → Files → PortMove Shelved → Reading → CallInput
 call_input words files shelf reading = record {
   words = words;
   files = files;
@@ -207,7 +207,7 @@ call_input words files shelf reading = record {
 
 -- what is written of what was loaded
 abbrev pub ToldOf : CallInput → Loading → List ℕ → Status → Type 0
-ToldOf g (Refused r) text status = Says r text status
+ToldOf g (Refused r) text status = SaysRefusal r text status
 ToldOf g (Loaded bytes) text status = Examined bytes g.reading.input text status
 ToldOf g (LoadedCore bytes) text status = MappedTold (mapped_crash g.files bytes) g.reading.input text status
 ToldOf g (MadeRun seed steps) text status = Summed seed steps text status
@@ -221,15 +221,15 @@ CallTold g text status = ToldOf g (loading g.words g.files) text status
 -- are there and within their limits.
 abbrev pub LoadFailed : CallInput → List ℕ → Status → Type 0
 LoadFailed g text status =
-    ((kind : FileKind) × ComesTo g.words g.files kind × (g.loads.after ≡ loads_to kind g.loads.before) × Says (refusal.LoadFault kind) text status)
-    ⊎ ((kind : FileKind) × ComesToCore g.words g.files kind × (g.loads.after ≡ core_loads_to kind g.loads.before) × Says (refusal.LoadFault kind) text status)
+    ((kind : FileKind) × ComesTo g.words g.files kind × (g.loads.after ≡ loads_to kind g.loads.before) × SaysRefusal (refusal.LoadFault kind) text status)
+    ⊎ ((kind : FileKind) × ComesToCore g.words g.files kind × (g.loads.after ≡ core_loads_to kind g.loads.before) × SaysRefusal (refusal.LoadFault kind) text status)
     ⊎ ((core : CoreBytes) × (loading g.words g.files ≡ LoadedCore core) × NameFails (mapped_crash g.files core) (move (core_loads_to file.Trace g.loads.before) g.loads.after) text status)
 
 -- A call that was cut short: a load failed; memory ran out; or, where all came to a report, the session was cut short; or that over a made run was.
 abbrev pub Interrupted : CallInput → List ℕ → Status → Type 0
 Interrupted g text status =
     LoadFailed g text status
-    ⊎ Says refusal.OutOfMemory text status
+    ⊎ SaysRefusal refusal.OutOfMemory text status
     ⊎ ((o : Opening) × (a : Account) × Opens g.words g.files o × IsAccountOf (run_at o) a × CutOff (told_on (route_at o) a) g.reading text status)
     ⊎ ((seed : ℕ) × (steps : ℕ) × (meaning_of g.words ≡ Some (MadeWords seed steps)) × SumCut seed steps text status)
 

@@ -2,12 +2,12 @@
 use Rattle.std.specs.Prelude.{◌≡◌, ◌⊎◌, ℕ, ◌≤◌, List, Option, Some, None, IfSome, MatchOption}
 use Rattle.std.specs.Io.KnownBytes.{Appends}
 use Rattle.rept_ports.specs.Causes.{Rose, OneFault}
-use Rattle.rept_ports.specs.Port.{Port, Move, move}
+use Rattle.rept_ports.specs.Port.{Port, PortMove, move}
 use Rattle.rept_ports.specs.Shelves.{Files, Shelved}
 use Rattle.rept_app.specs.Ends.{Stopped, Yields, FaultEnds, PortsEnd}
 use Rattle.rept_app.specs.Examine.{FilesEnd}
 use Rattle.rept_app.specs.Lines.{status_of}
-use Rattle.rept_app.specs.Loading.{Loading, loading, Fits, FitBefore, CoreFitBefore, IsOfCore, loads_to, core_loads_to}
+use Rattle.rept_app.specs.Loading.{Loading, loading, FileFits, FitBefore, CoreFitBefore, IsOfCore, loads_to, core_loads_to}
 use Rattle.rept_app.specs.Loading.Loading.{Refused, Loaded, LoadedCore, MadeRun}
 use Rattle.rept_app.specs.Mapped.{mapped_crash, NamesLoaded}
 use Rattle.rept_app.specs.MappedEnds.{MappedEnd}
@@ -30,7 +30,7 @@ LoadEnds files status = (status ≡ ends.LoadFault) ⊎ MatchOption files (Lacks
 -- A status that tells a fault of a port comes only where that port counted one; where the files aren't told, so do those of a
 -- file that is missing or too large. A fault of the input or the output ends the call: no other is counted, and the status tells it, unless its
 -- line can't be written. The files stay as they are.
-pub record TopCauses (shelf : Move Shelved) (source sink : Move Port) (status : Status) : Type 0 where
+pub record TopCauses (shelf : PortMove Shelved) (source sink : PortMove Port) (status : Status) : Type 0 where
   pub ports : PortsEnd source sink status
   pub load : status ≡ ends.LoadFault → Rose shelf.before.faults shelf.after.faults
   pub untold : MatchOption shelf.before.files (LacksFile status → OneFault shelf.before.faults shelf.after.faults) (λ _. Unit {0})
@@ -46,20 +46,20 @@ FaultsEnd (Some (Maps names from)) files = MatchOption files ⊥ (λ _. Unit {0}
 FaultsEnd (Some (Open d names from)) files = Unit {0}
 
 -- A fault of the shelf ends the call: no other is counted, and the status tells it, unless its line can't be written.
-pub record ShelfCauses (shelf : Move Shelved) (status : Status) : Type 0 where
+pub record ShelfCauses (shelf : PortMove Shelved) (status : Status) : Type 0 where
   pub load : status ≡ ends.LoadFault → OneFault shelf.before.faults shelf.after.faults
   pub load_ends : FaultEnds shelf.before.faults shelf.after.faults (LoadEnds shelf.before.files status)
 
 -- Which load of the three was the last: the files before it are there and within their limits. It is that of the trace, unless
 -- the call ends with a load.
-pub record LastLoad (names : Names) (shelf : Move Shelved) (status : Status) : Type 0 where
+pub record LastLoad (names : Names) (shelf : PortMove Shelved) (status : Status) : Type 0 where
   pub last : FileKind
   pub before : IfSome shelf.before.files (λ files. FitBefore files names last)
   pub loads : shelf.after.loads ≡ loads_to last shelf.before.loads
   pub all : (last ≡ file.Trace) ⊎ (status ≡ ends.LoadFault) ⊎ LacksFile status ⊎ Stopped status
 
 -- The load of the core file or that of the trace was the last, and ended the call: the core file is there and within its limit, where it was loaded before.
-pub record LastCoreLoad (names : CoreNames) (shelf : Move Shelved) (status : Status) : Type 0 where
+pub record LastCoreLoad (names : CoreNames) (shelf : PortMove Shelved) (status : Status) : Type 0 where
   pub last : FileKind
   pub one : IsOfCore last
   pub before : IfSome shelf.before.files (λ files. CoreFitBefore files names last)
@@ -67,13 +67,13 @@ pub record LastCoreLoad (names : CoreNames) (shelf : Move Shelved) (status : Sta
   pub ended : (status ≡ ends.LoadFault) ⊎ LacksFile status ⊎ Stopped status
 
 -- Both were loaded, and then those files that the core file lists.
-pub record MappedLoads (names : CoreNames) (shelf : Move Shelved) (status : Status) : Type 0 where
+pub record MappedLoads (names : CoreNames) (shelf : PortMove Shelved) (status : Status) : Type 0 where
   pub core : List ℕ
-  pub found : IfSome shelf.before.files (λ files. (files names.core ≡ Some core) × Fits files file.Core names.core × Fits files file.Trace names.trace)
+  pub found : IfSome shelf.before.files (λ files. (files names.core ≡ Some core) × FileFits files file.Core names.core × FileFits files file.Trace names.trace)
   pub named : NamesLoaded core (move (core_loads_to file.Trace shelf.before.loads) shelf.after.loads) status
 
 -- The loads of words that name files; there are none where memory ran out before.
-abbrev pub LoadsOf : Option Meaning → Move Shelved → Status → Type 0
+abbrev pub LoadsOf : Option Meaning → PortMove Shelved → Status → Type 0
 LoadsOf None shelf status = Unit {0}
 LoadsOf (Some (Made seed steps)) shelf status = Unit {0}
 LoadsOf (Some (Maps names from)) shelf status = LastCoreLoad names shelf status ⊎ MappedLoads names shelf status ⊎ ((shelf.after ≡ shelf.before) × Stopped status)
@@ -95,13 +95,13 @@ abbrev pub EndsByFiles : List (List ℕ) → Files → Status → Type 0
 EndsByFiles words files status = EndsAt files (loading words files) status
 
 -- no port counted a fault
-pub record NoneFails (shelf : Move Shelved) (source sink : Move Port) : Type 0 where
+pub record NoneFails (shelf : PortMove Shelved) (source sink : PortMove Port) : Type 0 where
   pub loaded : Rose shelf.before.faults shelf.after.faults → ⊥
   pub read : Rose source.before.faults source.after.faults → ⊥
   pub written : Rose sink.before.faults sink.after.faults → ⊥
 
 -- all of the text is written, or memory ran out
-abbrev pub Completes : CallInput → Move Port → Status → Type 0
+abbrev pub Completes : CallInput → PortMove Port → Status → Type 0
 Completes g sink status = (status ≡ ends.OutOfMemory) ⊎ ((text : List ℕ) × CallTold g text status × Appends sink.before.bytes sink.after.bytes text)
 
 -- how words that ask for a made run end the call: well, whatever the ports are, unless the output fails or memory runs out

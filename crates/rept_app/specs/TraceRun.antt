@@ -2,7 +2,7 @@
 use Rattle.std.specs.Prelude.{◌≡◌, ◌≢◌, ◌⊎◌, ℕ, ◌<◌, List, length, Result, IfOk, IfErr, MatchBool, MatchResult}
 use Rattle.rept_dump.specs.Dump.{threads_of}
 use Rattle.rept_dump.specs.declared.dump.Dump.{Dump}
-use Rattle.rept_steps.specs.Course.{IsSound}
+use Rattle.rept_steps.specs.Course.{IsSoundCourse}
 use Rattle.rept_steps.specs.Runs.{course_of, run_of_one}
 use Rattle.rept_steps.specs.declared.run.Run.{Run}
 use Rattle.rept_timeline.specs.Small.{IsSmall}
@@ -48,7 +48,7 @@ pub record IsRunRead (crash : Crash) (trace : List ℕ) (from : ℕ) (result : R
 
 -- The run can be analysed as one that ends in the dump: it is sound and small enough, and has one thread for each of the dump's, of which there are some.
 pub record FitsDump (dump : Dump) (run : Run) : Type 0 where
-  pub sound : IsSound (course_of run)
+  pub sound : IsSoundCourse (course_of run)
   pub small : IsSmall (course_of run)
   pub threads : threads_of dump ≡ length run.threads
   pub some : 0 < length run.threads

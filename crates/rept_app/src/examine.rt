@@ -5,7 +5,7 @@ ghost use Rattle.rept_ports.specs.Port.{move};
 ghost use Rattle.rept_found.specs.Crash.{crash_of};
 ghost use Rattle.rept_runs.specs.Kind.{is_several};
 ghost use Rattle.rept_app.specs.Delivered.{Delivers};
-ghost use Rattle.rept_app.specs.Examine.{Examines, IsExamined, FilesExclude, FilesHold, Walks, IsWalked, TraceExcludes, WalkHolds};
+ghost use Rattle.rept_app.specs.Examine.{Examines, IsExamined, FilesExclude, FilesHold, WalksTrace, IsWalked, TraceExcludes, WalkHolds};
 ghost use Rattle.rept_app.specs.Loading.{crash_bytes};
 ghost use Rattle.rept_app.specs.Reading.{AreNotesOf, HasNotes};
 ghost use Rattle.rept_app.specs.Told.{crash_trace};
@@ -55,7 +55,7 @@ pub fn walk<S: Source, K: Sink>(
 ) -> Status
     requires few { length trace.now < 2 ^ 32 }
     requires noted { HasNotes (is_several trace.now) dump.now }
-    ensures text { (notes : List (List ℕ)) → AreNotesOf dump.now notes → IfSome (S.port input.old).bytes (λ bytes. Delivers (Walks (crash_trace (crash_of dump.now notes) trace.now manner) (record { input = bytes; left = (S.port input.new).bytes })) (move (K.port out.old) (K.port out.new)) result) }
+    ensures text { (notes : List (List ℕ)) → AreNotesOf dump.now notes → IfSome (S.port input.old).bytes (λ bytes. Delivers (WalksTrace (crash_trace (crash_of dump.now notes) trace.now manner) (record { input = bytes; left = (S.port input.new).bytes })) (move (K.port out.old) (K.port out.new)) result) }
     ensures causes { (notes : List (List ℕ)) → AreNotesOf dump.now notes → IsWalked (crash_trace (crash_of dump.now notes) trace.now manner) (move (S.port input.old) (S.port input.new)) (move (K.port out.old) (K.port out.new)) result }
     ensures stays { (notes : List (List ℕ)) → AreNotesOf dump.now notes → (input.new ≡ input.old) ⊎ WalkHolds (crash_trace (crash_of dump.now notes) trace.now manner) result }
     ensures impossible { (notes : List (List ℕ)) → AreNotesOf dump.now notes → result ≡ Status.Inconsistent → TraceExcludes (crash_trace (crash_of dump.now notes) trace.now manner) }

@@ -4,7 +4,7 @@ ghost use Rattle.std.specs.Prelude.{◌≡◌, ◌≤◌, ◌+◌, ℕ, List, le
 ghost use Rattle.rept_maps.specs.FileMap.{map_count};
 ghost use Rattle.rept_maps.specs.Views.{desc_of};
 ghost use Rattle.rept_mapped.specs.Mapped.{mappings};
-ghost use Rattle.rept_ports.specs.Port.{Move, move};
+ghost use Rattle.rept_ports.specs.Port.{PortMove, move};
 ghost use Rattle.rept_ports.specs.Shelves.{Shelved};
 ghost use Rattle.rept_app.specs.Listed.{AreLoaded, HasNoFiles};
 ghost use Rattle.rept_app.specs.Mapped.{mapped_files};
@@ -83,7 +83,7 @@ pub fn images_in<'a>(alloc: Global, listed: &'a ListedFiles<'_>) -> Result<Image
     ensures places { IfOk result (λ images. length images ≡ map_count (desc_of listed.now.maps)) }
 
     // Where the shelf tells its files, they are those of the names.
-    ensures mapped { (core : List ℕ) (shelf : Move Shelved) → AreLoaded core shelf listed.now → IfOk result (λ images. IfSome shelf.before.files (λ files. mappings (desc_of listed.now.maps) images ≡ mapped_files files (desc_of listed.now.maps))) }
+    ensures mapped { (core : List ℕ) (shelf : PortMove Shelved) → AreLoaded core shelf listed.now → IfOk result (λ images. IfSome shelf.before.files (λ files. mappings (desc_of listed.now.maps) images ≡ mapped_files files (desc_of listed.now.maps))) }
 {
     images_of(
         alloc,

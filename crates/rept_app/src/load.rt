@@ -6,7 +6,7 @@ ghost use Rattle.rept_ports.specs.Shelves.{Loads};
 ghost use Rattle.rept_words.specs.Words.{meaning_of};
 ghost use Rattle.rept_words.specs.Asked.{core_named_by, named_by};
 ghost use Rattle.rept_app.specs.declared.refusal.FileKind.{FileKind};
-ghost use Rattle.rept_app.specs.Loading.{core_bytes, crash_bytes, limit_of, fetched_all, fetched_core, first_packet, loading, loads_to, asked_for, BothLoaded, CoreStopsAt, FitBefore, IsAsked, LoadRefuses, LoadingStops, NamesNone, ShelfMoves, StopsAt};
+ghost use Rattle.rept_app.specs.Loading.{core_bytes, crash_bytes, limit_of, fetched_all, fetched_core, first_packet, loading, loads_to, asked_for, BothLoaded, CoreStopsAt, FitBefore, IsAsked, LoadRefuses, LoadingStops, NamesNone, ShelfMoves, IsLastLoad};
 ghost use Rattle.rept_app.specs.Loading.Loading.{Loaded, LoadedCore};
 
 use crate::refusal::{FileKind, Refusal};
@@ -101,7 +101,7 @@ fn load_names<H: Shelf>(
     ensures before { IsOk result → IfSome (H.port shelf.old).files (λ files. FitBefore files (named_by names.entry) FileKind.Trace) }
     ensures loads { IsOk result → (H.port shelf.new).loads ≡ loads_to FileKind.Trace (H.port shelf.old).loads }
     ensures faults { ShelfMoves (move (H.port shelf.old) (H.port shelf.new)) result }
-    ensures refused { IfErr result (λ r. (kind : FileKind) × StopsAt (move (H.port shelf.old) (H.port shelf.new)) (named_by names.entry) kind r) }
+    ensures refused { IfErr result (λ r. (kind : FileKind) × IsLastLoad (move (H.port shelf.old) (H.port shelf.new)) (named_by names.entry) kind r) }
 {
     let exe = match load_file(alloc, shelf, names.exe, FileKind::Exe) {
         Ok(exe) => exe,

@@ -2,7 +2,7 @@
 
 ghost use Rattle.std.specs.Prelude.{◌≡◌};
 ghost use Rattle.rept_ports.specs.Port.{move};
-ghost use Rattle.rept_app.specs.Delivered.{Delivers, Says, SaysOrNoMemory};
+ghost use Rattle.rept_app.specs.Delivered.{Delivers, SaysOrNoMemory, SaysRefusal};
 
 use crate::refusal::Refusal;
 use crate::status::Status;
@@ -23,7 +23,7 @@ pub fn tell<K: Sink>(alloc: Global, out: &mut K, refusal: &Refusal) -> Status
 /// Writes the line of running out of memory, which takes none, and answers its status, or that the output failed: for callers that have
 /// no memory to read the words.
 pub fn tell_no_memory<K: Sink>(out: &mut K) -> Status
-    ensures { Delivers (Says Refusal.OutOfMemory) (move (K.port out.old) (K.port out.new)) result }
+    ensures { Delivers (SaysRefusal Refusal.OutOfMemory) (move (K.port out.old) (K.port out.new)) result }
 {
     deliver(out, b"out-of-memory\n", Status::OutOfMemory)
 }

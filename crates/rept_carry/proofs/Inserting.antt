@@ -8,7 +8,7 @@ use Rattle.std.proofs.lemmas.List.Edits.{length-insert, get_or-insert_below, get
 use Rattle.std.proofs.lemmas.List.Elements.{Contains-get_or, Contains-append_left, Contains-append_right, Contains-append_cases, Contains-push, Contains-push_cases}
 use Rattle.std.proofs.lemmas.Option.{slice_get_cases}
 use Rattle.rept_report.specs.Timeline.{IsLeastFrom, IsGreatestTo}
-use Rattle.rept_carry.specs.Rising.{IsCut, AddsOne}
+use Rattle.rept_carry.specs.Rising.{IsSplit, AddsOne}
 
 some_same : {A : Type 0} {x y : A} → Some x ≡ Some y → x ≡ y
 some_same e = cc
@@ -34,7 +34,7 @@ module _ (xs : List ℕ) (up : IsNonDecreasing xs) where
   rises : (i j : ℕ) → i ≤ j → j < length xs → get_or xs i 0 ≤ get_or xs j 0
   rises i j order less = up i j 0 order less
 
-  module _ (n place : ℕ) (cut : IsCut xs n place) where
+  module _ (n place : ℕ) (cut : IsSplit xs n place) where
     long : length (insert xs place n) ≡ length xs + 1
     long = length-insert xs place n cut.bound
 
@@ -78,7 +78,7 @@ module _ (xs : List ℕ) (up : IsNonDecreasing xs) where
         omega arith
 
   -- the first one past a place, and the last one before it
-  module _ (least place : ℕ) (cut : IsCut xs least place) where
+  module _ (least place : ℕ) (cut : IsSplit xs least place) where
     past_place : (v : ℕ) → least ≤ v → (h : Contains xs v) → place ≤ h.0
     past_place v low h =
         elim (cases_lt h.0 place) [
@@ -111,7 +111,7 @@ module _ (xs : List ℕ) (up : IsNonDecreasing xs) where
           | inr (past, is) ↦ let order = past_place v low h in let less = h.1 in omega arith
         ]
 
-  module _ (most place : ℕ) (cut : IsCut xs (most + 1) place) where
+  module _ (most place : ℕ) (cut : IsSplit xs (most + 1) place) where
     before_place : (v : ℕ) → v ≤ most → (h : Contains xs v) → h.0 < place
     before_place v low h =
         elim (cases_lt h.0 place) [

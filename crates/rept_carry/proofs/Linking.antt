@@ -9,7 +9,7 @@ use Rattle.rept_report.specs.Moments.{Moments, AreMoments}
 use Rattle.rept_moments.specs.Seen.{AddsNexts}
 use Rattle.rept_carry.specs.declared.links.Links.{Links}
 use Rattle.rept_carry.specs.Rising.{AddsOne}
-use Rattle.rept_carry.specs.Links.{listed, AreEmpty, AddsAt, Leads, Comes, AreNone, AreRoomFor, AreLinked, AreLinks, Adds, IsPair, IsPairOf, IsNextOf}
+use Rattle.rept_carry.specs.Links.{listed, AreEmpty, AddsAt, Leads, Comes, AreNone, AreRoomFor, AreLinked, AreLinks, AddsPairs, IsPair, IsPairOf, IsNextOf}
 
 none_in : (w : ℕ) → Contains {X = ℕ} [] w → ⊥
 none_in w h = let less = h.1 in omega arith
@@ -41,7 +41,7 @@ module _ (P Q R : ℕ → ℕ → Type 0) (to : (m w : ℕ) → P m w ⊎ Q m w 
             | inr j ↦ (second m w).1 (inr j)
           ]
 
-  pub adds_both : (start old new : Links) → Adds P start old → Adds Q old new → Adds R start new
+  pub adds_both : (start old new : Links) → AddsPairs P start old → AddsPairs Q old new → AddsPairs R start new
   adds_both start old new first second = record {
     onward = both_to (Leads start) (Leads old) (Leads new) first.onward second.onward;
     back = both_to (Comes start) (Comes old) (Comes new) first.back second.back;
@@ -64,7 +64,7 @@ module _ (P Q R : ℕ → ℕ → Type 0) (to : (m w : ℕ) → P m w ⊎ Q m w 
             | inr j ↦ (adds m w).1 (inr j)
           ]
 
-  pub linked_more : (old new : Links) → AreLinked P old → Adds Q old new → AreLinked R new
+  pub linked_more : (old new : Links) → AreLinked P old → AddsPairs Q old new → AreLinked R new
   linked_more old new known adds = record {
     onward = linked_to (Leads old) (Leads new) known.onward adds.onward;
     back = linked_to (Comes old) (Comes new) known.back adds.back;
@@ -85,13 +85,13 @@ module _ (P Q : ℕ → ℕ → Type 0) (to : (m w : ℕ) → P m w → Q m w) (
       back (inl k) = (adds m w).1 (inl k)
       back (inr k) = (adds m w).1 (inr (from m w k))
 
-  pub adds_as : (old new : Links) → Adds P old new → Adds Q old new
+  pub adds_as : (old new : Links) → AddsPairs P old new → AddsPairs Q old new
   adds_as old new adds = record {
     onward = as_to (Leads old) (Leads new) adds.onward;
     back = as_to (Comes old) (Comes new) adds.back;
   }
 
-pub adds_none : (P : ℕ → ℕ → Type 0) (links : Links) → ((m w : ℕ) → P m w → ⊥) → Adds P links links
+pub adds_none : (P : ℕ → ℕ → Type 0) (links : Links) → ((m w : ℕ) → P m w → ⊥) → AddsPairs P links links
 adds_none P links none = record { onward = same (Leads links); back = same (Comes links) }
   where
     same : (old : ℕ → ℕ → Type 0) → AddsTo P old old
@@ -128,7 +128,7 @@ set_adds_to lists at n less old now read adds =
     set_adds lists at n less now (subst (λ (xs : List ℕ). AddsOne n xs now) same adds)
 
 -- one pair
-pub pair_added : (from to : ℕ) (old new : Links) → AddsAt from to old.onward.items new.onward.items → AddsAt to from old.back.items new.back.items → Adds (IsPair from to) old new
+pub pair_added : (from to : ℕ) (old new : Links) → AddsAt from to old.onward.items new.onward.items → AddsAt to from old.back.items new.back.items → AddsPairs (IsPair from to) old new
 pair_added from to old new onward back = record { onward = λ m w. onward m w; back = λ m w. (forth m w, hence m w) }
   where
     forth : (m w : ℕ) → Comes new m w → Comes old m w ⊎ IsPair from to m w
@@ -150,10 +150,10 @@ abbrev pub IsPairTo : ℕ → List ℕ → ℕ → ℕ → ℕ → Type 0
 IsPairTo from list i m w = (m ≡ from) × IsFirst list i w
 
 module _ (from : ℕ) (list : List ℕ) where
-  pub pairs_none : (links : Links) → Adds (IsPairTo from list 0) links links
+  pub pairs_none : (links : Links) → AddsPairs (IsPairTo from list 0) links links
   pairs_none links = adds_none (IsPairTo from list 0) links (λ m w h. let less = h.1.1 in omega arith)
 
-  pub pairs_more : (i : ℕ) (start old new : Links) → i < length list → Adds (IsPairTo from list i) start old → Adds (IsPair from (get_or list i 0)) old new → Adds (IsPairTo from list (i + 1)) start new
+  pub pairs_more : (i : ℕ) (start old new : Links) → i < length list → AddsPairs (IsPairTo from list i) start old → AddsPairs (IsPair from (get_or list i 0)) old new → AddsPairs (IsPairTo from list (i + 1)) start new
   pairs_more i start old new less = adds_both (IsPairTo from list i) (IsPair from (get_or list i 0)) (IsPairTo from list (i + 1)) to back start old new
     where
       read : (w : ℕ) → get_or list i w ≡ get_or list i 0
@@ -171,11 +171,11 @@ module _ (from : ℕ) (list : List ℕ) where
             | inr past ↦ let same : h.1.0 ≡ i = omega arith in inr (h.0, sym h.1.2 ∙ ap (λ (k : ℕ). get_or list k w) same ∙ read w)
           ]
 
-  pub pairs_all : (i : ℕ) (start new : Links) → i ≡ length list → Adds (IsPairTo from list i) start new → Adds (IsPairOf from list) start new
-  pairs_all i start new all adds = subst (λ (k : ℕ). Adds (IsPairTo from list k) start new) all adds
+  pub pairs_all : (i : ℕ) (start new : Links) → i ≡ length list → AddsPairs (IsPairTo from list i) start new → AddsPairs (IsPairOf from list) start new
+  pairs_all i start new all adds = subst (λ (k : ℕ). AddsPairs (IsPairTo from list k) start new) all adds
 
 -- all numbers next to one
-pub nexts_added : (M : Moments) (from : ℕ) (list : List ℕ) (old new : Links) → AddsNexts M from [] list → Adds (IsPairOf from list) old new → Adds (IsNextOf M from) old new
+pub nexts_added : (M : Moments) (from : ℕ) (list : List ℕ) (old new : Links) → AddsNexts M from [] list → AddsPairs (IsPairOf from list) old new → AddsPairs (IsNextOf M from) old new
 nexts_added M from list old new nexts = adds_as (IsPairOf from list) (IsNextOf M from) to back old new
   where
     to : (m w : ℕ) → IsPairOf from list m w → IsNextOf M from m w
@@ -206,7 +206,7 @@ module _ (M : Moments) where
     back = λ m w. (λ h. absurd (none_in m (subst (λ (xs : List ℕ). Contains xs m) (none.back.none w) h)), λ h. let low = h.0 in absurd (omega arith));
   }
 
-  pub below_more : (n : ℕ) (old new : Links) → AreLinked (IsBelow M n) old → Adds (IsNextOf M n) old new → AreLinked (IsBelow M (n + 1)) new
+  pub below_more : (n : ℕ) (old new : Links) → AreLinked (IsBelow M n) old → AddsPairs (IsNextOf M n) old new → AreLinked (IsBelow M (n + 1)) new
   below_more n old new = linked_more (IsBelow M n) (IsNextOf M n) (IsBelow M (n + 1)) to back old new
     where
       to : (m w : ℕ) → IsBelow M n m w ⊎ IsNextOf M n m w → IsBelow M (n + 1) m w
@@ -221,7 +221,7 @@ module _ (M : Moments) where
             | inr past ↦ let same : m ≡ n = omega arith in inr (same, h.1)
           ]
 
-  pub below_all : (L : Legs) (n : ℕ) (old new : Links) → AreMoments L M → n ≡ M.end → AreLinked (IsBelow M n) old → Adds (IsNextOf M n) old new → AreLinks M new
+  pub below_all : (L : Legs) (n : ℕ) (old new : Links) → AreMoments L M → n ≡ M.end → AreLinked (IsBelow M n) old → AddsPairs (IsNextOf M n) old new → AreLinks M new
   below_all L n old new laws all known adds =
       let more = below_more n old new known adds in
       record {

@@ -10,7 +10,7 @@ use Rattle.rept_report.specs.Spots.{passage}
 use Rattle.rept_report.specs.Views.{may_write, Carries}
 use Rattle.rept_report.specs.Timeline.{IsLeastFrom}
 use Rattle.rept_carry.proofs.Carrying.{least_same}
-use Rattle.rept_carry.specs.Passing.{Ground, Passes, AreAllWriters, AreWriters}
+use Rattle.rept_carry.specs.Passing.{PassingGround, PassesToNext, AreAllWriters, AreWriters}
 
 some_same : {x y : ℕ} → Some x ≡ Some y → x ≡ y
 some_same e = cc
@@ -46,10 +46,10 @@ module _ (f : ℕ → Bool) where
   none_any [] each = refl
   none_any (x ∷ xs) each = ap (λ (b : Bool). b || list_any f xs) (each 0 x refl) ∙ none_any xs (λ k i e. each (suc k) i e)
 
-pub passes_is : (M : Moments) (rows : List ℕ) (m w : ℕ) (dark fallen : Bool) → M.next m w ≡ true → dark ≡ M.dark m w → fallen ≡ list_any (λ (i : ℕ). M.falls i m w) rows → ((not dark && not fallen) ≡ true) ↔ Passes (record { moments = M; rows = rows }) m w
+pub passes_is : (M : Moments) (rows : List ℕ) (m w : ℕ) (dark fallen : Bool) → M.next m w ≡ true → dark ≡ M.dark m w → fallen ≡ list_any (λ (i : ℕ). M.falls i m w) rows → ((not dark && not fallen) ≡ true) ↔ PassesToNext (record { moments = M; rows = rows }) m w
 passes_is M rows m w dark fallen next is falls = (forth, back)
   where
-    forth : (not dark && not fallen) ≡ true → Passes (record { moments = M; rows = rows }) m w
+    forth : (not dark && not fallen) ≡ true → PassesToNext (record { moments = M; rows = rows }) m w
     forth e =
         let parts = and_parts (not dark) (not fallen) e in
         record {
@@ -60,29 +60,29 @@ passes_is M rows m w dark fallen next is falls = (forth, back)
               not_so (M.falls i m w) (λ t. false≢true (sym (not_true fallen parts.1) ∙ falls ∙ any_at (λ (j : ℕ). M.falls j m w) rows k.0 i k.1 t));
         }
 
-    back : Passes (record { moments = M; rows = rows }) m w → (not dark && not fallen) ≡ true
+    back : PassesToNext (record { moments = M; rows = rows }) m w → (not dark && not fallen) ≡ true
     back p =
         and_from (not dark) (not fallen) (ap not (is ∙ p.light))
         (ap not (falls ∙ none_any (λ (j : ℕ). M.falls j m w) rows (λ k i e. p.spared i (get_contains rows k i e))))
 
-pub passes_as : (M : Moments) (rows : List ℕ) (m w : ℕ) (dark fallen b : Bool) → M.next m w ≡ true → dark ≡ M.dark m w → fallen ≡ list_any (λ (i : ℕ). M.falls i m w) rows → b ≡ (not dark && not fallen) → (b ≡ true) ↔ Passes (record { moments = M; rows = rows }) m w
-passes_as M rows m w dark fallen b next is falls same = subst (λ (x : Bool). (x ≡ true) ↔ Passes (record { moments = M; rows = rows }) m w) (sym same) (passes_is M rows m w dark fallen next is falls)
+pub passes_as : (M : Moments) (rows : List ℕ) (m w : ℕ) (dark fallen b : Bool) → M.next m w ≡ true → dark ≡ M.dark m w → fallen ≡ list_any (λ (i : ℕ). M.falls i m w) rows → b ≡ (not dark && not fallen) → (b ≡ true) ↔ PassesToNext (record { moments = M; rows = rows }) m w
+passes_as M rows m w dark fallen b next is falls same = subst (λ (x : Bool). (x ≡ true) ↔ PassesToNext (record { moments = M; rows = rows }) m w) (sym same) (passes_is M rows m w dark fallen next is falls)
 
 -- and by the rules of the report
 module _ {W : Type 0} (S : Setting W) (K : Knowledge) (a m w : ℕ) (rows : List ℕ) where
-  pub carried : AreAllWriters S K a rows → Passes (record { moments = S.moments; rows = rows }) m w → Carries S K (passage a m w)
+  pub carried : AreAllWriters S K a rows → PassesToNext (record { moments = S.moments; rows = rows }) m w → Carries S K (passage a m w)
   carried all p = record { next = p.next; light = p.light; spared = λ i falls. not_so (may_write S K i a) (λ may. false≢true (sym (p.spared i (all i may)) ∙ falls)) }
 
-  pub passes : AreWriters S K a rows → Carries S K (passage a m w) → Passes (record { moments = S.moments; rows = rows }) m w
+  pub passes : AreWriters S K a rows → Carries S K (passage a m w) → PassesToNext (record { moments = S.moments; rows = rows }) m w
   passes are c = record { next = c.next; light = c.light; spared = λ i h. not_so (S.moments.falls i m w) (λ falls. false≢true (sym (c.spared i falls) ∙ are i h)) }
 
 -- so the least ones are the same
 module _ {W : Type 0} (S : Setting W) (K : Knowledge) (a m : ℕ) (rows : List ℕ) (all : AreAllWriters S K a rows) (are : AreWriters S K a rows) where
-  abbrev G : Ground
+  abbrev G : PassingGround
   G = record { moments = S.moments; rows = rows }
 
-  pub least_onward : (least : ℕ) (r : Option ℕ) → IsLeastFrom (λ (w : ℕ). Passes G m w) least r → IsLeastFrom (λ (w : ℕ). Carries S K (passage a m w)) least r
-  least_onward least r its = least_same (λ (w : ℕ). Passes G m w) (λ (w : ℕ). Carries S K (passage a m w)) (λ w p. carried S K a m w rows all p) (λ w c. passes S K a m w rows are c) least r its
+  pub least_onward : (least : ℕ) (r : Option ℕ) → IsLeastFrom (λ (w : ℕ). PassesToNext G m w) least r → IsLeastFrom (λ (w : ℕ). Carries S K (passage a m w)) least r
+  least_onward least r its = least_same (λ (w : ℕ). PassesToNext G m w) (λ (w : ℕ). Carries S K (passage a m w)) (λ w p. carried S K a m w rows all p) (λ w c. passes S K a m w rows are c) least r its
 
-  pub least_back : (least : ℕ) (r : Option ℕ) → IsLeastFrom (λ (v : ℕ). Passes G v m) least r → IsLeastFrom (λ (v : ℕ). Carries S K (passage a v m)) least r
-  least_back least r its = least_same (λ (v : ℕ). Passes G v m) (λ (v : ℕ). Carries S K (passage a v m)) (λ v p. carried S K a v m rows all p) (λ v c. passes S K a v m rows are c) least r its
+  pub least_back : (least : ℕ) (r : Option ℕ) → IsLeastFrom (λ (v : ℕ). PassesToNext G v m) least r → IsLeastFrom (λ (v : ℕ). Carries S K (passage a v m)) least r
+  least_back least r its = least_same (λ (v : ℕ). PassesToNext G v m) (λ (v : ℕ). Carries S K (passage a v m)) (λ v p. carried S K a v m rows all p) (λ v c. passes S K a v m rows are c) least r its

@@ -45,7 +45,7 @@ abbrev pub AreLinks : Moments → Links → Type 0
 AreLinks moments = AreLinked (λ m w. moments.next m w ≡ true)
 
 -- the pairs of which something is so were added
-pub record Adds (Is : ℕ → ℕ → Type 0) (old new : Links) : Type 0 where
+pub record AddsPairs (Is : ℕ → ℕ → Type 0) (old new : Links) : Type 0 where
   pub onward : (m w : ℕ) → Leads new m w ↔ (Leads old m w ⊎ Is m w)
   pub back : (m w : ℕ) → Comes new m w ↔ (Comes old m w ⊎ Is m w)
 

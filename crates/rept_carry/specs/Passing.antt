@@ -10,15 +10,15 @@ use Rattle.rept_moments.specs.declared.course.Course.{Course}
 use Rattle.rept_moments.specs.Courses.{seen_in}
 
 -- the moments, and the rows that may write the byte
-pub record Ground : Type 0 where
+pub record PassingGround : Type 0 where
   pub moments : Moments
   pub rows : List ℕ
 
-abbrev pub ground_of : Course → List ℕ → Ground
+abbrev pub ground_of : Course → List ℕ → PassingGround
 ground_of course rows = record { moments = (seen_in course).moments; rows = rows }
 
 -- from a number to one that is next to it
-pub record Passes (G : Ground) (m w : ℕ) : Type 0 where
+pub record PassesToNext (G : PassingGround) (m w : ℕ) : Type 0 where
   pub next : G.moments.next m w ≡ true
   pub light : G.moments.dark m w ≡ false
   pub spared : (i : ℕ) → Contains G.rows i → G.moments.falls i m w ≡ false

@@ -3,7 +3,7 @@ use Rattle.std.specs.Prelude.{◌≡◌, ◌↔◌, ◌⊎◌, ℕ, ◌<◌, ◌
 use Rattle.std.specs.List.{Contains}
 
 -- the numbers before a place are below k, and the others aren't
-pub record IsCut (numbers : List ℕ) (k end : ℕ) : Type 0 where
+pub record IsSplit (numbers : List ℕ) (k end : ℕ) : Type 0 where
   pub bound : end ≤ length numbers
   pub below : (m : ℕ) → m < end → slice_index_or numbers m 0 < k
   pub above : (m : ℕ) → end ≤ m → m < length numbers → k ≤ slice_index_or numbers m 0

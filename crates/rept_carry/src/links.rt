@@ -5,7 +5,7 @@ ghost use Rattle.std.specs.List.{All, Contains};
 ghost use Rattle.rept_report.specs.Moments.{AreMoments};
 ghost use Rattle.rept_report.specs.Timeline.{IsLeastFrom, IsGreatestTo};
 ghost use Rattle.rept_moments.specs.Courses.{seen_in};
-ghost use Rattle.rept_carry.specs.Links.{listed, AreEmpty, AddsAt, AreNone, AreRoomFor, AreLinks, Adds, IsPair, IsPairOf, IsNextOf};
+ghost use Rattle.rept_carry.specs.Links.{listed, AreEmpty, AddsAt, AreNone, AreRoomFor, AreLinks, AddsPairs, IsPair, IsPairOf, IsNextOf};
 
 use crate::rising::Rising;
 use rept_moments::Course;
@@ -86,7 +86,7 @@ impl Links {
         requires to { to < length self.old.back.items }
         ensures onward { length self.new.onward.items ≡ length self.old.onward.items }
         ensures back { length self.new.back.items ≡ length self.old.back.items }
-        ensures adds { OnOk result (Adds (IsPair from to) self.old self.new) }
+        ensures adds { OnOk result (AddsPairs (IsPair from to) self.old self.new) }
     {
         add_at(&mut self.onward, from, to)?;
         add_at(&mut self.back, to, from)?;
@@ -99,7 +99,7 @@ impl Links {
         requires to { All (λ to. to < length self.old.back.items) list.now }
         ensures onward { length self.new.onward.items ≡ length self.old.onward.items }
         ensures back { length self.new.back.items ≡ length self.old.back.items }
-        ensures adds { OnOk result (Adds (IsPairOf from list.now) self.old self.new) }
+        ensures adds { OnOk result (AddsPairs (IsPairOf from list.now) self.old self.new) }
     {
         for to in list {
             self.add(from, *to)?;
@@ -118,7 +118,7 @@ impl Links {
         requires laws { AreMoments (seen_in course.now).legs (seen_in course.now).moments }
         requires room { AreRoomFor (seen_in course.now).moments self.old }
         ensures room { OnOk result (AreRoomFor (seen_in course.now).moments self.new) }
-        ensures adds { OnOk result (Adds (IsNextOf (seen_in course.now).moments from) self.old self.new) }
+        ensures adds { OnOk result (AddsPairs (IsNextOf (seen_in course.now).moments from) self.old self.new) }
     {
         let mut list = Vec::new(alloc);
         course.add_nexts(from, &mut list)?;

@@ -3,7 +3,7 @@
 ghost use Rattle.std.specs.Prelude.{◌≡◌, ◌↔◌, ◌&&◌, not, ℕ, true, IsTrue, IsSome};
 ghost use Rattle.std.specs.List.{All, list_any};
 ghost use Rattle.rept_moments.specs.Courses.{seen_in};
-ghost use Rattle.rept_carry.specs.Passing.{Ground, Passes, ground_of};
+ghost use Rattle.rept_carry.specs.Passing.{PassesToNext, PassingGround, ground_of};
 
 use rept_moments::Course;
 
@@ -32,7 +32,7 @@ fn neither(one: bool, other: bool) -> bool
 pub fn passes(course: &Course<'_>, rows: &[u32], m: u32, w: u32) -> bool
     requires rows { All (λ i. IsSome ((seen_in course.now).legs.row i)) rows.now }
     requires next { (seen_in course.now).moments.next m w ≡ true }
-    ensures { (result ≡ true) ↔ Passes (ground_of course.now rows.now) m w }
+    ensures { (result ≡ true) ↔ PassesToNext (ground_of course.now rows.now) m w }
 {
     let dark = course.is_dark_between(m, w);
     let fallen = falls_any(course, rows, m, w);

@@ -4,7 +4,7 @@ ghost use Rattle.std.specs.Prelude.{◌≡◌, ◌+◌, [], true, OnOk};
 ghost use Rattle.std.specs.List.{Contains};
 ghost use Rattle.std.specs.List.Sorted.{IsNonDecreasing};
 ghost use Rattle.rept_report.specs.Timeline.{IsLeastFrom, IsGreatestTo};
-ghost use Rattle.rept_carry.specs.Rising.{IsCut, AddsOne};
+ghost use Rattle.rept_carry.specs.Rising.{IsSplit, AddsOne};
 
 use std::alloc::{AllocError as OutOfMemory, Global};
 use std::marker::Model;
@@ -29,7 +29,7 @@ impl Model for Rising {
 /// How many of them are below one.
 fn below(list: &[u32], number: u32) -> usize
     requires { IsNonDecreasing list.now }
-    ensures { IsCut list.now number result }
+    ensures { IsSplit list.now number result }
 {
     list.partition_point(|known| *known < number)
 }
@@ -37,7 +37,7 @@ fn below(list: &[u32], number: u32) -> usize
 /// How many of them are no greater than one.
 fn up_to(list: &[u32], number: u32) -> usize
     requires { IsNonDecreasing list.now }
-    ensures { IsCut list.now (number + 1) result }
+    ensures { IsSplit list.now (number + 1) result }
 {
     list.partition_point(|known| *known <= number)
 }

@@ -2,7 +2,7 @@
 
 ghost use Rattle.std.specs.Prelude.{◌≡◌, ◌≤◌, ◌<◌, ◌↔◌, ℕ, Some, true, length, IfOk, IsOk, IsSome, IfSome};
 ghost use Rattle.std.specs.List.{All};
-ghost use Rattle.rept_steps.specs.Course.{IsSound};
+ghost use Rattle.rept_steps.specs.Course.{IsSoundCourse};
 ghost use Rattle.rept_steps.specs.Runs.{course_of};
 ghost use Rattle.rept_order.specs.Legs.{points_before};
 ghost use Rattle.rept_report.specs.Moments.{AreMoments, points_of};
@@ -11,7 +11,7 @@ ghost use Rattle.rept_moments.specs.Seen.{seen, alone_by};
 ghost use Rattle.rept_moments.specs.Courses.{seen_in, threads_in, first_in, is_one, IsCourseOf};
 ghost use Rattle.rept_report.specs.Timeline.{IsLeastFrom, IsGreatestTo};
 ghost use Rattle.rept_carry.specs.Links.{IsNextFrom, IsNextTo, IsPreviousFrom, IsPreviousTo};
-ghost use Rattle.rept_carry.specs.Passing.{Ground, Passes, ground_of};
+ghost use Rattle.rept_carry.specs.Passing.{PassesToNext, PassingGround, ground_of};
 ghost use Rattle.rept_carry.specs.Course.{AreWays};
 
 use crate::links::Links;
@@ -108,9 +108,9 @@ fn not_above(number: Option<u32>, most: u32) -> Option<u32>
 
 impl<'a> Ways<'a> {
     /// The course of this run, which must be sound and have at most 66,560 points: those of 65,536 rows and 1,024 threads. Of one thread in one slice, all of which is told, it
-    /// takes no memory; else memory for a few entries a point and for two a pair of numbers that are next to one another.
+    /// takes no memory; else memory for a few entries a point, for two lists a number, and for two entries a pair of numbers that are next to one another.
     pub fn new(alloc: Global, run: &'a Run) -> Result<Ways<'a>, OutOfMemory>
-        requires sound { IsSound (course_of run.now) }
+        requires sound { IsSoundCourse (course_of run.now) }
         requires few { points_in (course_of run.now) ≤ 66560 }
         ensures ok { IfOk result (λ w. seen_in w ≡ seen (course_of run.now)) }
         ensures threads { IfOk result (λ w. threads_in w ≡ length run.now.threads) }
@@ -193,7 +193,7 @@ impl<'a> Ways<'a> {
     /// write the byte, and nothing that isn't told. It takes no memory.
     pub fn carried_from(&self, rows: &[u32], number: u32, least: u32) -> Option<u32>
         requires rows { All (λ i. IsSome ((seen_in self.now).legs.row i)) rows.now }
-        ensures { IsLeastFrom (λ w. Passes (ground_of self.now rows.now) number w) least result }
+        ensures { IsLeastFrom (λ w. PassesToNext (ground_of self.now rows.now) number w) least result }
     {
         let course = self.course();
         let end = course.end();
@@ -216,7 +216,7 @@ impl<'a> Ways<'a> {
     /// The least number from one on to which a number is next and from which a byte is carried to it, likewise.
     pub fn carried_back_from(&self, rows: &[u32], number: u32, least: u32) -> Option<u32>
         requires rows { All (λ i. IsSome ((seen_in self.now).legs.row i)) rows.now }
-        ensures { IsLeastFrom (λ v. Passes (ground_of self.now rows.now) v number) least result }
+        ensures { IsLeastFrom (λ v. PassesToNext (ground_of self.now rows.now) v number) least result }
     {
         let course = self.course();
         let end = course.end();

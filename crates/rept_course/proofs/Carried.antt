@@ -2,7 +2,7 @@
 use Rattle.std.proofs.Common.{◌≡◌, ℕ, true, false, List, [], ◌∷◌, Some, inl, inr, sym, ap, ◌∙◌, subst, arith}
 use Rattle.std.specs.Option.{is_some}
 use Rattle.std.proofs.lemmas.Bool.{false≢true, cases_Bool, cases_eq, and_from}
-use Rattle.rept_steps.specs.Course.{Course, Row, IsRow, IsSound}
+use Rattle.rept_steps.specs.Course.{Course, Row, IsRow, IsSoundCourse}
 use Rattle.rept_order.specs.Events.{Event, first_event, last_event, Precedes, PrecedesOrIs}
 use Rattle.rept_order.specs.Moments.{Moment, IsMoment, NotLater, Act, IsAct, Stretch, stretch, Falls, may_by, stores, IsUntouchedStep, Forth}
 use Rattle.rept_order.specs.Moments.Moment.{before, after, at_end}
@@ -22,7 +22,7 @@ use Rattle.rept_view.specs.Rules.{Rules}
 use Rattle.rept_report.specs.Setting.{Setting}
 use Rattle.rept_report.specs.Spots.{passage}
 use Rattle.rept_report.specs.Views.{may_write, Carries}
-use Rattle.rept_course.specs.Names.{Names, IsLink, AreNames}
+use Rattle.rept_course.specs.Names.{MomentNames, IsLink, AreNames}
 use Rattle.rept_course.specs.Numbered.{row_on, falls_by, dark_by, setting_of}
 use Rattle.rept_course.specs.Carried.{may_in, CarriedAlong}
 use Rattle.rept_course.proofs.Naming.{some_is, quiet_carried}
@@ -45,7 +45,7 @@ module _ (C : Course) where
   later_moment at_end (after r) is k = absurd k
   later_moment m at_end is k = tt
 
-module _ {W : Type 0} (sets : Sets W) (moves : Moves W) (rules : Rules) (C : Course) (D : Ending) (N : Names) (sound : IsSound C) (names : AreNames C N) (K : Knowledge) (a : ℕ) where
+module _ {W : Type 0} (sets : Sets W) (moves : Moves W) (rules : Rules) (C : Course) (D : Ending) (N : MomentNames) (sound : IsSoundCourse C) (names : AreNames C N) (K : Knowledge) (a : ℕ) where
   abbrev S : Setting W
   S = setting_of sets moves rules C D N
 

@@ -2,7 +2,7 @@
 use Rattle.std.proofs.Common.{◌≡◌, ℕ, ◌≤◌, ◌&&◌, ◌||◌, not, Bool, true, false, Some, refl, sym, ap, ◌∙◌, subst}
 use Rattle.std.specs.Option.{is_some}
 use Rattle.std.proofs.lemmas.Bool.{false≢true, and_from, or_right}
-use Rattle.rept_steps.specs.Course.{Course, Row, IsRow, calls, IsSound}
+use Rattle.rept_steps.specs.Course.{Course, Row, IsRow, calls, IsSoundCourse}
 use Rattle.rept_order.specs.Moments.{Moment, IsMoment, Act, IsAct, WhollyBefore, WhollyAfter, Stretch, stretch, Falls, stores}
 use Rattle.rept_order.specs.Moments.Moment.{before, after}
 use Rattle.rept_order.specs.Moments.Act.{row, dark}
@@ -10,7 +10,7 @@ use Rattle.rept_order.specs.Times.{wholly_before, falls_between}
 use Rattle.rept_order.proofs.Between.{after_earlier}
 use Rattle.rept_order.proofs.Falling.{before_from, after_true, after_from, falls_true, falls_from}
 use Rattle.rept_report.specs.Moments.{AreMoments}
-use Rattle.rept_course.specs.Names.{Names, IsLink, AreNames, NoOwn}
+use Rattle.rept_course.specs.Names.{MomentNames, IsLink, AreNames, NoOwn}
 use Rattle.rept_course.specs.Numbered.{legs_on, row_on, falls_by, dark_by, moments_of}
 use Rattle.rept_course.proofs.Naming.{some_is, stores_inside, can, to_last, after_to_last, after_from_last, are_moments}
 
@@ -18,7 +18,7 @@ not_so : (b : Bool) → (b ≡ true → ⊥) → b ≡ false
 not_so true k = absurd (k refl)
 not_so false k = refl
 
-module _ (C : Course) (sound : IsSound C) (N : Names) (names : AreNames C N) where
+module _ (C : Course) (sound : IsSoundCourse C) (N : MomentNames) (names : AreNames C N) where
   -- between all others
   module _ (m w : ℕ) (none : NoOwn C N m w) (x : Stretch) (found : N.link m w ≡ Some x) where
     link : IsLink C N m w x

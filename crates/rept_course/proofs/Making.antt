@@ -2,7 +2,7 @@
 use Rattle.std.proofs.Common.{◌≡◌, ◌≢◌, ℕ, suc, ◌<◌, ◌⊎◌, ◌&&◌, not, cond, eqb, Bool, true, false, List, [], ◌∷◌, ◌++◌, length, Option, Some, None, inl, inr, refl, sym, ap, ◌∙◌, subst, arith}
 use Rattle.std.specs.Option.{is_some}
 use Rattle.std.proofs.lemmas.Bool.{false≢true, cases_Bool, cases_lt, cases_eq, or_left, or_right, or_cases, and_parts, and_from, eq-eqb, ne_eqb, eqb-true, lt-ltb, le-ltb}
-use Rattle.rept_steps.specs.Course.{Course, Row, row_of, rows_of, IsRow, calls, IsSound}
+use Rattle.rept_steps.specs.Course.{Course, Row, row_of, rows_of, IsRow, calls, IsSoundCourse}
 use Rattle.rept_order.specs.Moments.{Moment, IsMoment, Earlier, Act, IsAct, Stretch, stretch, Falls, IsNext, stores, ArePause, AreOne}
 use Rattle.rept_order.specs.Moments.Moment.{before, after, at_end}
 use Rattle.rept_order.specs.Moments.Act.{row, dark}
@@ -191,7 +191,7 @@ module _ (C : Course) where
         | inr e ↦ subst (λ (y : Moment). IsMoment C y) (sym (last_own r e)) is
       ]
 
-module _ (C : Course) (sound : IsSound C) where
+module _ (C : Course) (sound : IsSoundCourse C) where
   rows_at : (x : Stretch) (ms : List Moment) (m : Moment) → rows_still C x ms ≡ true → In ms m → still_by C x m ≡ true
   rows_at x [] m e h = absurd h
   rows_at x (y ∷ ms) m e (inl same) = subst (λ (z : Moment). still_by C x z ≡ true) same (and_parts (still_by C x y) (rows_still C x ms) e).0
@@ -369,7 +369,7 @@ in_has [] m h = h
 in_has (x ∷ xs) m (inl same) = inl same
 in_has (x ∷ xs) m (inr h) = inr (in_has xs m h)
 
-module _ (C : Course) (sound : IsSound C) (L : List Moment) (is_list : IsListing C L) where
+module _ (C : Course) (sound : IsSoundCourse C) (L : List Moment) (is_list : IsListing C L) where
   none_true : (x : Stretch) (ms : List Moment) → IsMoment C x.from → IsMoment C x.to → none_between C x ms ≡ true → (z : Moment) → In ms z → Earlier C x.from z → Earlier C z x.to → ⊥
   none_true x [] from to e z h one other = h
   none_true x (m ∷ ms) from to e z (inl same) one other = not_true (is_earlier C x.from m && is_earlier C m x.to) (and_parts (not (is_earlier C x.from m && is_earlier C m x.to)) (none_between C x ms) e).0 (and_from (is_earlier C x.from m) (is_earlier C m x.to) (earlier_from C sound x.from m (subst (λ (y : Moment). Earlier C x.from y) (sym same) one)) (earlier_from C sound m x.to (subst (λ (y : Moment). Earlier C y x.to) (sym same) other)))
@@ -476,5 +476,5 @@ module _ (C : Course) (sound : IsSound C) (L : List Moment) (is_list : IsListing
 all_listed : (C : Course) → IsListing C (moments_in C)
 all_listed C = record { all = λ m is other. in_has (moments_in C) m (every C m is); only = λ m h. listed C (length C.threads) m (has_in (moments_in C) m h) }
 
-pub are_names : (C : Course) → IsSound C → AreNames C (names_in C)
+pub are_names : (C : Course) → IsSoundCourse C → AreNames C (names_in C)
 are_names C sound = are_names_by C sound (moments_in C) (all_listed C)

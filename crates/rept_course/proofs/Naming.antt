@@ -5,7 +5,7 @@ use Rattle.std.proofs.lemmas.Bool.{false≢true, cases_Bool, or_cases, or_left, 
 use Rattle.std.proofs.lemmas.Option.{slice_get_within}
 use Rattle.rept_isa.specs.declared.row.StepRow.{StepRow}
 use Rattle.rept_steps.specs.declared.threads.ThreadRows.{ThreadRows}
-use Rattle.rept_steps.specs.Course.{no_thread, Course, Row, row_of, rows_of, IsRow, row_at, IsSound}
+use Rattle.rept_steps.specs.Course.{no_thread, Course, Row, row_of, rows_of, IsRow, row_at, IsSoundCourse}
 use Rattle.rept_order.specs.Events.IsBefore.{by_row}
 use Rattle.rept_order.specs.Moments.{Moment, IsMoment, NotLater, Act, IsAct, WhollyBefore, WhollyAfter, IsNext, IsUntouched, Stretch, stretch, Falls, may_by, is_writing, stores, ArePause, AreOne}
 use Rattle.rept_order.specs.Moments.Moment.{before, after, at_end}
@@ -22,7 +22,7 @@ use Rattle.rept_order.proofs.Links as links
 use Rattle.rept_order.proofs.Legs.{number_point, thread_inside}
 use Rattle.rept_span.specs.Ranges.{AreLegs}
 use Rattle.rept_report.specs.Moments.{AreMoments, HasNext}
-use Rattle.rept_course.specs.Names.{Names, IsLink, AreNames}
+use Rattle.rept_course.specs.Names.{MomentNames, IsLink, AreNames}
 use Rattle.rept_course.specs.Numbered.{legs_on, row_on, falls_by, dark_by, moments_of}
 
 after_before : {q r : Row} → after q ≡ before r → ⊥
@@ -89,7 +89,7 @@ end_first : (C : Course) (w : Moment) → ArePause C (stretch at_end w) → ⊥
 end_first C w (between t i next same) = end_after (ap (λ (x : Stretch). x.from) same)
 end_first C w (last t i all same) = end_after (ap (λ (x : Stretch). x.from) same)
 
-module _ (C : Course) (sound : IsSound C) (N : Names) (names : AreNames C N) where
+module _ (C : Course) (sound : IsSoundCourse C) (N : MomentNames) (names : AreNames C N) where
   module _ (act : Act) (is : IsAct C act) (writes : can C act ≡ true) where
     -- what writes lies before the one of two moments that are one where it lies before the other
     one_onward : (x : Stretch) → AreOne C x → WhollyBefore C act x.from → WhollyBefore C act x.to
@@ -300,7 +300,7 @@ are_legs C = record {
       omega arith;
 }
 
-module _ (C : Course) (sound : IsSound C) (N : Names) (names : AreNames C N) where
+module _ (C : Course) (sound : IsSoundCourse C) (N : MomentNames) (names : AreNames C N) where
   -- what writes lies after the one of two moments that are one where it lies after the other
   module _ (act : Act) (is : IsAct C act) (writes : can C act ≡ true) where
     no_row_pause : (x : Stretch) (r : Row) → ArePause C x → x ≡ stretch (before r) (after r) → ⊥

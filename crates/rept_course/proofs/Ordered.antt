@@ -3,18 +3,18 @@ use Rattle.std.proofs.Common.{◌≡◌, ℕ, not, true, Some, inl, inr, refl, a
 use Rattle.std.specs.Prelude.{◌↔◌}
 use Rattle.std.specs.Option.{is_some}
 use Rattle.std.proofs.lemmas.Bool.{or_cases, or_right}
-use Rattle.rept_steps.specs.Course.{Course, IsRow, IsSound}
+use Rattle.rept_steps.specs.Course.{Course, IsRow, IsSoundCourse}
 use Rattle.rept_order.specs.Moments.{Moment, IsMoment, DarkBefore, WhollyBefore, WhollyAfter, stores}
 use Rattle.rept_order.specs.Moments.Moment.{before, after}
 use Rattle.rept_order.specs.Moments.Act.{row, dark}
 use Rattle.rept_order.specs.Times.{wholly_before}
 use Rattle.rept_order.proofs.Decide.{not_later_true, not_later_from}
 use Rattle.rept_order.proofs.Falling.{before_true, before_from, after_true, after_from}
-use Rattle.rept_course.specs.Names.{Names, AreNames}
+use Rattle.rept_course.specs.Names.{MomentNames, AreNames}
 use Rattle.rept_course.specs.Numbered.{row_on, moments_of}
 use Rattle.rept_course.proofs.Naming.{not_true, stores_inside, to_last, from_last, after_to_last, after_from_last}
 
-module _ (C : Course) (sound : IsSound C) (N : Names) (names : AreNames C N) where
+module _ (C : Course) (sound : IsSoundCourse C) (N : MomentNames) (names : AreNames C N) where
   name_is : (m : Moment) → IsMoment C m → IsMoment C (N.last (N.name m))
   name_is m its = (names.named (N.name m) (names.few m its)).0
 

@@ -8,7 +8,7 @@ use Rattle.rept_isa.specs.declared.row.StepRow.{StepRow}
 use Rattle.rept_isa.specs.Operands.{is_call}
 use Rattle.rept_machine.specs.Step.{IsStep}
 use Rattle.rept_steps.specs.declared.threads.ThreadRows.{ThreadRows}
-use Rattle.rept_steps.specs.Course.{no_thread, Course, Row, rows_of, IsRow, row_at, is_call_row, calls, IsSound}
+use Rattle.rept_steps.specs.Course.{no_thread, Course, Row, rows_of, IsRow, row_at, is_call_row, calls, IsSoundCourse}
 use Rattle.rept_order.specs.Moments.{Moment, IsMoment, Act, IsAct, Stretch, stretch, Falls, is_writing, stores}
 use Rattle.rept_order.specs.Moments.Moment.{before, after, at_end}
 use Rattle.rept_order.specs.Moments.Act.{row, dark}
@@ -29,7 +29,7 @@ use Rattle.rept_view.specs.Rules.{Rules}
 use Rattle.rept_report.specs.Setting.{Setting, IsLast}
 use Rattle.rept_report.specs.Runs.{Run, Runs, StepWrites}
 use Rattle.rept_report.specs.Runs as runs
-use Rattle.rept_course.specs.Names.{Names, IsLink, AreNames}
+use Rattle.rept_course.specs.Names.{MomentNames, IsLink, AreNames}
 use Rattle.rept_course.specs.Numbered.{row_on, falls_by, dark_by, setting_of, run_seen}
 use Rattle.rept_course.proofs.Naming.{some_is, row_inside, last_end, points_next}
 
@@ -54,7 +54,7 @@ point_inside (thread ∷ threads) g below =
       | inr early ↦ rw (le-ltb (length thread.steps) g early) (omega arith, early)
     ]
 
-module _ {W : Type 0} (sets : Sets W) (moves : Moves W) (rules : Rules) (C : Course) (D : Ending) (N : Names) (run : interleaved.CourseRun) (sound : IsSound C) (names : AreNames C N) (threads : 0 < length C.threads) (x : IsCourseRun C D run) where
+module _ {W : Type 0} (sets : Sets W) (moves : Moves W) (rules : Rules) (C : Course) (D : Ending) (N : MomentNames) (run : interleaved.CourseRun) (sound : IsSoundCourse C) (names : AreNames C N) (threads : 0 < length C.threads) (x : IsCourseRun C D run) where
   abbrev S : Setting W
   S = setting_of sets moves rules C D N
 
@@ -101,14 +101,14 @@ module _ {W : Type 0} (sets : Sets W) (moves : Moves W) (rules : Rules) (C : Cou
       let between = falls_from C sound dark s.from s.to is link.from link.to falls in
       false≢true (sym light ∙ ap (dark_by C) found ∙ and_from (is_some C.dark) (falls_between C dark s.from s.to) told between)
   still a m w s found link light none (row r) is falls writes =
-      let its = match_is (row_at C r) (λ its_row. WritesBy its_row.instr D.image_end (interleaved.state_before C run r) (interleaved.state_after C run r) a) writes in
+      let its = match_is (row_at C r) (λ its_row. WritesBy its_row.instr D.image_end (interleaved.state_before_row C run r) (interleaved.state_after_row C run r) a) writes in
       let same : row_on C (leg_of C r) ≡ r = ap row_from (point_number C r.thread r.step (thread_inside C r is) (omega arith)) in
-      let stored : stores C r ≡ true = ap is_writing its.1 ∙ writes_store its.0.instr D.image_end (interleaved.state_before C run r) (interleaved.state_after C run r) a its.2 in
+      let stored : stores C r ≡ true = ap is_writing its.1 ∙ writes_store its.0.instr D.image_end (interleaved.state_before_row C run r) (interleaved.state_after_row C run r) a its.2 in
       let between = falls_from C sound (row r) s.from s.to is link.from link.to falls in
       none (leg_of C r) (ap (λ (q : Row). falls_by C q (N.link m w)) same ∙ ap (falls_by C r) found ∙ and_from (stores C r) (falls_between C (row r) s.from s.to) stored between) (record {
         row = its.0;
         is_row = ap (row_at C) same ∙ its.1;
-        writes = written_by_registers its.0.instr D.image_end (interleaved.state_before C run r) (interleaved.state_after C run r) (runs.state_before S (run_seen N run) (leg_of C r)) (runs.state_after S (run_seen N run) (leg_of C r) its.0) a refl (ap run.register (one_more (leg_of C r))) its.2;
+        writes = written_by_registers its.0.instr D.image_end (interleaved.state_before_row C run r) (interleaved.state_after_row C run r) (runs.state_before S (run_seen N run) (leg_of C r)) (runs.state_after S (run_seen N run) (leg_of C r) its.0) a refl (ap run.register (one_more (leg_of C r))) its.2;
       })
 
   quiet : (a m w : ℕ) → S.moments.next m w ≡ true → S.moments.dark m w ≡ false → ((i : ℕ) → S.moments.falls i m w ≡ true → StepWrites S (run_seen N run) i a → ⊥) → run.memory (N.last w) a ≡ run.memory (N.last m) a

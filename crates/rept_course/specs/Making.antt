@@ -6,10 +6,10 @@ use Rattle.rept_steps.specs.Course.{Course, Row, calls}
 use Rattle.rept_order.specs.Moments.{Moment, IsMoment, Stretch, stretch, stores}
 use Rattle.rept_order.specs.Moments.Moment.{before, after, at_end}
 use Rattle.rept_order.specs.Moments.Act.{row, dark}
-use Rattle.rept_order.specs.Points.{moment_of}
+use Rattle.rept_order.specs.Points.{moment_of_point}
 use Rattle.rept_order.specs.Times.{same_row, same_moment, is_earlier, falls_between}
 use Rattle.rept_order.specs.Links.{all_moments}
-use Rattle.rept_course.specs.Names.{Names}
+use Rattle.rept_course.specs.Names.{MomentNames}
 
 abbrev pub moments_in : Course → List Moment
 moments_in C = all_moments C (length C.threads)
@@ -28,7 +28,7 @@ is_still C x = not (is_some C.dark && falls_between C dark x.from x.to) && rows_
 
 -- the thread's moment after the row is over and nothing of the thread has happened since
 abbrev pub next_point : Course → Row → Moment
-next_point C r = moment_of C r.thread (suc r.step)
+next_point C r = moment_of_point C r.thread (suc r.step)
 
 -- the last moment that is one with it
 abbrev pub last_of : Course → Moment → Moment
@@ -101,11 +101,11 @@ abbrev pub link_by : Course → List Moment → ℕ → ℕ → Option Stretch
 link_by C L m w = else_first (first_that (λ x. is_own C x && is_link C L m w x) (from_each (moments_in C) (moments_in C))) (first_that (is_link C L m w) (from_each (moments_in C) (moments_in C)))
 
 -- the names by the order of a list
-abbrev pub names_by : Course → List Moment → Names
+abbrev pub names_by : Course → List Moment → MomentNames
 names_by C L = record { name = name_by C L; end = length (lasts C L); last = ranked (named_by C L); link = link_by C L }
 
 -- by that of all moments, thread by thread
-abbrev pub names_in : Course → Names
+abbrev pub names_in : Course → MomentNames
 names_in C = names_by C (moments_in C)
 
 -- it is one of the list

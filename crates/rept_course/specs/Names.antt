@@ -5,7 +5,7 @@ use Rattle.rept_steps.specs.Course.{Course, Row, IsRow, calls}
 use Rattle.rept_order.specs.Moments.{Moment, IsMoment, IsNext, Stretch, stretch, AreOne}
 use Rattle.rept_order.specs.Moments.Moment.{before, after, at_end}
 
-pub record Names : Type 0 where
+pub record MomentNames : Type 0 where
   pub name : Moment → ℕ
   -- the greatest name
   pub end : ℕ
@@ -15,14 +15,14 @@ pub record Names : Type 0 where
   pub link : ℕ → ℕ → Option Stretch
 
 -- the stretch is from a moment of the one name to a next one of the other
-pub record IsLink (C : Course) (N : Names) (m w : ℕ) (x : Stretch) : Type 0 where
+pub record IsLink (C : Course) (N : MomentNames) (m w : ℕ) (x : Stretch) : Type 0 where
   pub from : IsMoment C x.from
   pub to : IsMoment C x.to
   pub from_name : N.name x.from ≡ m
   pub to_name : N.name x.to ≡ w
   pub next : IsNext C x.from x.to
 
-pub record AreNames (C : Course) (N : Names) : Type 0 where
+pub record AreNames (C : Course) (N : MomentNames) : Type 0 where
   -- moments that are one have one name
   pub one : (x : Stretch) → AreOne C x → N.name x.from ≡ N.name x.to
   -- and no others: each moment of a name is its last one, or is one with that
@@ -38,5 +38,5 @@ pub record AreNames (C : Course) (N : Names) : Type 0 where
   pub rows : (r : Row) → IsRow C r → calls C r ≡ false → N.link (N.name (before r)) (N.name (after r)) ≡ Some (stretch (before r) (after r))
 
 -- no row that is no call has these names before and after it
-abbrev pub NoOwn : Course → Names → ℕ → ℕ → Type 0
+abbrev pub NoOwn : Course → MomentNames → ℕ → ℕ → Type 0
 NoOwn C N m w = (r : Row) → IsRow C r → calls C r ≡ false → N.name (before r) ≡ m → N.name (after r) ≡ w → ⊥

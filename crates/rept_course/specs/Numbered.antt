@@ -19,7 +19,7 @@ use Rattle.rept_view.specs.Rules.{Rules}
 use Rattle.rept_report.specs.Moments.{Moments}
 use Rattle.rept_report.specs.Setting.{Setting}
 use Rattle.rept_report.specs.Runs.{Run}
-use Rattle.rept_course.specs.Names.{Names}
+use Rattle.rept_course.specs.Names.{MomentNames}
 
 -- the points of all threads, and the rows between them
 abbrev pub legs_on : Course → Legs
@@ -37,7 +37,7 @@ abbrev pub dark_by : Course → Option Stretch → Bool
 dark_by C None = false
 dark_by C (Some x) = is_some C.dark && falls_between C dark x.from x.to
 
-abbrev pub moments_of : Course → Names → Moments
+abbrev pub moments_of : Course → MomentNames → Moments
 moments_of C N = record {
   before = λ i. N.name (before (row_on C i));
   after = λ i. N.name (after (row_on C i));
@@ -55,7 +55,7 @@ moments_of C N = record {
 }
 
 -- what is given of a course and how it ended
-abbrev pub setting_of : {W : Type 0} → Sets W → Moves W → Rules → Course → Ending → Names → Setting W
+abbrev pub setting_of : {W : Type 0} → Sets W → Moves W → Rules → Course → Ending → MomentNames → Setting W
 setting_of sets moves rules C D N = record {
   sets = sets;
   moves = moves;
@@ -68,5 +68,5 @@ setting_of sets moves rules C D N = record {
 }
 
 -- a run by points and names
-abbrev pub run_seen : Names → interleaved.CourseRun → Run
+abbrev pub run_seen : MomentNames → interleaved.CourseRun → Run
 run_seen N run = record { register = run.register; memory = λ n. run.memory (N.last n) }

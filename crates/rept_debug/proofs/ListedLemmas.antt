@@ -9,7 +9,7 @@ use Rattle.rept_dump.specs.Dump.{core_of, exe_of}
 use Rattle.rept_dump.specs.declared.dump.Dump.{Dump}
 use Rattle.rept_found.specs.Crash.{crash_of}
 use Rattle.rept_runs.specs.Kind.{is_several}
-use Rattle.rept_ports.specs.Port.{Move, move}
+use Rattle.rept_ports.specs.Port.{PortMove, move}
 use Rattle.rept_ports.specs.Shelves.{Files, Shelved}
 use Rattle.rept_words.specs.Words.{Meaning}
 use Rattle.rept_words.specs.Words.Meaning.{Open, Maps, Made}
@@ -70,14 +70,14 @@ module _ (o : Option Files) (ms : List Mapping) (b : CoreBytes) (desc : List ℕ
         held = subst (λ (parts : List Mapping). IsHeld (parts_bytes parts b) io talk) same h;
       }) program
 
-  pub unheld_listed : (asked : Move ℕ) (r : Refusal) → IsRefusedCrash (parts_bytes ms b) r → IfSome o (λ files. IsUnheld (mapped_crash files b) asked (no_talk.Refused r))
+  pub unheld_listed : (asked : PortMove ℕ) (r : Refusal) → IsRefusedCrash (parts_bytes ms b) r → IfSome o (λ files. IsUnheld (mapped_crash files b) asked (no_talk.Refused r))
   unheld_listed asked r h =
       over_files o (λ files. ms ≡ mapped_files files desc) (λ files. IsUnheld (mapped_crash files b) asked (no_talk.Refused r))
       (λ files same. inl (files_refused (mapped_crash files b) r desc accepted listed (subst (λ (parts : List Mapping). IsRefusedCrash (parts_bytes parts b) r) same h))) program
 
 -- why no files are listed
-module _ (m : MappedCrash) (shelf : Move Shelved) where
-  pub refused_unheld : (asked : Move ℕ) (r : Refusal) → HasNoFiles m.bytes.core shelf (stops.Refused r) → IsUnheld m asked (no_talk.Refused r)
+module _ (m : MappedCrash) (shelf : PortMove Shelved) where
+  pub refused_unheld : (asked : PortMove ℕ) (r : Refusal) → HasNoFiles m.bytes.core shelf (stops.Refused r) → IsUnheld m asked (no_talk.Refused r)
   refused_unheld asked r (inl (inl (fault, refused, is), idle)) = inl (image_refused m r fault (sym refused) is)
   refused_unheld asked r (inl (inr (fault, accepted, listed, only, is), idle)) = inl (list_refused m r fault accepted listed is)
   refused_unheld asked r (inr (is, cut)) = inr (ap status_of is)
@@ -99,7 +99,7 @@ pub said_ok : {T E : Type 0} (r : Result T E) (x : T) (P : Type 0) → r ≡ Ok 
 said_ok {T} {E} r x P is h = let Q : Result T E → Type 0 = λ w. OnOk w P in subst Q is h
 
 -- the core file and the trace were loaded
-pub both_loads : (m : Option Meaning) (core : List ℕ) (shelf : Move Shelved) → LoadsBoth m core shelf → shelf.after.loads ≡ core_loads_to file.Trace shelf.before.loads
+pub both_loads : (m : Option Meaning) (core : List ℕ) (shelf : PortMove Shelved) → LoadsBoth m core shelf → shelf.after.loads ≡ core_loads_to file.Trace shelf.before.loads
 both_loads None core shelf h = absurd h
 both_loads (Some (Made seed steps)) core shelf h = absurd h
 both_loads (Some (Maps names from)) core shelf h = h.loads

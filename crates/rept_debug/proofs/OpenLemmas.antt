@@ -1,7 +1,7 @@
 -- What a process opens, from what is opened of the files.
 use Rattle.std.proofs.Common.{◌≡◌, ℕ, List, Result, Ok, Err, IfErr, IfOk, IfSome, inl, inr, refl, sym, ap, subst}
 use Rattle.std.specs.Prelude.{string_bytes}
-use Rattle.rept_ports.specs.Port.{Move, move}
+use Rattle.rept_ports.specs.Port.{PortMove, move}
 use Rattle.rept_ports.specs.Shelves.{Files, Shelved}
 use Rattle.rept_ports.specs.declared.arguments.Unreadable.{Unreadable}
 use Rattle.rept_runs.specs.Kind.{is_several}
@@ -17,8 +17,8 @@ use Rattle.rept_app.specs.Told.{IsCrashOf, trace_in}
 use Rattle.rept_app.specs.declared.refusal.FileKind.TheVariants as file
 use Rattle.rept_app.specs.declared.load.Manner.{Manner}
 use Rattle.rept_app.specs.declared.refusal.Refusal.{Refusal}
-use Rattle.rept_debug.specs.Debugged.{IsDebugged, IsHeld, IsHeldMapped, IsRefused, IsRefusedLoading, IsUnheld, NameStops, Notices, Streams, streams}
-use Rattle.rept_debug.specs.Process.{IsUntouched, Opens, OpensAs, Process, RefusesAs, session_words}
+use Rattle.rept_debug.specs.Debugged.{HasNoTalk, IsDebugged, IsHeld, IsHeldMapped, IsRefusedLoading, IsUnheld, NameStops, Notices, Streams, streams}
+use Rattle.rept_debug.specs.Process.{ArePortsUntouched, DebugProcess, OpensAs, OpensTalk, RefusesAs, session_words}
 use Rattle.rept_debug.specs.declared.no_talk.NoTalk.{NoTalk}
 use Rattle.rept_debug.specs.declared.no_talk.NoTalk.TheVariants as no_talk
 use Rattle.rept_debug.specs.declared.talk.Talk.{Talk}
@@ -48,30 +48,30 @@ pub debugged_mapped : (words : List (List ℕ)) (files : Files) (core : CoreByte
 debugged_mapped words files core io talk true_of e h = debugged words files h.bytes io talk true_of (subst (λ (l : Loading). IsCrashOf files l h.bytes) (sym e) h.is) h.held
 
 -- why the words or the files aren't opened
-pub refused_words : (words : List (List ℕ)) (files : Files) (old new : Shelved) (r : Refusal) → Stops words files old new r → IsRefused words files (move old new) (no_talk.Refused r)
+pub refused_words : (words : List (List ℕ)) (files : Files) (old new : Shelved) (r : Refusal) → Stops words files old new r → HasNoTalk words files (move old new) (no_talk.Refused r)
 refused_words words files old new r (inl h) = inr (inl h)
 refused_words words files old new r (inr (inl e)) = inr (inr (ap status_of e))
 refused_words words files old new r (inr (inr e)) =
     inl (subst (λ (l : Loading). IsRefusedLoading files l r) (sym e) refl)
 
 -- why what was loaded isn't
-pub refused_loaded : (words : List (List ℕ)) (files : Files) (shelf : Move Shelved) (l : Loading) (r : Refusal) → loading words files ≡ l → IsRefusedLoading files l r → IsRefused words files shelf (no_talk.Refused r)
+pub refused_loaded : (words : List (List ℕ)) (files : Files) (shelf : PortMove Shelved) (l : Loading) (r : Refusal) → loading words files ≡ l → IsRefusedLoading files l r → HasNoTalk words files shelf (no_talk.Refused r)
 refused_loaded words files shelf l r e h = inl (subst (λ (x : Loading). IsRefusedLoading files x r) (sym e) h)
 
 pub refused_core : (words : List (List ℕ)) (files : Files) (core : CoreBytes) (old between new : Shelved) (why : NoTalk) → loading words files ≡ LoadedCore core → between.loads ≡ core_loads_to file.Trace old.loads
-    → IsUnheld (mapped_crash files core) (move between.loads new.loads) why → IsRefused words files (move old new) why
+    → IsUnheld (mapped_crash files core) (move between.loads new.loads) why → HasNoTalk words files (move old new) why
 refused_core words files core old between new (no_talk.Refused r) e loads (inl h) = refused_loaded words files (move old new) (LoadedCore core) r e h
 refused_core words files core old between new (no_talk.Refused r) e loads (inr h) = inr (inr h)
 refused_core words files core old between new (no_talk.LoadFault name) e loads h = (core, e, subst (λ (n : ℕ). NameStops (mapped_crash files core) (move n new.loads) (string_bytes name)) loads h)
 
 -- the process opens what its words name
-pub opened : (p : Process) (words ws : List (List ℕ)) (r : Result Talk NoTalk) → p.words ≡ Ok words → ws ≡ session_words words
+pub opened : (p : DebugProcess) (words ws : List (List ℕ)) (r : Result Talk NoTalk) → p.words ≡ Ok words → ws ≡ session_words words
     → IfOk r (λ talk. IfSome p.shelf.before.files (λ files. IsDebugged ws files (streams p.input p.output p.errors) talk))
-    → IfErr r (λ x. IfSome p.shelf.before.files (λ files. IsRefused ws files p.shelf x)) → IfErr r (λ _. IsUntouched p) → IfErr r (λ _. Notices p.errors) → Opens p r
+    → IfErr r (λ x. IfSome p.shelf.before.files (λ files. HasNoTalk ws files p.shelf x)) → IfErr r (λ _. ArePortsUntouched p) → IfErr r (λ _. Notices p.errors) → OpensTalk p r
 opened p words ws (Ok talk) is same a b u n =
     subst (λ (w : Result (List (List ℕ)) Unreadable). OpensAs p w talk) (sym is) (subst (λ (x : List (List ℕ)). IfSome p.shelf.before.files (λ files. IsDebugged x files (streams p.input p.output p.errors) talk)) same a)
 opened p words ws (Err x) is same a b u n = (
-  subst (λ (w : Result (List (List ℕ)) Unreadable). RefusesAs p w x) (sym is) (inr (subst (λ (y : List (List ℕ)). IfSome p.shelf.before.files (λ files. IsRefused y files p.shelf x)) same b)),
+  subst (λ (w : Result (List (List ℕ)) Unreadable). RefusesAs p w x) (sym is) (inr (subst (λ (y : List (List ℕ)). IfSome p.shelf.before.files (λ files. HasNoTalk y files p.shelf x)) same b)),
   u,
   n,
 )

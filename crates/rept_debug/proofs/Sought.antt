@@ -6,7 +6,7 @@ use Rattle.rept_path.specs.declared.fault.PathFault.{PathFault}
 use Rattle.rept_path.specs.declared.fault.PathFault.TheVariants as fault
 use Rattle.rept_found.specs.Crash.{Crash}
 use Rattle.rept_app.specs.TraceRun.{HasNoRunOf, IsRunOf}
-use Rattle.rept_debug.specs.Begin.{AreBegun, BeginsAt, HasNoStart, IsEnd, NeverBegins}
+use Rattle.rept_debug.specs.Begin.{AreBegun, BeginsAt, HasNoStart, MayEndSearch, NeverBegins}
 use Rattle.rept_debug.specs.declared.begin.Begun.{Begun}
 
 -- from the packet `high` on, which comes after the packet `low`
@@ -26,7 +26,7 @@ module _ (crash : Crash) (trace : List ℕ) where
   has_no_start from e (count, is) (inr has) = inl (count, subst (λ (x : PathFault). HasNoRunOf crash trace from x) is has)
 
   -- what is at the higher end of the search
-  end_is : (low high : ℕ) (found : Option Run) → MatchOption found (HasNoStart crash trace high) (IsSought crash trace low high) → IsEnd crash trace high
+  end_is : (low high : ℕ) (found : Option Run) → MatchOption found (HasNoStart crash trace high) (IsSought crash trace low high) → MayEndSearch crash trace high
   end_is low high None none = inr none
   end_is low high (Some run) sought = inl (run, sought.is)
 

@@ -5,14 +5,14 @@ use Rattle.rept_dump.specs.declared.dump.Dump.{Dump}
 use Rattle.rept_dump.specs.Dump.{registers_of}
 use Rattle.rept_path.specs.declared.fault.PathFault.{PathFault}
 use Rattle.rept_path.specs.declared.fault.PathFault.TheVariants as fault
-use Rattle.rept_ports.specs.Port.{Port, Move}
+use Rattle.rept_ports.specs.Port.{Port, PortMove}
 use Rattle.rept_runs.specs.Kind.{is_several}
 use Rattle.rept_steps.specs.Runs.{course_of}
 use Rattle.rept_steps.specs.declared.run.Run.{Run}
 use Rattle.rept_trip.specs.Trip.{Trip}
 use Rattle.rept_found.specs.Crash.{Crash, Means, crash_of, note_at, route, scene_of}
 use Rattle.rept_found.specs.Telling.{told_on}
-use Rattle.rept_found.specs.View.{View, IsFoundIn, trip_in}
+use Rattle.rept_found.specs.View.{CrashView, IsFoundIn, trip_in}
 use Rattle.rept_dialog.specs.Converse.{Parties, Converses, parties_over}
 use Rattle.rept_dialog.specs.declared.conversation.Conversed.{Conversed}
 use Rattle.rept_app.specs.Lines.{status_of}
@@ -33,11 +33,11 @@ use Rattle.rept_debug.specs.declared.talk.Talk.{Talk}
 pub first_signal : (dump : Dump) (notes : List (List ℕ)) → AreNotesOf dump notes → (signal : ℕ) → signal ≡ half_at (registers_of dump) 12 → signal ≡ half_at (note_at (crash_of dump notes) 0) 12
 first_signal dump notes are signal e = e ∙ sym (ap (λ (o : Option (List ℕ)). half_at (unwrap_or o []) 12) are.first)
 
-module _ {W R : Type 0} (m : Means W) (v : View W R) (crash : Crash) (run : Run) (found : IsFoundIn m (route m crash (course_of run)) (scene_of crash) v) where
+module _ {W R : Type 0} (m : Means W) (v : CrashView W R) (crash : Crash) (run : Run) (found : IsFoundIn m (route m crash (course_of run)) (scene_of crash) v) where
   abbrev parties_on : Trip W → ℕ → Parties
   parties_on t signal = parties_over (told_on t (account_of m v crash run found)) signal
 
-  pub talks_over : (signal : ℕ) (source sink : Move Port) (end : Conversed) → signal ≡ half_at (note_at crash 0) 12 → Converses (parties_on (trip_in m v) signal) source sink end → TalksOver (crash_run m crash run) source sink end
+  pub talks_over : (signal : ℕ) (source sink : PortMove Port) (end : Conversed) → signal ≡ half_at (note_at crash 0) 12 → Converses (parties_on (trip_in m v) signal) source sink end → TalksOver (crash_run m crash run) source sink end
   talks_over signal source sink end is h = record {
     account = account_of m v crash run found;
     report = record { report = found.report; log = found.log; scene = found.same_scene; skipped = refl };

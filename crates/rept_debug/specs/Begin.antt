@@ -25,8 +25,8 @@ abbrev pub HasNoStart : Crash → List ℕ → ℕ → Type 0
 HasNoStart crash trace from = ((count : ℕ) × HasNoRunOf crash trace from (NoStart count)) ⊎ (length trace ≤ from)
 
 -- from the packet of this number on there is a run, or no start
-abbrev pub IsEnd : Crash → List ℕ → ℕ → Type 0
-IsEnd crash trace from = ((run : Run) × IsRunOf crash trace from run) ⊎ HasNoStart crash trace from
+abbrev pub MayEndSearch : Crash → List ℕ → ℕ → Type 0
+MayEndSearch crash trace from = ((run : Run) × IsRunOf crash trace from run) ⊎ HasNoStart crash trace from
 
 -- the packet that is asked for; or, where that is the first one and the run from there has too many steps, a later one, while the run from the
 -- packet before it has too many
@@ -45,14 +45,14 @@ pub record IsLongToTheEnd (crash : Crash) (trace : List ℕ) (fault : PathFault)
 
 -- the run from a packet has another fault than that; the packet is between one from which the run has too many steps, and one from which there is
 -- a run, or no start
-pub record IsBetween (crash : Crash) (trace : List ℕ) (fault : PathFault) : Type 0 where
+pub record IsFaultBetween (crash : Crash) (trace : List ℕ) (fault : PathFault) : Type 0 where
   pub low : ℕ
   pub from : ℕ
   pub high : ℕ
   pub after : low < from
   pub before : from < high
   pub long : IsTooLong crash trace low
-  pub end : IsEnd crash trace high
+  pub end : MayEndSearch crash trace high
   pub fails : HasNoRunOf crash trace from fault
   pub not_long : (packet : ℕ) → fault ≢ TooLong packet
   pub no_end : (count : ℕ) → fault ≢ NoStart count
@@ -62,7 +62,7 @@ pub record IsBetween (crash : Crash) (trace : List ℕ) (fault : PathFault) : Ty
 abbrev pub NeverBegins : Crash → List ℕ → ℕ → PathFault → Type 0
 NeverBegins crash trace asked fault =
     (HasNoRunOf crash trace asked fault × ((0 < asked) ⊎ ((packet : ℕ) → fault ≢ TooLong packet)))
-    ⊎ ((asked ≡ 0) × IsTooLong crash trace 0 × (IsLongToTheEnd crash trace fault ⊎ IsBetween crash trace fault))
+    ⊎ ((asked ≡ 0) × IsTooLong crash trace 0 × (IsLongToTheEnd crash trace fault ⊎ IsFaultBetween crash trace fault))
 
 -- what is begun of a trace, where a packet is asked for: a run of it, from that packet or a later one; or why there is none. Want of memory is none of the definition's.
 pub record AreBegun (crash : Crash) (trace : List ℕ) (asked : ℕ) (result : Result Begun PathFault) : Type 0 where

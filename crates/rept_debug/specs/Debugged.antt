@@ -6,7 +6,7 @@ use Rattle.rept_elf.specs.Header.{half_at}
 use Rattle.rept_ports.specs.Causes.{OneFault, AppendsPrefix}
 use Rattle.rept_maps.specs.declared.fault.MapFault.{MapFault}
 use Rattle.rept_mapfiles.specs.Kept.{asked_names, loads_after}
-use Rattle.rept_ports.specs.Port.{Port, Move, move}
+use Rattle.rept_ports.specs.Port.{Port, PortMove, move}
 use Rattle.rept_ports.specs.Shelves.{Files, Shelved}
 use Rattle.rept_path.specs.declared.fault.PathFault.{PathFault}
 use Rattle.rept_steps.specs.declared.run.Run.{Run}
@@ -23,7 +23,7 @@ use Rattle.rept_app.specs.Loading.{CrashBytes, CoreBytes, ComesTo, ComesToCore, 
 use Rattle.rept_app.specs.Loading.Loading.{Loaded, LoadedCore, MadeRun, Refused}
 use Rattle.rept_app.specs.Mapped.{IsMappedAs, ListSays, MappedCrash, mapped_bytes, mapped_crash}
 use Rattle.rept_app.specs.Reading.{HasNoCrash}
-use Rattle.rept_app.specs.Told.{CrashRun, CrashTrace, IsAccountOf, IsCrashOf, ReadsNotes, contradiction_in, route_of, run_in, setting_of, trace_in}
+use Rattle.rept_app.specs.Told.{CrashRun, CrashTrace, IsAccountOf, IsCrashOf, ReadsNotes, contradiction_in, route_of, run_in, run_setting, trace_in}
 use Rattle.rept_app.specs.TraceRun.{IsRunOf}
 use Rattle.rept_app.specs.True.{IsExcluded, IsTrue}
 use Rattle.rept_app.specs.declared.refusal.FileKind.{FileKind}
@@ -39,11 +39,11 @@ use Rattle.rept_debug.specs.declared.talk.Talk.{Talk}
 
 -- the three streams, before a call and after it
 pub record Streams : Type 0 where
-  pub input : Move Port
-  pub output : Move Port
-  pub errors : Move Port
+  pub input : PortMove Port
+  pub output : PortMove Port
+  pub errors : PortMove Port
 
-abbrev pub streams : Move Port → Move Port → Move Port → Streams
+abbrev pub streams : PortMove Port → PortMove Port → PortMove Port → Streams
 streams input output errors = record { input = input; output = output; errors = errors }
 
 -- the line that tells from which packet the run was rebuilt, where that isn't the one that was asked for
@@ -51,17 +51,17 @@ abbrev pub notice_line : ℕ → List ℕ
 notice_line from = codes "the path begins at packet " ++ decimal from ++ 10 ∷ []
 
 -- the line was written, and no fault was counted; or one was
-abbrev pub IsWritten : ℕ → Move Port → Type 0
+abbrev pub IsWritten : ℕ → PortMove Port → Type 0
 IsWritten from errors =
     (Appends errors.before.bytes errors.after.bytes (notice_line from) × (errors.after.faults ≡ errors.before.faults))
     ⊎ (AppendsPrefix errors.before.bytes errors.after.bytes (notice_line from) × OneFault errors.before.faults errors.after.faults)
 
 -- of a dialog that was held: nothing was written, where the run begins at the packet that was asked for; else the line
-abbrev pub IsNoticed : ℕ → ℕ → Move Port → Type 0
+abbrev pub IsNoticed : ℕ → ℕ → PortMove Port → Type 0
 IsNoticed asked from errors = ((from ≡ asked) × (errors.after ≡ errors.before)) ⊎ IsWritten from errors
 
 -- of a crash that is refused: nothing was written; or such a line
-abbrev pub Notices : Move Port → Type 0
+abbrev pub Notices : PortMove Port → Type 0
 Notices errors = (errors.after ≡ errors.before) ⊎ ((from : ℕ) × IsWritten from errors)
 
 -- who talks: what a session tells of an account of the run; the signal of the first thread's register note (`pr_cursig` of `struct elf_prstatus`, at 12); and
@@ -70,7 +70,7 @@ abbrev pub dialog_over : {W : Type 0} → CrashRun W → Account → Parties
 dialog_over p a = parties_over (told_on (route_of p) a) (half_at (note_at p.crash 0) 12)
 
 -- what arrived was answered over an account of the run
-pub record TalksOver {W : Type 0} (p : CrashRun W) (source sink : Move Port) (end : Conversed) : Type 0 where
+pub record TalksOver {W : Type 0} (p : CrashRun W) (source sink : PortMove Port) (end : Conversed) : Type 0 where
   pub account : Account
   pub report : IsAccountOf p account
   pub talks : Converses (dialog_over p account) source sink end
@@ -78,7 +78,7 @@ pub record TalksOver {W : Type 0} (p : CrashRun W) (source sink : Move Port) (en
 -- the closure of the run has a conflict, and no execution of it ends in the crash; or memory ran out
 abbrev pub IsRefusedRun : {W : Type 0} → CrashRun W → Refusal → Type 0
 IsRefusedRun p r =
-    ((kind : ConflictKind) × ClosureHas (setting_of p) kind × IsExcluded p × (r ≡ refusal.Inconsistent (contradiction_in p kind)))
+    ((kind : ConflictKind) × ClosureHas (run_setting p) kind × IsExcluded p × (r ≡ refusal.Inconsistent (contradiction_in p kind)))
     ⊎ (status_of r ≡ ends.OutOfMemory)
 
 -- the run of a trace, and what was answered over it
@@ -120,7 +120,7 @@ IsRefusedMapped m r =
     (λ fault. r ≡ refusal.CoreImage fault)
 
 -- The load of the file of this name, which is one of those that the core file lists, failed: it was the last.
-pub record NameStops (m : MappedCrash) (asked : Move ℕ) (name : List ℕ) : Type 0 where
+pub record NameStops (m : MappedCrash) (asked : PortMove ℕ) (name : List ℕ) : Type 0 where
   pub accepted : core_image_fault m.bytes.core ≡ None
   pub desc : List ℕ
   pub listed : ListSays m.bytes.core (Ok desc)
@@ -129,7 +129,7 @@ pub record NameStops (m : MappedCrash) (asked : Move ℕ) (name : List ℕ) : Ty
   pub loads : asked.after ≡ loads_after (suc place) asked.before
 
 -- why nothing is answered of a core file that lists the files of its program
-abbrev pub IsUnheld : MappedCrash → Move ℕ → NoTalk → Type 0
+abbrev pub IsUnheld : MappedCrash → PortMove ℕ → NoTalk → Type 0
 IsUnheld m asked (no_talk.Refused r) = IsRefusedMapped m r ⊎ (status_of r ≡ ends.OutOfMemory)
 IsUnheld m asked (no_talk.LoadFault name) = NameStops m asked (string_bytes name)
 
@@ -159,11 +159,11 @@ IsRefusedLoading files (MadeRun seed steps) r = r ≡ refusal.Usage
 
 -- Why nothing is answered: the words have no meaning, or ask for a made run; a file is missing or too large; the crash is refused; a load failed,
 -- after those before it; or memory ran out.
-abbrev pub IsRefused : List (List ℕ) → Files → Move Shelved → NoTalk → Type 0
-IsRefused words files shelf (no_talk.Refused r) =
+abbrev pub HasNoTalk : List (List ℕ) → Files → PortMove Shelved → NoTalk → Type 0
+HasNoTalk words files shelf (no_talk.Refused r) =
     IsRefusedLoading files (loading words files) r
     ⊎ ((kind : FileKind) × (r ≡ refusal.LoadFault kind) × ((ComesTo words files kind × (shelf.after.loads ≡ loads_to kind shelf.before.loads)) ⊎ (ComesToCore words files kind × (shelf.after.loads ≡ core_loads_to kind shelf.before.loads))))
     ⊎ (status_of r ≡ ends.OutOfMemory)
-IsRefused words files shelf (no_talk.LoadFault name) =
+HasNoTalk words files shelf (no_talk.LoadFault name) =
     (core : CoreBytes) × (loading words files ≡ LoadedCore core)
     × NameStops (mapped_crash files core) (move (core_loads_to file.Trace shelf.before.loads) shelf.after.loads) (string_bytes name)

@@ -1,7 +1,7 @@
 -- A process that opens a crash for a debugger: its words, its ports, and the number that it ends with. This project's own.
 use Rattle.std.specs.Prelude.{◌≡◌, ◌⊎◌, ℕ, List, [], ◌∷◌, ◌++◌, Bool, false, Result, Ok, Err, IfSome, codes, string_bytes, MatchResult, if◌then◌else◌}
 use Rattle.std.specs.Str.{bytes_eq}
-use Rattle.rept_ports.specs.Port.{Port, Move, move}
+use Rattle.rept_ports.specs.Port.{Port, PortMove, move}
 use Rattle.rept_ports.specs.Shelves.{Shelved}
 use Rattle.rept_ports.specs.declared.arguments.Unreadable.{Unreadable}
 use Rattle.rept_ports.specs.declared.arguments.Unreadable.TheVariants.{NotText, OutOfMemory}
@@ -15,20 +15,20 @@ use Rattle.rept_app.specs.declared.refusal.Refusal.{Refusal}
 use Rattle.rept_app.specs.declared.refusal.Refusal.TheVariants as refusal
 use Rattle.rept_app.specs.declared.status.Status.{Status}
 use Rattle.rept_app.specs.declared.status.Status.TheVariants as ends
-use Rattle.rept_debug.specs.Debugged.{IsDebugged, IsRefused, Notices, status_of_no_talk, streams}
+use Rattle.rept_debug.specs.Debugged.{HasNoTalk, IsDebugged, Notices, status_of_no_talk, streams}
 use Rattle.rept_debug.specs.declared.no_talk.NoTalk.{NoTalk}
 use Rattle.rept_debug.specs.declared.no_talk.NoTalk.TheVariants as no_talk
 use Rattle.rept_debug.specs.declared.talk.Talk.{Talk}
 
 -- the words, or why they can't be read; and the ports before the call and after it
-pub record Process : Type 0 where
+pub record DebugProcess : Type 0 where
   pub words : Result (List (List ℕ)) Unreadable
-  pub shelf : Move Shelved
-  pub input : Move Port
-  pub output : Move Port
-  pub errors : Move Port
+  pub shelf : PortMove Shelved
+  pub input : PortMove Port
+  pub output : PortMove Port
+  pub errors : PortMove Port
 
-abbrev pub process : Result (List (List ℕ)) Unreadable → Move Shelved → Move Port → Move Port → Move Port → Process
+abbrev pub process : Result (List (List ℕ)) Unreadable → PortMove Shelved → PortMove Port → PortMove Port → PortMove Port → DebugProcess
 process words shelf input output errors = record { words = words; shelf = shelf; input = input; output = output; errors = errors }
 
 -- the first word is `maps`
@@ -61,28 +61,28 @@ TellsNoTalk (no_talk.Refused r) text status = TellsRefusal r text status
 TellsNoTalk (no_talk.LoadFault name) text status = TellsName (string_bytes name) text status
 
 -- the ports of the debugger are as they were
-abbrev pub IsUntouched : Process → Type 0
-IsUntouched p = (p.input.after ≡ p.input.before) × (p.output.after ≡ p.output.before)
+abbrev pub ArePortsUntouched : DebugProcess → Type 0
+ArePortsUntouched p = (p.input.after ≡ p.input.before) × (p.output.after ≡ p.output.before)
 
 -- Of words that are read: the crash was debugged where the files are told, with a notice of where its run begins. Words that aren't are usage, or
 -- there is no memory for them.
-abbrev pub OpensAs : Process → Result (List (List ℕ)) Unreadable → Talk → Type 0
+abbrev pub OpensAs : DebugProcess → Result (List (List ℕ)) Unreadable → Talk → Type 0
 OpensAs p (Ok words) talk = IfSome p.shelf.before.files (λ files. IsDebugged (session_words words) files (streams p.input p.output p.errors) talk)
 OpensAs p (Err why) talk = ⊥
 
-abbrev pub RefusesAs : Process → Result (List (List ℕ)) Unreadable → NoTalk → Type 0
-RefusesAs p (Ok words) why = (status_of_no_talk why ≡ ends.OutOfMemory) ⊎ IfSome p.shelf.before.files (λ files. IsRefused (session_words words) files p.shelf why)
+abbrev pub RefusesAs : DebugProcess → Result (List (List ℕ)) Unreadable → NoTalk → Type 0
+RefusesAs p (Ok words) why = (status_of_no_talk why ≡ ends.OutOfMemory) ⊎ IfSome p.shelf.before.files (λ files. HasNoTalk (session_words words) files p.shelf why)
 RefusesAs p (Err NotText) why = why ≡ no_talk.Refused refusal.Usage
 RefusesAs p (Err OutOfMemory) why = why ≡ no_talk.Refused refusal.OutOfMemory
 
-abbrev pub Opens : Process → Result Talk NoTalk → Type 0
-Opens p result =
-    MatchResult result (λ talk. OpensAs p p.words talk) (λ why. RefusesAs p p.words why × IsUntouched p × Notices p.errors)
+abbrev pub OpensTalk : DebugProcess → Result Talk NoTalk → Type 0
+OpensTalk p result =
+    MatchResult result (λ talk. OpensAs p p.words talk) (λ why. RefusesAs p p.words why × ArePortsUntouched p × Notices p.errors)
 
 -- A dialog was held, and the number is that of its end. Or there is none: why is written, after what was noticed, and the number is
 -- that of its status.
-abbrev pub Answers : Process → ℕ → Type 0
-Answers p number =
+abbrev pub AnswersDebugging : DebugProcess → ℕ → Type 0
+AnswersDebugging p number =
     ((talk : Talk) × OpensAs p p.words talk × (number ≡ number_of_status (status_of_end talk.end)))
-    ⊎ ((why : NoTalk) × (noticed : Port) × RefusesAs p p.words why × IsUntouched p × Notices (move p.errors.before noticed)
+    ⊎ ((why : NoTalk) × (noticed : Port) × RefusesAs p p.words why × ArePortsUntouched p × Notices (move p.errors.before noticed)
     × ((told : Status) × Delivers (TellsNoTalk why) (move noticed p.errors.after) told) × (number ≡ number_of_status (status_of_no_talk why)))

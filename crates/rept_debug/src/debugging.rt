@@ -5,7 +5,7 @@ ghost use Rattle.rept_ports.specs.Port.{move};
 ghost use Rattle.rept_app.specs.Loading.{ShelfMoves, crash_bytes};
 ghost use Rattle.rept_app.specs.Top.{FaultsEnd};
 ghost use Rattle.rept_words.specs.Words.{meaning_of};
-ghost use Rattle.rept_debug.specs.Debugged.{IsDebugged, IsHeld, IsRefused, IsRefusedCrash, Notices, streams};
+ghost use Rattle.rept_debug.specs.Debugged.{HasNoTalk, IsDebugged, IsHeld, IsRefusedCrash, Notices, streams};
 
 use crate::mapped::debug_mapped;
 use crate::no_talk::NoTalk;
@@ -34,7 +34,7 @@ pub fn debug<H: Shelf, S: Source, K: Sink, E: Sink>(
     ensures debugged { IfOk result (λ talk. IfSome (H.port shelf.old).files (λ files. IsDebugged (map string_bytes words.now) files (streams (move (S.port input.old) (S.port input.new)) (move (K.port out.old) (K.port out.new)) (move (E.port errors.old) (E.port errors.new))) talk)) }
 
     // Why not, where the files are told; the ports are as they were.
-    ensures refused { IfErr result (λ why. IfSome (H.port shelf.old).files (λ files. IsRefused (map string_bytes words.now) files (move (H.port shelf.old) (H.port shelf.new)) why)) }
+    ensures refused { IfErr result (λ why. IfSome (H.port shelf.old).files (λ files. HasNoTalk (map string_bytes words.now) files (move (H.port shelf.old) (H.port shelf.new)) why)) }
     ensures unread { IfErr result (λ _. (input.new ≡ input.old) × (out.new ≡ out.old)) }
     ensures noticed { IfErr result (λ _. Notices (move (E.port errors.old) (E.port errors.new))) }
 

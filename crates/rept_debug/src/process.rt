@@ -4,7 +4,7 @@ ghost use Rattle.std.specs.Prelude.{◌≡◌, map, string_bytes, IfOk};
 ghost use Rattle.std.specs.Process.{exit_status};
 ghost use Rattle.std.specs.Result.{result_map_both};
 ghost use Rattle.rept_ports.specs.Port.{move};
-ghost use Rattle.rept_debug.specs.Process.{Answers, Opens, asks_for_maps, process, session_words, status_of_end};
+ghost use Rattle.rept_debug.specs.Process.{AnswersDebugging, OpensTalk, asks_for_maps, process, session_words, status_of_end};
 
 use crate::debugging::debug;
 use crate::no_talk::NoTalk;
@@ -66,7 +66,7 @@ fn open<H: Shelf, S: Source, K: Sink, E: Sink>(
     out: &mut K,
     errors: &mut E,
 ) -> Result<Talk, NoTalk>
-    ensures { Opens (process (result_map_both (λ v. map string_bytes v.items) (λ e. e) words) (move (H.port shelf.old) (H.port shelf.new)) (move (S.port input.old) (S.port input.new)) (move (K.port out.old) (K.port out.new)) (move (E.port errors.old) (E.port errors.new))) result }
+    ensures { OpensTalk (process (result_map_both (λ v. map string_bytes v.items) (λ e. e) words) (move (H.port shelf.old) (H.port shelf.new)) (move (S.port input.old) (S.port input.new)) (move (K.port out.old) (K.port out.new)) (move (E.port errors.old) (E.port errors.new))) result }
 {
     let words = match words {
         Ok(words) => words,
@@ -89,7 +89,7 @@ pub fn answer<H: Shelf, S: Source, K: Sink, E: Sink>(
     out: &mut K,
     errors: &mut E,
 ) -> ExitCode
-    ensures { Answers (process (result_map_both (λ v. map string_bytes v.items) (λ e. e) words) (move (H.port shelf.old) (H.port shelf.new)) (move (S.port input.old) (S.port input.new)) (move (K.port out.old) (K.port out.new)) (move (E.port errors.old) (E.port errors.new))) (exit_status result) }
+    ensures { AnswersDebugging (process (result_map_both (λ v. map string_bytes v.items) (λ e. e) words) (move (H.port shelf.old) (H.port shelf.new)) (move (S.port input.old) (S.port input.new)) (move (K.port out.old) (K.port out.new)) (move (E.port errors.old) (E.port errors.new))) (exit_status result) }
 {
     match open(alloc, words, shelf, input, out, errors) {
         Ok(talk) => ExitCode::from(end_status(talk.end).number()),

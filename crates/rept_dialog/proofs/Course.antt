@@ -7,7 +7,7 @@ use Rattle.rept_ports.proofs.LineLemmas.{Consumes-nothing, Consumes-trans}
 use Rattle.rept_ports.specs.Causes.{OneFault, AppendsPrefix}
 use Rattle.rept_ports.specs.Port.{Port, move}
 use Rattle.rept_remote.specs.Frames.{Arrived, Arrives, IsPart, arrived}
-use Rattle.rept_remote.specs.Reading.{Comes, Passed, Reader, ReadsNext, most_input, taking}
+use Rattle.rept_remote.specs.Reading.{ComesNext, PacketReader, Passed, ReadsNext, most_input, taking}
 use Rattle.rept_remote.specs.declared.arrival.Arrival.{Arrival}
 use Rattle.rept_remote.specs.declared.arrival.Ending.{Ending}
 use Rattle.rept_dialog.specs.Converse.{Progress, Parties, TalkEnded, Broke}
@@ -21,8 +21,8 @@ starts parties d source sink e =
     subst (Progress parties (move source source) (move sink sink) []) (sym e) (record { written = []; talks = begun; consumed = Consumes-nothing source.bytes; wrote = Appends-nothing sink.bytes; read_calm = refl; write_calm = refl })
 
 -- what the reader did, where it has not ended
-pub opened : (old new : Reader) (s t : Port) (r : Result Arrival Ending) → old.over ≡ None → ReadsNext old new (move s t) r → Comes old new (move s t) r
-opened old new s t r e h = let P : Option Ending → Type 0 = λ o. MatchOption o (Comes old new (move s t) r) (λ why. (r ≡ Err why) × (new ≡ old) × (t ≡ s)) in subst P e h
+pub opened : (old new : PacketReader) (s t : Port) (r : Result Arrival Ending) → old.over ≡ None → ReadsNext old new (move s t) r → ComesNext old new (move s t) r
+opened old new s t r e h = let P : Option Ending → Type 0 = λ o. MatchOption o (ComesNext old new (move s t) r) (λ why. (r ≡ Err why) × (new ≡ old) × (t ≡ s)) in subst P e h
 
 by_part : (part : List ℕ) (what : Arrived) → IsPart part what → 0 < length part
 by_part part what (inl h) = omega (arith, ap length h.parts)

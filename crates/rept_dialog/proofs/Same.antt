@@ -11,7 +11,7 @@ use Rattle.rept_session.specs.Session.{said_at}
 use Rattle.rept_session.specs.SessionLaws.{reply_same}
 use Rattle.rept_session.specs.Shown.{SameReasons, Shown, session_told}
 use Rattle.rept_session.specs.declared.place.ThreadPoint.{ThreadPoint}
-use Rattle.rept_stub.specs.Answers.{IsAnswer, IsAnswerTo, IsChanged, IsLineAnswered, IsMonitored, IsStill, Still, spots_after}
+use Rattle.rept_stub.specs.Answers.{IsAnswerTo, IsChanged, IsLineAnswered, IsMonitored, IsStillAnswer, IsStubAnswer, Still, spots_after}
 use Rattle.rept_stub.specs.Monitoring.{asked_of}
 use Rattle.rept_stub.specs.Spots.{Spots}
 use Rattle.rept_stub.specs.Standing.{here}
@@ -32,7 +32,7 @@ module _ (s : Shown) (skipped : ℕ) (old new : Fact → Because → Type 0) (sa
   monitored signal c None text h = h
   monitored signal c (Some line) text h = (h.0, line_same signal c line h.0 (asked_of line) h.1, h.2)
 
-  still_same : (still : Still) (r : Request) (text : List ℕ) → IsStill (session_told s skipped new) still r text → IsStill (session_told s skipped old) still r text
+  still_same : (still : Still) (r : Request) (text : List ℕ) → IsStillAnswer (session_told s skipped new) still r text → IsStillAnswer (session_told s skipped old) still r text
   still_same still request.Monitor text h = monitored still.signal (here still.stand) _ text h
   still_same still r text h = h
 
@@ -44,7 +44,7 @@ module _ (s : Shown) (skipped : ℕ) (old new : Fact → Because → Type 0) (sa
   answer_same still (request.Move way name) text h = h
   answer_same still r text h = changed_same still r (spots_after still.stand.spots r) text h
 
-  answered : (signal : ℕ) (stand : Stand) (bytes text : List ℕ) → IsAnswer (session_told s skipped new) signal stand bytes text → IsAnswer (session_told s skipped old) signal stand bytes text
+  answered : (signal : ℕ) (stand : Stand) (bytes text : List ℕ) → IsStubAnswer (session_told s skipped new) signal stand bytes text → IsStubAnswer (session_told s skipped old) signal stand bytes text
   answered signal stand bytes text h = answer_same (record { signal = signal; stand = stand; packet = bytes }) (request_of bytes) text h
 
   pub turn_same : (signal : ℕ) (d : Dialog) (what : Arrived) (text : List ℕ) (next : Dialog) → IsTurn (session_told s skipped new) signal d what text next → IsTurn (session_told s skipped old) signal d what text next

@@ -2,7 +2,7 @@
 use Rattle.std.specs.Prelude.{◌≡◌, ◌⊎◌, ℕ, List, [], ◌++◌, length, Bool, true, false}
 use Rattle.std.specs.Io.KnownBytes.{Appends, Consumes}
 use Rattle.rept_ports.specs.Causes.{OneFault, AppendsPrefix}
-use Rattle.rept_ports.specs.Port.{Port, Move, move}
+use Rattle.rept_ports.specs.Port.{Port, PortMove, move}
 use Rattle.rept_remote.specs.Frames.{Arrived, Arrives}
 use Rattle.rept_remote.specs.Reading.{Stops, taking}
 use Rattle.rept_remote.specs.declared.arrival.Ending.{Ending}
@@ -24,7 +24,7 @@ parties_over t signal = record { told = t; signal = signal; start = start_at t.s
 
 -- the bytes that were taken of an input and those that were written to an output, neither of which failed, are those of the arrivals so far and of
 -- what was written at each
-pub record Progress (parties : Parties) (source sink : Move Port) (read : List ℕ) (now : Dialog) : Type 0 where
+pub record Progress (parties : Parties) (source sink : PortMove Port) (read : List ℕ) (now : Dialog) : Type 0 where
   pub written : List ℕ
   pub talks : Talks parties.told parties.signal parties.start read written now
   pub consumed : Consumes source.before.bytes source.after.bytes read
@@ -33,7 +33,7 @@ pub record Progress (parties : Parties) (source sink : Move Port) (read : List �
   pub write_calm : sink.after.faults ≡ sink.before.faults
 
 -- one arrival more came after that
-pub record Arrival (parties : Parties) (source sink : Move Port) : Type 0 where
+pub record Arrival (parties : Parties) (source sink : PortMove Port) : Type 0 where
   pub read : List ℕ
   pub now : Dialog
   pub got : List ℕ
@@ -45,25 +45,25 @@ pub record Arrival (parties : Parties) (source sink : Move Port) : Type 0 where
   pub calm : source.after.faults ≡ middle.faults
 
 -- the input ended or failed, or too much of it came, between arrivals or within one
-pub record TalkEnded (parties : Parties) (source sink : Move Port) (why : Ending) : Type 0 where
+pub record TalkEnded (parties : Parties) (source sink : PortMove Port) (why : Ending) : Type 0 where
   pub read : List ℕ
   pub now : Dialog
   pub got : List ℕ
   pub middle : Port
-  pub count : Move ℕ
+  pub count : PortMove ℕ
   pub progress : Progress parties (move source.before middle) sink read now
   pub counted : count.before ≡ length read
   pub stops : Stops (taking count (move middle source.after) got) why
 
 -- the debugger left
-pub record Left (parties : Parties) (source sink : Move Port) : Type 0 where
+pub record Left (parties : Parties) (source sink : PortMove Port) : Type 0 where
   pub read : List ℕ
   pub now : Dialog
   pub progress : Progress parties source sink read now
   pub left : now.is_over ≡ true
 
 -- the output failed in what is written at an arrival
-pub record Broke (parties : Parties) (source sink : Move Port) : Type 0 where
+pub record Broke (parties : Parties) (source sink : PortMove Port) : Type 0 where
   pub before : Port
   pub arrival : Arrival parties source (move sink.before before)
   pub text : List ℕ
@@ -73,11 +73,11 @@ pub record Broke (parties : Parties) (source sink : Move Port) : Type 0 where
   pub fault : OneFault before.faults sink.after.faults
 
 -- Memory ran out for the answer to an arrival; or for the cursors, before the first one.
-abbrev pub Stopped : Parties → Move Port → Move Port → Type 0
-Stopped parties source sink = Arrival parties source sink ⊎ ((source.after ≡ source.before) × (sink.after ≡ sink.before))
+abbrev pub StoppedDialog : Parties → PortMove Port → PortMove Port → Type 0
+StoppedDialog parties source sink = Arrival parties source sink ⊎ ((source.after ≡ source.before) × (sink.after ≡ sink.before))
 
-abbrev pub Converses : Parties → Move Port → Move Port → Conversed → Type 0
+abbrev pub Converses : Parties → PortMove Port → PortMove Port → Conversed → Type 0
 Converses parties source sink conversed.Left = Left parties source sink
 Converses parties source sink (conversed.Ended why) = TalkEnded parties source sink why
 Converses parties source sink conversed.OutputFault = Broke parties source sink
-Converses parties source sink conversed.OutOfMemory = Stopped parties source sink
+Converses parties source sink conversed.OutOfMemory = StoppedDialog parties source sink

@@ -8,7 +8,7 @@ use Rattle.rept_request.specs.Requests.{request_of}
 use Rattle.rept_request.specs.declared.request.Request.{Request}
 use Rattle.rept_request.specs.declared.request.Request.TheVariants as request
 use Rattle.rept_session.specs.Shown.{SessionTold, Shown}
-use Rattle.rept_stub.specs.Answers.{IsAnswer, stand_after}
+use Rattle.rept_stub.specs.Answers.{IsStubAnswer, stand_after}
 use Rattle.rept_stub.specs.Replies.{error}
 use Rattle.rept_stub.specs.Standing.{start_of}
 use Rattle.rept_dialog.specs.declared.turn.Dialog.{Dialog}
@@ -47,7 +47,7 @@ after_packet t d bytes reply = record {
 -- What is written at an arrival, and the dialog after it. A packet is acknowledged and, but for `k`, answered; one that is broken is refused; the last reply is
 -- written again where it is wished for.
 abbrev pub IsTurn : SessionTold → ℕ → Dialog → Arrived → List ℕ → Dialog → Type 0
-IsTurn t signal d (packet bytes) text new = (reply : List ℕ) × IsAnswer t signal d.stand bytes reply × (text ≡ sign d (codes "+") ++ written_to (request_of bytes) reply) × (new ≡ after_packet t d bytes reply)
+IsTurn t signal d (packet bytes) text new = (reply : List ℕ) × IsStubAnswer t signal d.stand bytes reply × (text ≡ sign d (codes "+") ++ written_to (request_of bytes) reply) × (new ≡ after_packet t d bytes reply)
 IsTurn t signal d broken text new = (text ≡ sign d (codes "-")) × (new ≡ d)
 IsTurn t signal d large text new = (text ≡ sign d (codes "+") ++ packet_of error) × (new ≡ record d { last = packet_of error })
 IsTurn t signal d again text new = (text ≡ d.last) × (new ≡ d)

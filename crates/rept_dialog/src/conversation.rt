@@ -3,7 +3,7 @@
 ghost use Rattle.std.specs.Prelude.{◌≡◌};
 ghost use Rattle.rept_ports.specs.Port.{move};
 ghost use Rattle.rept_session.specs.Shown.{SameReasons, session_told};
-ghost use Rattle.rept_stub.specs.Standing.{IsStanding};
+ghost use Rattle.rept_stub.specs.Standing.{IsStandLawful};
 ghost use Rattle.rept_dialog.specs.Converse.{Converses, parties_over};
 ghost use Rattle.rept_dialog.specs.Dialog.{start_at};
 
@@ -56,7 +56,7 @@ fn converse_on<F: Findings, S: Source, K: Sink>(
     out: &mut K,
 ) -> Conversed
     requires start { start ≡ start_at (F.shown findings.old) }
-    requires within { IsStanding (F.shown findings.old) start.stand }
+    requires within { IsStandLawful (F.shown findings.old) start.stand }
     ensures talk { Converses (parties_over (session_told (F.shown findings.old) setting.skipped (F.reasons findings.old)) setting.signal) (move (S.port input.old) (S.port input.new)) (move (K.port out.old) (K.port out.new)) result }
     ensures same { F.shown findings.new ≡ F.shown findings.old }
     ensures same_reasons { SameReasons (F.reasons findings.old) (F.reasons findings.new) }

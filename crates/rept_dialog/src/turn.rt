@@ -5,7 +5,7 @@ ghost use Rattle.rept_remote.specs.Escapes.{packet_of};
 ghost use Rattle.rept_remote.specs.Frames.{arrived};
 ghost use Rattle.rept_remote.specs.Frames.Arrived.{packet};
 ghost use Rattle.rept_session.specs.Shown.{SameReasons, session_told};
-ghost use Rattle.rept_stub.specs.Standing.{IsStanding};
+ghost use Rattle.rept_stub.specs.Standing.{IsStandLawful};
 ghost use Rattle.rept_dialog.specs.Dialog.{IsTurn, acknowledges_after, is_last, sign, start_at, written_to};
 
 use rept_remote::{Arrival, push_packet};
@@ -31,7 +31,7 @@ pub struct Dialog {
 /// A dialog that begins, with each thread's cursor at its last point and without breakpoints. The only refusal is out of memory.
 pub fn begin<F: Findings>(alloc: Global, findings: &F) -> Result<Dialog, OutOfMemory>
     ensures dialog { IfOk result (λ dialog. dialog ≡ start_at (F.shown findings.now)) }
-    ensures within { IfOk result (λ dialog. IsStanding (F.shown findings.now) dialog.stand) }
+    ensures within { IfOk result (λ dialog. IsStandLawful (F.shown findings.now) dialog.stand) }
 {
     let stand = start(alloc, findings)?;
     Ok(Dialog {
@@ -51,9 +51,9 @@ pub fn take_turn<F: Findings>(
     arrival: Arrival,
     carried: &[u8],
 ) -> Result<Text, OutOfMemory>
-    requires { IsStanding (F.shown findings.old) dialog.old.stand }
+    requires { IsStandLawful (F.shown findings.old) dialog.old.stand }
     ensures turn { IfOk result (λ text. IsTurn (session_told (F.shown findings.old) setting.skipped (F.reasons findings.old)) setting.signal dialog.old (arrived arrival carried.now) text dialog.new) }
-    ensures within { IsStanding (F.shown findings.old) dialog.new.stand }
+    ensures within { IsStandLawful (F.shown findings.old) dialog.new.stand }
     ensures same { F.shown findings.new ≡ F.shown findings.old }
     ensures same_reasons { SameReasons (F.reasons findings.old) (F.reasons findings.new) }
 {
@@ -74,9 +74,9 @@ fn answer<F: Findings>(
     dialog: &mut Dialog,
     carried: &[u8],
 ) -> Result<Text, OutOfMemory>
-    requires { IsStanding (F.shown findings.old) dialog.old.stand }
+    requires { IsStandLawful (F.shown findings.old) dialog.old.stand }
     ensures turn { IfOk result (λ text. IsTurn (session_told (F.shown findings.old) setting.skipped (F.reasons findings.old)) setting.signal dialog.old (packet carried.now) text dialog.new) }
-    ensures within { IsStanding (F.shown findings.old) dialog.new.stand }
+    ensures within { IsStandLawful (F.shown findings.old) dialog.new.stand }
     ensures same { F.shown findings.new ≡ F.shown findings.old }
     ensures same_reasons { SameReasons (F.reasons findings.old) (F.reasons findings.new) }
 {

@@ -7,7 +7,7 @@ use Rattle.rept_elf.specs.Segments.{ElfSegment}
 use Rattle.rept_notes.specs.Notes.{Note, note_segments}
 use Rattle.rept_notes.specs.Sought.{head, is_short}
 use Rattle.rept_notes.proofs.NoteLemmas.{same_all, same_cuts, whole_or_cuts}
-use Rattle.rept_dump.specs.Registers.{Says, SaysOfAll, HaveThreads, all_registers, descs_of, first_short, only_registers, is_status, status_size}
+use Rattle.rept_dump.specs.Registers.{SaysRegisters, SaysOfAll, HaveThreads, all_registers, descs_of, first_short, only_registers, is_status, status_size}
 use Rattle.rept_dump.specs.declared.fault.CoreFault.{CoreFault}
 use Rattle.rept_dump.specs.declared.fault.CoreFault.TheVariants as fault
 
@@ -45,7 +45,7 @@ pub whole_said : (statuses : List Note) (note : Note) → length statuses ≤ 1 
 whole_said statuses note few e long = let only = only_first statuses note few e in rw (only, long) refl
 
 -- one thing is said of a core file
-pub said_once : (size : ℕ) (ss : List ElfSegment) (said said' : Result (List ℕ) CoreFault) → Says size ss said → Says size ss said' → said ≡ said'
+pub said_once : (size : ℕ) (ss : List ElfSegment) (said said' : Result (List ℕ) CoreFault) → SaysRegisters size ss said → SaysRegisters size ss said' → said ≡ said'
 said_once size ss said said' (inl a) (inl b) =
     a.2 ∙ ap (λ o. Err (fault.NotePastEnd o)) (same_cuts size (note_segments ss) a.0 b.0 a.1 b.1) ∙ sym b.2
 said_once size ss said said' (inl a) (inr b) = absurd (whole_or_cuts size (note_segments ss) b.0 a.0 b.1 a.1)

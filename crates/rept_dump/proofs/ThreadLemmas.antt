@@ -7,8 +7,8 @@ use Rattle.std.proofs.Common.{◌≡◌, ◌≢◌, ◌==◌, nat_lt, take, Ok, 
 use Rattle.std.specs.List.{filter, list_any}
 use Rattle.rept_elf.specs.Segments.{ElfSegment}
 use Rattle.rept_notes.specs.Notes.{Note}
-use Rattle.rept_dump.specs.Registers.{is_status, descs_of, HaveThreads, Says, SaysOfAll, all_registers, by_size, only_registers, first_twin, first_of, first_short, short_size, status_size, pid_of, most_threads}
-use Rattle.rept_dump.specs.Threads.{AreThreads, AllLong}
+use Rattle.rept_dump.specs.Registers.{is_status, descs_of, HaveThreads, SaysRegisters, SaysOfAll, all_registers, by_size, only_registers, first_twin, first_of, first_short, short_size, status_size, pid_of, most_threads}
+use Rattle.rept_dump.specs.Threads.{AreThreadNotes, AllLong}
 use Rattle.rept_dump.specs.declared.fault.CoreFault.{CoreFault}
 use Rattle.rept_dump.specs.declared.fault.CoreFault.TheVariants as fault
 use Rattle.rept_dump.proofs.NoteLemmas.{all_said_once, same_threads}
@@ -94,11 +94,11 @@ only_thread (note ∷ []) first e = go (nat_lt (length note.desc) status_size) e
   go false h = (cc)
 only_thread (note ∷ (other ∷ notes)) first e = absurd ((cc))
 
-pub one_note : (size : ℕ) (ss : List ElfSegment) (first : List ℕ) → Says size ss (Ok first) → HaveThreads size ss (first ∷ [])
+pub one_note : (size : ℕ) (ss : List ElfSegment) (first : List ℕ) → SaysRegisters size ss (Ok first) → HaveThreads size ss (first ∷ [])
 one_note size ss first (inl a) = let e = a.2 in absurd ((cc))
 one_note size ss first (inr a) = (a.0, a.1, sym (only_thread (filter is_status a.0) first a.2))
 
-pub one_thread : (size : ℕ) (ss : List ElfSegment) (first : List ℕ) → Says size ss (Ok first) → status_size ≤ length first → AreThreads size ss first 1
+pub one_thread : (size : ℕ) (ss : List ElfSegment) (first : List ℕ) → SaysRegisters size ss (Ok first) → status_size ≤ length first → AreThreadNotes size ss first 1
 one_thread size ss first (inl a) long = let e = a.2 in absurd ((cc))
 one_thread size ss first (inr a) long = record {
   descs = first ∷ [];
@@ -112,13 +112,13 @@ one_thread size ss first (inr a) long = record {
   one (suc i) desc at = absurd ((cc))
 
 -- a dump's threads, of which it is only told that there are some
-pub is_first : (size : ℕ) (ss : List ElfSegment) (first : List ℕ) (count : ℕ) → ∥ AreThreads size ss first count ∥₁ → (descs : List (List ℕ)) → HaveThreads size ss descs → slice_get descs 0 ≡ Some first
+pub is_first : (size : ℕ) (ss : List ElfSegment) (first : List ℕ) (count : ℕ) → ∥ AreThreadNotes size ss first count ∥₁ → (descs : List (List ℕ)) → HaveThreads size ss descs → slice_get descs 0 ≡ Some first
 is_first size ss first count t descs h = ∥∥₁_elim t (hlevel props) (λ a. subst (λ (ds : List (List ℕ)). slice_get ds 0 ≡ Some first) (same_threads size ss a.descs descs a.have h) a.first_is)
 
-pub found_long : (size : ℕ) (ss : List ElfSegment) (first : List ℕ) (count i : ℕ) (desc : List ℕ) → ∥ AreThreads size ss first count ∥₁ → ((descs : List (List ℕ)) → HaveThreads size ss descs → slice_get descs i ≡ Some desc) → status_size ≤ length desc
+pub found_long : (size : ℕ) (ss : List ElfSegment) (first : List ℕ) (count i : ℕ) (desc : List ℕ) → ∥ AreThreadNotes size ss first count ∥₁ → ((descs : List (List ℕ)) → HaveThreads size ss descs → slice_get descs i ≡ Some desc) → status_size ≤ length desc
 found_long size ss first count i desc t found = ∥∥₁_elim t le_prop (λ a. a.long i desc (found a.descs a.have))
 
-pub is_found : (size : ℕ) (ss : List ElfSegment) (first : List ℕ) (count i : ℕ) → ∥ AreThreads size ss first count ∥₁ → i < count → ((descs : List (List ℕ)) → HaveThreads size ss descs → length descs ≤ i) → ⊥
+pub is_found : (size : ℕ) (ss : List ElfSegment) (first : List ℕ) (count i : ℕ) → ∥ AreThreadNotes size ss first count ∥₁ → i < count → ((descs : List (List ℕ)) → HaveThreads size ss descs → length descs ≤ i) → ⊥
 is_found size ss first count i t less past = ∥∥₁_elim t (λ x y. absurd x) (λ a. let p = past a.descs a.have in let n = a.counted in omega arith)
 
 pub not_ok_and_err : (size : ℕ) (ss : List ElfSegment) (descs : List (List ℕ)) (fault : CoreFault) → SaysOfAll size ss (Ok descs) → SaysOfAll size ss (Err fault) → ⊥

@@ -4,7 +4,7 @@ use Rattle.rept_elf.specs.Segments.{ElfSegment}
 use Rattle.rept_elf.specs.Image.{file_of, segments_of}
 use Rattle.rept_dump.specs.Files.{program_of}
 use Rattle.rept_dump.specs.Program.{Program}
-use Rattle.rept_dump.specs.Registers.{HaveThreads, Says, SaysOfAll}
+use Rattle.rept_dump.specs.Registers.{HaveThreads, SaysOfAll, SaysRegisters}
 use Rattle.rept_dump.specs.declared.fault.CoreFault.{CoreFault}
 use Rattle.rept_dump.specs.declared.dump.Dump.{Dump}
 
@@ -40,8 +40,8 @@ said_of (Err fault) = Err fault
 
 -- the dump, or the fault, is what the notes of a core file of so many bytes say, and they say nothing else
 pub record AreRead (size : ℕ) (ss : List ElfSegment) (result : Result Dump CoreFault) : Type 0 where
-  pub said : Says size ss (said_of result)
-  pub only : (said : Result (List ℕ) CoreFault) → Says size ss said → said ≡ said_of result
+  pub said : SaysRegisters size ss (said_of result)
+  pub only : (said : Result (List ℕ) CoreFault) → SaysRegisters size ss said → said ≡ said_of result
   pub one : IfOk result IsOfOne
 
 -- the same of all threads

@@ -24,8 +24,8 @@ only_registers (note ∷ []) = if nat_lt (length note.desc) status_size then Err
 only_registers (note ∷ (other ∷ notes)) = Err (fault.SeveralThreads (length (note ∷ (other ∷ notes))))
 
 -- what the notes of a core file of so many bytes say
-abbrev pub Says : ℕ → List ElfSegment → Result (List ℕ) CoreFault → Type 0
-Says size ss said =
+abbrev pub SaysRegisters : ℕ → List ElfSegment → Result (List ℕ) CoreFault → Type 0
+SaysRegisters size ss said =
     ((offset : ℕ) × AreCutAt size (note_segments ss) offset × (said ≡ Err (fault.NotePastEnd offset)))
     ⊎ ((notes : List Note) × HaveNotes size (note_segments ss) notes × (said ≡ only_registers (filter is_status notes)))
 
@@ -42,7 +42,8 @@ abbrev pub first_short : List Note → Option ℕ
 first_short [] = None
 first_short (note ∷ notes) = first_of (short_size note.desc) (first_short notes)
 
--- the process of a descriptor
+-- The `pr_pid` of a descriptor: the thread's own number (its TID), which is that of the process for its first thread alone.
+-- Elsewhere "the process" of a thread or a note is this number.
 abbrev pub pid_of : List ℕ → ℕ
 pid_of desc = word_at desc 24
 

@@ -8,7 +8,7 @@ abbrev pub AllLong : List (List ℕ) → Type 0
 AllLong descs = (i : ℕ) (desc : List ℕ) → slice_get descs i ≡ Some desc → status_size ≤ length desc
 
 -- the descriptors of so many threads, the first of which is this one
-pub record AreThreads (size : ℕ) (ss : List ElfSegment) (first : List ℕ) (count : ℕ) : Type 0 where
+pub record AreThreadNotes (size : ℕ) (ss : List ElfSegment) (first : List ℕ) (count : ℕ) : Type 0 where
   pub descs : List (List ℕ)
   pub have : HaveThreads size ss descs
   pub first_is : slice_get descs 0 ≡ Some first

@@ -5,9 +5,9 @@ ghost use Rattle.std.specs.Option.{option_map};
 ghost use Rattle.rept_elf.specs.Symbols.{symbol_of};
 ghost use Rattle.rept_elf.specs.Image.{file_of, segments_of};
 ghost use Rattle.rept_dump.specs.Memory.{crash_byte};
-ghost use Rattle.rept_dump.specs.Registers.{Says, status_size};
+ghost use Rattle.rept_dump.specs.Registers.{SaysRegisters, status_size};
 ghost use Rattle.rept_dump.specs.Stretch.{AnswersAlike, sought_saved};
-ghost use Rattle.rept_dump.specs.Threads.{AreThreads};
+ghost use Rattle.rept_dump.specs.Threads.{AreThreadNotes};
 
 use crate::executable::{Executable, byte_in};
 use crate::fault::CoreFault;
@@ -34,7 +34,7 @@ pub struct Dump<'a> {
     saved: Stretch<'a>,
     ghost has_registers: { status_size ≤ length registers.now },
     ghost saved_answers: { AnswersAlike (sought_saved (segments_of core)) saved },
-    ghost are_threads: { ∥ AreThreads (length (file_of core)) (segments_of core) registers.now threads ∥₁ },
+    ghost are_threads: { ∥ AreThreadNotes (length (file_of core)) (segments_of core) registers.now threads ∥₁ },
 }
 
 impl<'a> Dump<'a> {
@@ -52,8 +52,8 @@ impl<'a> Dump<'a> {
 
     /// The two files together. A fault comes exactly where the core file's notes have it first.
     pub fn read(exe: Image<'a>, core: Image<'a>) -> Result<Dump<'a>, CoreFault>
-        ensures said { Says (length (file_of core.entry)) (segments_of core.entry) (said_of result) }
-        ensures only { (said : Result (List ℕ) CoreFault) → Says (length (file_of core.entry)) (segments_of core.entry) said → said ≡ said_of result }
+        ensures said { SaysRegisters (length (file_of core.entry)) (segments_of core.entry) (said_of result) }
+        ensures only { (said : Result (List ℕ) CoreFault) → SaysRegisters (length (file_of core.entry)) (segments_of core.entry) said → said ≡ said_of result }
         ensures one { IfOk result IsOfOne }
         ensures exe { IfOk result (λ dump. exe_of dump ≡ OneFile (file_of exe.entry)) }
         ensures core { IfOk result (λ dump. core_of dump ≡ segments_of core.entry) }
@@ -97,8 +97,8 @@ impl<'a> Dump<'a> {
 
     /// Files with the core file, which has the registers of one thread.
     fn join(files: Files<'a>, core: Image<'a>) -> Result<Dump<'a>, CoreFault>
-        ensures said { Says (length (file_of core.entry)) (segments_of core.entry) (said_of result) }
-        ensures only { (said : Result (List ℕ) CoreFault) → Says (length (file_of core.entry)) (segments_of core.entry) said → said ≡ said_of result }
+        ensures said { SaysRegisters (length (file_of core.entry)) (segments_of core.entry) (said_of result) }
+        ensures only { (said : Result (List ℕ) CoreFault) → SaysRegisters (length (file_of core.entry)) (segments_of core.entry) said → said ≡ said_of result }
         ensures one { IfOk result IsOfOne }
         ensures files { IfOk result (λ dump. exe_of dump ≡ program_of files.entry) }
         ensures core { IfOk result (λ dump. core_of dump ≡ segments_of core.entry) }

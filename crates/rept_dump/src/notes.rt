@@ -7,7 +7,7 @@ ghost use Rattle.std.specs.Result.{result_map_both};
 ghost use Rattle.rept_elf.specs.Image.{file_of, segments_of};
 ghost use Rattle.rept_notes.specs.Found.{AreFound, note_of};
 ghost use Rattle.rept_notes.specs.Notes.{Note as NoteOf, HaveNotes, AreCutAt, note_segments};
-ghost use Rattle.rept_dump.specs.Registers.{Says, status_size, is_status, first_short, only_registers};
+ghost use Rattle.rept_dump.specs.Registers.{SaysRegisters, status_size, is_status, first_short, only_registers};
 
 use crate::fault::CoreFault;
 use rept_elf::Image;
@@ -70,7 +70,7 @@ fn only_one<'a>(found: &Found<'a>) -> Result<&'a [u8], CoreFault>
 
 /// The descriptor of the only register note of a core file.
 pub fn find_registers<'a>(core: &Image<'a>) -> Result<&'a [u8], CoreFault>
-    ensures said { Says (length (file_of core.now)) (segments_of core.now) (result_map_both (λ b. b.now) (λ e. e) result) }
+    ensures said { SaysRegisters (length (file_of core.now)) (segments_of core.now) (result_map_both (λ b. b.now) (λ e. e) result) }
     ensures enough { IfOk result (λ b. status_size ≤ length b.now) }
 {
     match read_core(core) {

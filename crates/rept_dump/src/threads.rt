@@ -4,7 +4,7 @@ ghost use Rattle.std.specs.Prelude.{◌≡◌, ◌==◌, ◌<◌, ◌≤◌, ℕ
 ghost use Rattle.std.specs.List.{list_any};
 ghost use Rattle.rept_elf.specs.Image.{file_of, segments_of};
 ghost use Rattle.rept_dump.specs.Registers.{pid_of, first_twin, HaveThreads, SaysOfAll};
-ghost use Rattle.rept_dump.specs.Threads.{AllLong, AreThreads};
+ghost use Rattle.rept_dump.specs.Threads.{AllLong, AreThreadNotes};
 
 use crate::fault::CoreFault;
 use crate::notes::{NT_PRSTATUS, STATUS_SIZE, first_short, read_core};
@@ -71,7 +71,7 @@ fn twin_of(core: &Image<'_>, count: usize) -> Option<u32>
 
 /// The descriptor of the first thread's register note, and the count of threads.
 pub fn find_threads<'a>(core: &Image<'a>) -> Result<(&'a [u8], u32), CoreFault>
-    ensures ok { IfOk result (λ found. (threads : AreThreads (length (file_of core.now)) (segments_of core.now) found.0.now found.1) × SaysOfAll (length (file_of core.now)) (segments_of core.now) (Ok threads.descs)) }
+    ensures ok { IfOk result (λ found. (threads : AreThreadNotes (length (file_of core.now)) (segments_of core.now) found.0.now found.1) × SaysOfAll (length (file_of core.now)) (segments_of core.now) (Ok threads.descs)) }
     ensures err { IfErr result (λ fault. SaysOfAll (length (file_of core.now)) (segments_of core.now) (Err fault)) }
 {
     let found = read_core(core)?;

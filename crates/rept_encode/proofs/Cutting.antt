@@ -9,7 +9,7 @@ use Rattle.rept_trace.specs.declared.parameters.Parameters.{Parameters}
 use Rattle.rept_trace.specs.Grammar.{IsPacket}
 use Rattle.rept_trace.specs.Shortened.{filler, IsShortened}
 use Rattle.rept_trace.proofs.LeftOut.{shortened}
-use Rattle.rept_encode.specs.Written.{fill_after, IsCutShort}
+use Rattle.rept_encode.specs.Written.{fill_after, IsPayloadCutShort}
 
 top_bit : (x : ℕ) → x < 256 → ◌≡◌ {A = ℕ} (cond (x / 2 ^ 7 % 2 == 1) 255 0) (cond (nat_le 128 x) 255 0)
 top_bit x lt = grind (arith, nat_tests)
@@ -39,7 +39,7 @@ cut_more widths payload size x some within small same h =
     let both = shortened widths (take (size - 1) payload) (take size payload) 0 (Ok x) s in
     both.1 h
 
-pub is_cut : (payload : List ℕ) (size : ℕ) → size ≤ length payload → (1 < size → get_or payload (size - 1) 0 ≢ fill_after (get_or payload (size - 2) 0)) → IsCutShort (take size payload)
+pub is_cut : (payload : List ℕ) (size : ℕ) → size ≤ length payload → (1 < size → get_or payload (size - 1) 0 ≢ fill_after (get_or payload (size - 2) 0)) → IsPayloadCutShort (take size payload)
 is_cut payload size within differs i e same =
     let n : length (take size payload) ≡ size = simp length-take (omega arith) in
     let k : i + 2 ≡ size = omega arith in

@@ -28,7 +28,7 @@ use Rattle.rept_encode.specs.Bits.{branch_row, bit_list}
 use Rattle.rept_encode.specs.Walkable.{alignment_by, calls, AreStraight, IsStepped}
 use Rattle.rept_encode.specs.Written.{Appends, AreWritten}
 use Rattle.rept_encode.specs.Encoded.{TellsRows, TellsAfter, LeadsOver, coded, start_at, IsReporting, AreReporting}
-use Rattle.rept_encode.specs.State.{Coded, report_packet, Begun, said, waiting_bits, IsText, SentRows, sent_rows, HasRows, LeadTo, IsNear, Sent, Stood, tail_bytes, AreSendable, IsBegun, IsReported, IsSent, IsRestarted, IsWaiting, IsMapped}
+use Rattle.rept_encode.specs.State.{Coded, report_packet, Begun, said, waiting_bits, IsTextOfPackets, SentRows, sent_rows, HasRows, LeadTo, IsNear, Sent, Stood, tail_bytes, AreSendable, IsBegunAt, IsReported, IsReportSent, IsRestarted, IsWaiting, IsMapped}
 use Rattle.rept_encode.proofs.Coding.{Stepping, onward, report_reported, by_report, by_branch, by_call, by_map, by_jump}
 use Rattle.rept_encode.proofs.Ends.{starts_at, by_start, begun_on, reverse-cons, leads_on, path_of}
 use Rattle.rept_encode.proofs.Maps.{no_low, length_low}
@@ -92,7 +92,7 @@ written_held widths bytes [] w = record { zeros = 0; layout = w }
 written_held widths bytes (p ∷ packets) w = (record { widths = widths; bytes = w.1 }, (w.0, (w.3, record { zeros = 0; layout = w.2 }), w.4, refl), written_held widths w.1 packets w.5)
 
 -- the text with one packet more
-pub text_on : (run : SentRows) (i n : ℕ) (text new : List ℕ) (packets : List Packet) (packet : Packet) → IsText run i text packets → Appends run.halves text new packet → (AreStraight run.rows n → AreStraight run.rows i × IsReporting packet) → IsText run n new (packet ∷ packets)
+pub text_on : (run : SentRows) (i n : ℕ) (text new : List ℕ) (packets : List Packet) (packet : Packet) → IsTextOfPackets run i text packets → Appends run.halves text new packet → (AreStraight run.rows n → AreStraight run.rows i × IsReporting packet) → IsTextOfPackets run n new (packet ∷ packets)
 text_on run i n text new packets packet t a tells =
     record {
       first = t.first;
@@ -104,7 +104,7 @@ text_on run i n text new packets packet t a tells =
     }
 
 -- the same text, some rows later or earlier
-text_same : (run : SentRows) (i n : ℕ) (text : List ℕ) (packets : List Packet) → IsText run i text packets → (AreStraight run.rows n → AreStraight run.rows i) → IsText run n text packets
+text_same : (run : SentRows) (i n : ℕ) (text : List ℕ) (packets : List Packet) → IsTextOfPackets run i text packets → (AreStraight run.rows n → AreStraight run.rows i) → IsTextOfPackets run n text packets
 text_same run i n text packets t back = record { first = t.first; begins = t.begins; more = t.more; order = t.order; written = t.written; told = λ all. t.told (back all) }
 
 pub longer : (halves : Bool) (text new : List ℕ) (packet : Packet) → Appends halves text new packet → length new ≤ length text + 11
@@ -163,7 +163,7 @@ unfolding reported
 map_reported map packets = refl
 
 -- A report was added, after which the walk stands.
-reported_stood : (run : SentRows) (i n most : ℕ) (old new : Sender) (b : Bits) (row : StepRow) (notify : Bool) (packets : List Packet) → IsText run i old.text packets → (AreStraight run.rows n → AreStraight run.rows i) → length old.text + 11 ≤ most → Begun (reverse packets) → reported packets ≡ old.reported → row.at % alignment_by run.halves ≡ 0 → slice_get run.rows n ≡ Some row → (r : IsReported run.halves old b new row.at notify n) → ((code : Code) → HasRows run code → sum (reported packets) r.difference ≡ row.at → Coded code (report_packet b.count b.map (said r.difference notify) ∷ packets) [] [] row (reverse (take n run.rows))) → Stood run n new most
+reported_stood : (run : SentRows) (i n most : ℕ) (old new : Sender) (b : Bits) (row : StepRow) (notify : Bool) (packets : List Packet) → IsTextOfPackets run i old.text packets → (AreStraight run.rows n → AreStraight run.rows i) → length old.text + 11 ≤ most → Begun (reverse packets) → reported packets ≡ old.reported → row.at % alignment_by run.halves ≡ 0 → slice_get run.rows n ≡ Some row → (r : IsReported run.halves old b new row.at notify n) → ((code : Code) → HasRows run code → sum (reported packets) r.difference ≡ row.at → Coded code (report_packet b.count b.map (said r.difference notify) ∷ packets) [] [] row (reverse (take n run.rows))) → Stood run n new most
 reported_stood run i n most old new b row notify packets text back few begun last even get r lead =
     let to : sum (reported packets) r.difference ≡ row.at = rw last r.there in
     let more = longer run.halves old.text new.text (report_packet b.count b.map (said r.difference notify)) r.text in
@@ -204,7 +204,7 @@ module _ (run : SentRows) (given : AreSendable run) (i : ℕ) (here next : StepR
   before = fewer run.rows i (i + 1) (omega arith)
 
   -- after an uninferable jump
-  pub sent_jump : (old new : Sender) → Sent run i old → jumps_far (flow_of here.instr) ≡ true → IsSent run.halves old new next false (i + 1) → Sent run (i + 1) new
+  pub sent_jump : (old new : Sender) → Sent run i old → jumps_far (flow_of here.instr) ≡ true → IsReportSent run.halves old new next false (i + 1) → Sent run (i + 1) new
   sent_jump old new s far x =
       let few = s.few in
       stood_sent run (i + 1) new (reported_stood run i (i + 1) (30 + 22 * (i + 1)) old new x.b next false s.packets s.text before (omega arith) s.begun s.last step_next.aligned then x.report (λ code carry to. rw seen_more (by_jump code s.packets (waiting_bits old.bits) s.kept here next (reverse (take i run.rows)) (s.lead code here carry get) (stepping code carry) (far_plain (flow_of here.instr) far) room_here x.b.count x.b.map x.list far x.report.difference to)))
@@ -215,13 +215,13 @@ module _ (run : SentRows) (given : AreSendable run) (i : ℕ) (here next : StepR
       subst (λ (xs : List Bool). Coded code s.packets xs (here ∷ s.kept) next (here ∷ reverse (take i run.rows))) (sym list) (onward code s.packets (waiting_bits old.bits) s.kept here (reverse (take i run.rows)) (s.lead code here carry get) next (stepping code carry) plain room_here near)
 
   -- before a call
-  pub sent_call : (old new : Sender) → Sent run i old → calls (flow_of here.instr) ≡ false → jumps_far (flow_of here.instr) ≡ false → calls (flow_of next.instr) ≡ true → IsSent run.halves old new next true (i + 1) → Sent run (i + 1) new
+  pub sent_call : (old new : Sender) → Sent run i old → calls (flow_of here.instr) ≡ false → jumps_far (flow_of here.instr) ≡ false → calls (flow_of next.instr) ≡ true → IsReportSent run.halves old new next true (i + 1) → Sent run (i + 1) new
   sent_call old new s plain near call x =
       let few = s.few in
       stood_sent run (i + 1) new (reported_stood run i (i + 1) (30 + 22 * (i + 1)) old new x.b next true s.packets s.text before (omega arith) s.begun s.last step_next.aligned then x.report (λ code carry to. rw seen_more (by_call code s.packets x.b.count x.b.map here s.kept next (here ∷ reverse (take i run.rows)) (kept_on old s plain near x.b.count x.b.map x.list code carry) (stepping code carry).there.instr call x.report.difference to)))
 
   -- a single row, from where the walk stands
-  pub sent_single : (most : ℕ) (old new : Sender) → Stood run i old most → calls (flow_of here.instr) ≡ false → jumps_far (flow_of here.instr) ≡ false → IsSent run.halves old new next true (i + 1) → Stood run (i + 1) new (most + 11)
+  pub sent_single : (most : ℕ) (old new : Sender) → Stood run i old most → calls (flow_of here.instr) ≡ false → jumps_far (flow_of here.instr) ≡ false → IsReportSent run.halves old new next true (i + 1) → Stood run (i + 1) new (most + 11)
   sent_single most old new s plain near x =
       let few = s.few in
       let w : low_bits x.b.count x.b.map ≡ [] ++ bit_list next = x.list ∙ ap (λ (xs : List Bool). xs ++ bit_list next) (nothing_waits old.bits s.count) in
@@ -290,7 +290,7 @@ module _ (run : SentRows) (given : AreSendable run) (i : ℕ) (here next : StepR
         let same : next ≡ to = (let e : ◌≡◌ {A = Option StepRow} (Some next) (Some to) = sym then ∙ there in cc) in
         subst (λ (y : StepRow). Coded code s.packets (waiting_bits new.bits) (here ∷ s.kept) y (reverse (take (i + 1) run.rows))) same (rw seen_more (kept_on old s plain near new.bits.count new.bits.map x.list code carry))
 
-    text_there : IsText run (i + 1) new.text s.packets
+    text_there : IsTextOfPackets run (i + 1) new.text s.packets
     text_there = let e = x.text in rw e (text_same run i (i + 1) old.text s.packets s.text before)
 
     few_same : length new.text ≤ 30 + 22 * (i + 1)
@@ -370,12 +370,12 @@ module _ (run : SentRows) (given : AreSendable run) (i : ℕ) (here next : StepR
         }
 
 -- The first row.
-pub begun_stood : (run : SentRows) (s : Sender) (first : StepRow) → slice_get run.rows 0 ≡ Some first → first.at % alignment_by run.halves ≡ 0 → IsBegun s first → Stood run 0 s 30
+pub begun_stood : (run : SentRows) (s : Sender) (first : StepRow) → slice_get run.rows 0 ≡ Some first → first.at % alignment_by run.halves ≡ 0 → IsBegunAt s first → Stood run 0 s 30
 begun_stood run s first get even x =
     let stands = x.stands in
     let reported_is = stands.reported in
     let nothing = x.text in
-    let empty : IsText run 0 [] (start_at first ∷ []) = record { first = first; begins = get; more = []; order = refl; written = refl; told = λ all. tt } in
+    let empty : IsTextOfPackets run 0 [] (start_at first ∷ []) = record { first = first; begins = get; more = []; order = refl; written = refl; told = λ all. tt } in
     let size = ap (length {A = ℕ}) nothing in
     record {
       packets = start_at first ∷ [];
@@ -488,7 +488,7 @@ stood_more run n few most s t le = record { packets = t.packets; text = t.text; 
 pub aligned_at : (run : SentRows) (i : ℕ) (row : StepRow) → AreSendable run → slice_get run.rows i ≡ Some row → row.at % alignment_by run.halves ≡ 0
 aligned_at run i row given get = let s = all_at (IsStepped run.halves) run.rows i row get given.walkable.steps in s.aligned
 
-pub single_on : (run : SentRows) (i : ℕ) (next : StepRow) → AreSendable run → i + 1 < length run.rows → next ≡ get_or run.rows (i + 1) next → IsNear run.rows i → (old new : Sender) → Stood run i old (tail_bytes run.rows i) → IsSent run.halves old new next true (i + 1) → Stood run (i + 1) new (tail_bytes run.rows (i + 1))
+pub single_on : (run : SentRows) (i : ℕ) (next : StepRow) → AreSendable run → i + 1 < length run.rows → next ≡ get_or run.rows (i + 1) next → IsNear run.rows i → (old new : Sender) → Stood run i old (tail_bytes run.rows i) → IsReportSent run.halves old new next true (i + 1) → Stood run (i + 1) new (tail_bytes run.rows (i + 1))
 single_on run i next given lt is near old new s x =
     let here : StepRow = get_or run.rows i next in
     let get : slice_get run.rows i ≡ Some (get_or run.rows i next) = slice_get-get_or run.rows i next (omega arith) in

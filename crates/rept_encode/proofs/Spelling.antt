@@ -11,8 +11,8 @@ use Rattle.rept_trace.specs.declared.packet.Qual.TheVariants.{NoChange, EndedRep
 use Rattle.rept_trace.specs.declared.packet.Packet.{Packet}
 use Rattle.rept_trace.specs.declared.packet.Packet.TheVariants.{Start, Context, Support, Address, Map, MapAddress}
 use Rattle.rept_trace.specs.Fits.{IsSendable, StampFits, FieldsFit}
-use Rattle.rept_trace.specs.Grammar.{address_lsb, address_width, changes, map_width, qual_number, untimed, stamp_of, IsReport, IsStamp, IsPacket}
-use Rattle.rept_encode.specs.Written.{bit, copies, differ, high, sent, past_address, notify_bit, updiscon_bit, report_number, number_of, ten_bytes, IsSilent}
+use Rattle.rept_trace.specs.Grammar.{address_lsb, address_width, changes, map_width, qual_number, untimed, stamp_of, IsReportAt, IsStamp, IsPacket}
+use Rattle.rept_encode.specs.Written.{bit, copies, differ, high, sent, past_address, notify_bit, updiscon_bit, report_number, number_of, ten_bytes, IsPacketSilent}
 
 byte_there : (n j : ℕ) → j < 10 → get_or (ten_bytes n) j 0 ≡ n / 2 ^ (8 * j) % 256
 byte_there n zero lt = let e : n / 1 ≡ n = omega arith in rw e refl
@@ -140,7 +140,7 @@ change_of : (payload : List ℕ) (i : ℕ) (a b : Bool) → bit_of payload i ≡
 change_of payload i a b x y = rw (x, y) refl
 
 -- the number goes on with a report from bit i on
-reports : (halves : Bool) (number i : ℕ) (r : Report) → number / 2 ^ i ≡ report_number halves r → i + 34 ≤ 80 → IsSendable (untimed halves) r.difference → r.irreport ≡ false → IsReport (untimed halves) (ten_bytes number) i r
+reports : (halves : Bool) (number i : ℕ) (r : Report) → number / 2 ^ i ≡ report_number halves r → i + 34 ≤ 80 → IsSendable (untimed halves) r.difference → r.irreport ≡ false → IsReportAt (untimed halves) (ten_bytes number) i r
 reports halves number i r part le word silent =
     let w : ℕ = width halves in
     let bounds = width_is halves in
@@ -287,7 +287,7 @@ map_address_spells halves count map report some few small word silent =
       fields = reports halves number (7 + map_width count) report pw (omega arith) word silent;
     }
 
-pub spells : (halves : Bool) (packet : Packet) → FieldsFit (untimed halves) packet → IsSilent packet → IsPacket (untimed halves) (ten_bytes (number_of halves packet)) packet
+pub spells : (halves : Bool) (packet : Packet) → FieldsFit (untimed halves) packet → IsPacketSilent packet → IsPacket (untimed halves) (ten_bytes (number_of halves packet)) packet
 spells halves (Start branch privilege a time context) f s = start_spells halves branch privilege a time context f.0 f.1 f.2
 spells halves (Context privilege time context) f s = context_spells halves privilege time context f.0 f.1
 spells halves (Support enabled status) f s = support_spells halves enabled status

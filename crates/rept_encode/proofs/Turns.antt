@@ -11,11 +11,11 @@ use Rattle.rept_path.specs.declared.flow.Flow.TheVariants.{Plain, Branch, Jump, 
 use Rattle.rept_path.specs.declared.fault.PathFault.{PathFault}
 use Rattle.rept_path.specs.declared.fault.PathFault.TheVariants.{TooLong}
 use Rattle.rept_path.specs.Code.{look, is_short, after_instruction, flow_of, branches, jumps_far, branches_at}
-use Rattle.rept_path.specs.Moves.{Lead, Place, Site, along, site, successor, by_bit, position, next_of, IsMove, ◌>>=◌, way_by}
+use Rattle.rept_path.specs.Moves.{Lead, Place, Site, place_along, site, successor, by_bit, position, next_of, IsMove, ◌>>=◌, way_by}
 use Rattle.rept_path.proofs.MoveLemmas.{branch_of}
 use Rattle.rept_encode.specs.Bits.{passed_by, passed, branch_row, count, bit_list}
 use Rattle.rept_encode.specs.Walkable.{MayLead, calls}
-use Rattle.rept_encode.specs.State.{AreMoved, Moved}
+use Rattle.rept_encode.specs.State.{AreMoved, MovedRow}
 
 length_bit : (b x : Bool) → length (cond b (x ∷ []) []) ≡ cond b 1 0
 length_bit true x = refl
@@ -82,10 +82,10 @@ next_is code how p i j next here there leads lt =
     let two : (Ok i >>= g) ≡ (Ok next >>= f) = ap (λ (r : Result ℕ PathFault). r >>= f) leads in
     one ∙ two ∙ room how.room (length p.rows) how.packet (position code next) lt ∙ position_ok code next j there
 
-pub moved_more : (code : Code) (all more : List Bool) (p : Place) (row : StepRow) → Moved code all p row → Moved code (all ++ more) p row
+pub moved_more : (code : Code) (all more : List Bool) (p : Place) (row : StepRow) → MovedRow code all p row → MovedRow code (all ++ more) p row
 moved_more code all more p row m = record { at = m.at; here = m.here; short = m.short; goes = m.goes; there = m.there; step = m.step; plain = m.plain; bit = λ t. get_front all more p.branches (passed row) (m.bit t); room = m.room }
 
-pub move_is : (code : Code) (how : Lead) (p : Place) (row : StepRow) → how.room ≡ 65536 → Moved code how.bits p row → (jumps_far (flow_of row.instr) ≡ true → how.target ≡ Some row.next) → IsMove code how p row
+pub move_is : (code : Code) (how : Lead) (p : Place) (row : StepRow) → how.room ≡ 65536 → MovedRow code how.bits p row → (jumps_far (flow_of row.instr) ≡ true → how.target ≡ Some row.next) → IsMove code how p row
 move_is code how p row limit m t =
     let lead = m.step.lead in
     let here : look code p.at ≡ Ok row.instr = rw m.at m.here in
@@ -100,4 +100,4 @@ move_is code how p row limit m t =
 
 pub moves_more : (code : Code) (all more : List Bool) (past : Place) (leg : List StepRow) → AreMoved code all past leg → AreMoved code (all ++ more) past leg
 moves_more code all more past [] m = tt
-moves_more code all more past (row ∷ leg) m = (moves_more code all more past leg m.0, moved_more code all more (along code past leg) row m.1, m.2)
+moves_more code all more past (row ∷ leg) m = (moves_more code all more past leg m.0, moved_more code all more (place_along code past leg) row m.1, m.2)

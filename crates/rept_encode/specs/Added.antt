@@ -9,22 +9,22 @@ use Rattle.rept_encode.specs.declared.fault.StepFault.TheVariants.{NoStep, Full,
 use Rattle.rept_encode.specs.Walkable.{alignment_by, MayLead, IsStepped}
 
 -- a step that is asked for: whether code may be compressed, the instruction where it stands, and the next address
-pub record Asked : Type 0 where
+pub record AskedStep : Type 0 where
   pub halves : Bool
   pub site : Site
   pub next : ℕ
 
-abbrev pub asked_of : Bool → Site → ℕ → Asked
+abbrev pub asked_of : Bool → Site → ℕ → AskedStep
 asked_of halves site next = record { halves = halves; site = site; next = next }
 
 -- A hart can make it: the instruction may lead there, stands where one may stand, and is short only where code may be compressed.
-pub record MayStep (asked : Asked) : Type 0 where
+pub record MayStep (asked : AskedStep) : Type 0 where
   pub lead : MayLead asked.halves (flow_of asked.site.instr) (record { at = asked.site.at; from = from_at asked.site.at asked.site.short; next = asked.next })
   pub aligned : asked.site.at % alignment_by asked.halves ≡ 0
   pub long : asked.halves ≡ false → asked.site.short ≡ false
 
 -- The row is the step.
-pub record IsAsked (asked : Asked) (row : StepRow) : Type 0 where
+pub record IsAskedStep (asked : AskedStep) (row : StepRow) : Type 0 where
   pub step : IsStepped asked.halves row
   pub from : row.at ≡ asked.site.at
   pub to : row.next ≡ asked.next
@@ -32,13 +32,13 @@ pub record IsAsked (asked : Asked) (row : StepRow) : Type 0 where
   pub size : row.short ≡ asked.site.short
 
 -- The step was added.
-pub record AddsStep (asked : Asked) (old new : List StepRow) : Type 0 where
+pub record AddsStep (asked : AskedStep) (old new : List StepRow) : Type 0 where
   pub row : StepRow
   pub rows : new ≡ old ++ row ∷ []
-  pub is : IsAsked asked row
+  pub is : IsAskedStep asked row
 
 -- why it is not
-abbrev pub IsStepFault : Asked → List StepRow → StepFault → Type 0
+abbrev pub IsStepFault : AskedStep → List StepRow → StepFault → Type 0
 IsStepFault asked rows NoStep = MayStep asked → ⊥
 IsStepFault asked rows Full = length rows ≡ 65536
 IsStepFault asked rows OutOfMemory = Unit {0}

@@ -16,7 +16,7 @@ use Rattle.rept_path.specs.Moves.{Stand}
 use Rattle.rept_path.specs.Gap.{gap}
 use Rattle.rept_path.specs.Route.{alone, Route, place}
 use Rattle.rept_path.specs.Trace.{loses}
-use Rattle.rept_path.specs.Traced.{IsTraced}
+use Rattle.rept_path.specs.Traced.{IsTracedPath}
 use Rattle.rept_encode.specs.declared.fault.EncodeFault.{EncodeFault}
 use Rattle.rept_encode.specs.declared.fault.EncodeFault.TheVariants.{JumpEnds, OutOfMemory}
 use Rattle.rept_encode.specs.Bits.{start_bit}
@@ -32,7 +32,7 @@ coded halves contents = record { contents = contents; halves = halves }
 pub record TellsRows (halves : Bool) (trace : List ℕ) (rows : List StepRow) : Type 0 where
   pub rest : List ℕ
   pub layout : trace ≡ header halves ++ rest
-  pub path : (contents : Contents) (pc : ℕ) → CarryCode (coded halves contents) rows → EndBefore rows pc → IsTraced (record { code = coded halves contents; stream = plain halves rest; from = 0; pc = pc }) 0 rows
+  pub path : (contents : Contents) (pc : ℕ) → CarryCode (coded halves contents) rows → EndBefore rows pc → IsTracedPath (record { code = coded halves contents; stream = plain halves rest; from = 0; pc = pc }) 0 rows
 
 -- the start packet at a row
 abbrev pub start_at : StepRow → Packet

@@ -12,7 +12,7 @@ use Rattle.rept_trace.specs.Grammar.{untimed}
 use Rattle.rept_steps.specs.Linked.{AreLinked}
 use Rattle.rept_path.specs.Code.{look, is_short, flow_of, sum, jumps_far}
 use Rattle.rept_path.specs.Packets.{low_bits, bits, reported, waiting}
-use Rattle.rept_path.specs.Moves.{Place, along}
+use Rattle.rept_path.specs.Moves.{Place, place_along}
 use Rattle.rept_path.specs.Route.{alone, Route, place, marked}
 use Rattle.rept_path.specs.Rows.{CarryCode}
 use Rattle.rept_path.specs.Trace.{starts, loses}
@@ -24,7 +24,7 @@ use Rattle.rept_encode.specs.Encoded.{start_at, AreReporting}
 use Rattle.rept_encode.specs.Written.{Appends, AreWritten}
 
 -- The row is the step from a place, where so many bits are known.
-pub record Moved (code : Code) (all : List Bool) (p : Place) (row : StepRow) : Type 0 where
+pub record MovedRow (code : Code) (all : List Bool) (p : Place) (row : StepRow) : Type 0 where
   pub at : p.at ≡ row.at
   pub here : look code row.at ≡ Ok row.instr
   pub short : row.short ≡ is_short code row.at
@@ -38,10 +38,10 @@ pub record Moved (code : Code) (all : List Bool) (p : Place) (row : StepRow) : T
 -- Each row is the step from the place after those before it, and none is an uninferable jump. Newest first.
 abbrev pub AreMoved : Code → List Bool → Place → List StepRow → Type 0
 AreMoved code all past [] = Unit {0}
-AreMoved code all past (row ∷ leg) = AreMoved code all past leg × Moved code all (along code past leg) row × (jumps_far (flow_of row.instr) ≡ false)
+AreMoved code all past (row ∷ leg) = AreMoved code all past leg × MovedRow code all (place_along code past leg) row × (jumps_far (flow_of row.instr) ≡ false)
 
 -- The packets, newest first, have this route, after which the trace runs and no stop is inferred.
-pub record Stands (code : Code) (packets : List Packet) (legs : List (List StepRow)) : Type 0 where
+pub record StandsOnRoute (code : Code) (packets : List Packet) (legs : List (List StepRow)) : Type 0 where
   pub route : Route code (alone 0) packets legs
   pub runs : waiting packets ≡ false
   pub plain : marked code packets legs ≡ false
@@ -51,12 +51,12 @@ pub record Stands (code : Code) (packets : List Packet) (legs : List (List StepR
 -- that were executed before it. All lists are newest first, but for the bits.
 pub record Coded (code : Code) (packets : List Packet) (wait : List Bool) (kept : List StepRow) (here : StepRow) (rows : List StepRow) : Type 0 where
   pub legs : List (List StepRow)
-  pub stands : Stands code packets legs
+  pub stands : StandsOnRoute code packets legs
   pub seen : rows ≡ kept ++ (place code packets legs).rows
   pub moves : AreMoved code (bits code packets ++ wait) (place code packets legs) kept
-  pub at : (along code (place code packets legs) kept).at ≡ here.at
-  pub size : length (bits code packets ++ wait) ≡ (along code (place code packets legs) kept).branches + count here
-  pub bit : branch_row here ≡ true → slice_get (bits code packets ++ wait) (along code (place code packets legs) kept).branches ≡ Some (passed here)
+  pub at : (place_along code (place code packets legs) kept).at ≡ here.at
+  pub size : length (bits code packets ++ wait) ≡ (place_along code (place code packets legs) kept).branches + count here
+  pub bit : branch_row here ≡ true → slice_get (bits code packets ++ wait) (place_along code (place code packets legs) kept).branches ≡ Some (passed here)
 
 -- an address packet, with a map where there are bits to send
 abbrev pub report_packet : ℕ → ℕ → Report → Packet
@@ -90,7 +90,7 @@ sent_rows halves rows = record { halves = halves; rows = rows }
 
 -- The text is the packets, newest first, but for the first one, the start packet at the first row. Where no row before this number is a call, each of them
 -- tells branches or an address.
-pub record IsText (run : SentRows) (i : ℕ) (text : List ℕ) (packets : List Packet) : Type 0 where
+pub record IsTextOfPackets (run : SentRows) (i : ℕ) (text : List ℕ) (packets : List Packet) : Type 0 where
   pub first : StepRow
   pub begins : slice_get run.rows 0 ≡ Some first
   pub more : List Packet
@@ -111,7 +111,7 @@ LeadTo run packets b kept i = (code : Code) (here : StepRow) → HasRows run cod
 -- branch, or that at which the walk stands; from there on no row is a call or an uninferable jump.
 pub record Sent (run : SentRows) (i : ℕ) (s : Sender) : Type 0 where
   pub packets : List Packet
-  pub text : IsText run i s.text packets
+  pub text : IsTextOfPackets run i s.text packets
   pub few : length s.text ≤ 30 + 22 * i
   pub begun : Begun (reverse packets)
   pub last : reported packets ≡ s.reported
@@ -138,7 +138,7 @@ pub record StandsAt (s : Sender) (a n : ℕ) : Type 0 where
   pub base : s.base ≡ n
 
 -- Nothing was written, and the walk stands at a row.
-pub record IsBegun (s : Sender) (first : StepRow) : Type 0 where
+pub record IsBegunAt (s : Sender) (first : StepRow) : Type 0 where
   pub text : s.text ≡ []
   pub stands : StandsAt s first.at 0
 
@@ -150,7 +150,7 @@ pub record IsReported (halves : Bool) (old : Sender) (b : Bits) (new : Sender) (
   pub stands : StandsAt new to n
 
 -- The report of a row's address was added, with the bits that wait and its own.
-pub record IsSent (halves : Bool) (old new : Sender) (next : StepRow) (notify : Bool) (n : ℕ) : Type 0 where
+pub record IsReportSent (halves : Bool) (old new : Sender) (next : StepRow) (notify : Bool) (n : ℕ) : Type 0 where
   pub b : Bits
   pub list : waiting_bits b ≡ waiting_bits old.bits ++ bit_list next
   pub report : IsReported halves old b new next.at notify n
@@ -179,14 +179,14 @@ pub record IsMapped (halves : Bool) (old new : Sender) (next : StepRow) (n : ℕ
   pub stands : StandsAt new old.reported n
 
 -- The walk stands at row n from now on.
-pub record IsStanding (old new : Sender) (a n : ℕ) : Type 0 where
+pub record StandsAtRow (old new : Sender) (a n : ℕ) : Type 0 where
   pub text : new.text ≡ old.text
   pub stands : StandsAt new a n
 
 -- The same where the walk stands at row n, no bits wait and the text has at most so many bytes.
 pub record Stood (run : SentRows) (n : ℕ) (s : Sender) (most : ℕ) : Type 0 where
   pub packets : List Packet
-  pub text : IsText run n s.text packets
+  pub text : IsTextOfPackets run n s.text packets
   pub few : length s.text ≤ most
   pub begun : Begun (reverse packets)
   pub last : reported packets ≡ s.reported

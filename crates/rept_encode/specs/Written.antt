@@ -59,8 +59,8 @@ abbrev pub fill_after : ℕ → ℕ
 fill_after before = if nat_le 128 before then 255 else 0
 
 -- The last byte of the payload isn't made of copies of the bit before it.
-abbrev pub IsCutShort : List ℕ → Type 0
-IsCutShort payload = (i : ℕ) → i + 2 ≡ length payload → slice_index payload (i + 1) ≢ fill_after (slice_index payload i)
+abbrev pub IsPayloadCutShort : List ℕ → Type 0
+IsPayloadCutShort payload = (i : ℕ) → i + 2 ≡ length payload → slice_index payload (i + 1) ≢ fill_after (slice_index payload i)
 
 -- A packet's length and its payload, which is cut short, were added.
 pub record Appends (halves : Bool) (old new : List ℕ) (packet : Packet) : Type 0 where
@@ -69,7 +69,7 @@ pub record Appends (halves : Bool) (old new : List ℕ) (packet : Packet) : Type
   pub some : 0 < length payload
   pub few : length payload ≤ 10
   pub spells : IsPacket (untimed halves) payload packet
-  pub cut : IsCutShort payload
+  pub cut : IsPayloadCutShort payload
 
 -- The bytes are these packets, each its length and its payload, sent in fields of these widths, and nothing else.
 abbrev pub AreWritten : Parameters → List ℕ → List Packet → Type 0
@@ -77,10 +77,10 @@ AreWritten widths bytes [] = bytes ≡ []
 AreWritten widths bytes (packet ∷ packets) = (payload : List ℕ) × (rest : List ℕ) × (bytes ≡ length payload ∷ (payload ++ rest)) × (0 < length payload) × IsPacket widths payload packet × AreWritten widths rest packets
 
 -- A report of the packet says nothing by irreport.
-abbrev pub IsSilent : Packet → Type 0
-IsSilent (Start branch privilege a time context) = Unit {0}
-IsSilent (Context privilege time context) = Unit {0}
-IsSilent (Support enabled status) = Unit {0}
-IsSilent (Address report) = report.irreport ≡ false
-IsSilent (Map map) = Unit {0}
-IsSilent (MapAddress count map report) = report.irreport ≡ false
+abbrev pub IsPacketSilent : Packet → Type 0
+IsPacketSilent (Start branch privilege a time context) = Unit {0}
+IsPacketSilent (Context privilege time context) = Unit {0}
+IsPacketSilent (Support enabled status) = Unit {0}
+IsPacketSilent (Address report) = report.irreport ≡ false
+IsPacketSilent (Map map) = Unit {0}
+IsPacketSilent (MapAddress count map report) = report.irreport ≡ false

@@ -5,7 +5,7 @@ ghost use Rattle.rept_trace.specs.declared.packet.Packet.{Packet};
 ghost use Rattle.rept_trace.specs.declared.parameters.Parameters.{Parameters};
 ghost use Rattle.rept_trace.specs.Fits.{FieldsFit};
 ghost use Rattle.rept_trace.specs.Grammar.{untimed, map_width, qual_number, IsPacket};
-ghost use Rattle.rept_encode.specs.Written.{bit, copies, high, sent, past_address, report_number, number_of, fill_after, IsSilent, IsCutShort, Appends};
+ghost use Rattle.rept_encode.specs.Written.{bit, copies, high, sent, past_address, report_number, number_of, fill_after, IsPacketSilent, IsPayloadCutShort, Appends};
 
 use rept_trace::{Packet, Qual, Report};
 use rept_word::{OutOfMemory, Text};
@@ -137,7 +137,7 @@ pub fn cut(payload: &[u8]) -> &[u8]
     ensures some { 0 < length result.now }
     ensures few { length result.now ≤ length payload.now }
     ensures spells { (widths : Parameters) (packet : Packet) → IsPacket widths payload.now packet → IsPacket widths result.now packet }
-    ensures cut { IsCutShort result.now }
+    ensures cut { IsPayloadCutShort result.now }
 {
     let mut size = payload.len();
     while size > 1 && payload[size - 1] == filler(payload[size - 2]) {
@@ -149,7 +149,7 @@ pub fn cut(payload: &[u8]) -> &[u8]
 /// Adds a packet: its length, and its payload, cut as short as may be.
 pub fn push_packet(out: &mut Text, halves: bool, packet: &Packet) -> Result<(), OutOfMemory>
     requires fits { FieldsFit (untimed halves) packet.now }
-    requires silent { IsSilent packet.now }
+    requires silent { IsPacketSilent packet.now }
     ensures ok { OnOk result (Appends halves out.old out.new packet.now) }
 {
     let bytes = number_of(halves, packet).to_le_bytes();

@@ -6,10 +6,10 @@ ghost use Rattle.rept_trace.specs.declared.packet.Qual.TheVariants.{EndedRep};
 ghost use Rattle.rept_trace.specs.Fits.{FieldsFit};
 ghost use Rattle.rept_trace.specs.Grammar.{untimed};
 ghost use Rattle.rept_trace.specs.Stream.{header};
-ghost use Rattle.rept_encode.specs.State.{AreBits, said, report_packet, IsBegun, IsReported, IsSent, IsRestarted, IsWaiting, IsMapped, IsStanding};
+ghost use Rattle.rept_encode.specs.State.{AreBits, said, report_packet, IsBegunAt, IsReported, IsReportSent, IsRestarted, IsWaiting, IsMapped, StandsAtRow};
 ghost use Rattle.rept_encode.specs.Encoded.{start_at};
 ghost use Rattle.rept_encode.specs.Walkable.{alignment_by};
-ghost use Rattle.rept_encode.specs.Written.{IsSilent, Appends};
+ghost use Rattle.rept_encode.specs.Written.{IsPacketSilent, Appends};
 
 use crate::bits::{Bits, no_bits, with_row};
 use crate::branch::{is_branch, start_bit};
@@ -40,7 +40,7 @@ fn report_packet(bits: Bits, difference: u32, notify: bool) -> Packet
     requires { AreBits bits 31 }
     ensures packet { result ≡ report_packet bits.count bits.map (said difference notify) }
     ensures fits { (halves : Bool) → difference % alignment_by halves ≡ 0 → FieldsFit (untimed halves) result }
-    ensures silent { IsSilent result }
+    ensures silent { IsPacketSilent result }
 {
     let report = Report {
         difference,
@@ -62,7 +62,7 @@ fn report_packet(bits: Bits, difference: u32, notify: bool) -> Packet
 fn start_packet(branch: bool, address: u32) -> Packet
     ensures packet { result ≡ Packet.Start branch 0 address 0 0 }
     ensures fits { (halves : Bool) → address % alignment_by halves ≡ 0 → FieldsFit (untimed halves) result }
-    ensures silent { IsSilent result }
+    ensures silent { IsPacketSilent result }
 {
     Packet::Start {
         branch,
@@ -93,7 +93,7 @@ pub fn header(alloc: Global, halves: bool) -> Result<Text, OutOfMemory>
 
 /// What follows the start packet at the row: nothing yet.
 pub fn begin(alloc: Global, first: &StepRow) -> Sender
-    ensures { IsBegun result first.now }
+    ensures { IsBegunAt result first.now }
 {
     Sender {
         text: Text::new(alloc),
@@ -107,7 +107,7 @@ pub fn begin(alloc: Global, first: &StepRow) -> Sender
 impl Sender {
     /// Notes that the walk stands at a row of this number and address.
     fn stand(&mut self, address: u32, number: usize)
-        ensures { IsStanding self.old self.new address number }
+        ensures { StandsAtRow self.old self.new address number }
     {
         self.reported = address;
         self.bits = no_bits();
@@ -146,7 +146,7 @@ impl Sender {
         requires bits { AreBits self.old.bits 30 }
         requires even { self.old.reported % alignment_by halves ≡ 0 }
         requires to { next.now.at % alignment_by halves ≡ 0 }
-        ensures { OnOk result (IsSent halves self.old self.new next.now notify number) }
+        ensures { OnOk result (IsReportSent halves self.old self.new next.now notify number) }
     {
         self.bits = with_row(self.bits, next);
         self.report(halves, next.at, notify, number)

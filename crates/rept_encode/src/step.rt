@@ -6,7 +6,7 @@ ghost use Rattle.rept_steps.specs.Linked.{EndBefore};
 ghost use Rattle.rept_isa.specs.Rows.{from_at};
 ghost use Rattle.rept_path.specs.Code.{flow_of};
 ghost use Rattle.rept_encode.specs.Walkable.{alignment_by, MayLead, IsStepped};
-ghost use Rattle.rept_encode.specs.Added.{AddsStep, IsAsked, IsStepFault, MayStep, asked_of};
+ghost use Rattle.rept_encode.specs.Added.{AddsStep, IsAskedStep, IsStepFault, MayStep, asked_of};
 
 use crate::fault::StepFault;
 use rept_isa::number::{following, plus};
@@ -56,7 +56,7 @@ fn may_stand(halves: bool, site: &Site) -> bool
 /// The step of an instruction to the next address, in code that may be compressed or may not. None exactly where the instruction can't lead
 /// there, stands at no multiple of 4 (of 2 where code may be compressed), or is short where code may not be compressed.
 pub fn step_between(halves: bool, site: &Site, next: u32) -> Option<StepRow>
-    ensures some { IfSome result (IsAsked (asked_of halves site.now next)) }
+    ensures some { IfSome result (IsAskedStep (asked_of halves site.now next)) }
     ensures none { IfNone result (MayStep (asked_of halves site.now next) → ⊥) }
 {
     if !may_stand(halves, site) || !may_lead(halves, site, next) {

@@ -4,7 +4,7 @@ use Rattle.std.proofs.Props.{props}
 use Rattle.std.proofs.Common.{◌≡◌, ℕ, ◌&&◌, not, Bool, true, false, List, Option, Some, None, refl, sym, ap, ◌∙◌, subst}
 use Rattle.std.specs.Option.{is_some}
 use Rattle.std.proofs.lemmas.Bool.{false≢true, and_from}
-use Rattle.rept_steps.specs.Course.{Row, IsRow, IsSound}
+use Rattle.rept_steps.specs.Course.{Row, IsRow, IsSoundCourse}
 use Rattle.rept_steps.specs.Course as runs
 use Rattle.rept_order.specs.Moments.{stores}
 use Rattle.rept_order.specs.Moments.Moment.{before}
@@ -38,13 +38,13 @@ module _ (C : runs.Course) where
       none (point_of_row C r) (row_there C (row_on C (point_of_row C r)) (subst (λ (q : Row). IsRow C q) (sym here) inside)) (subst (λ (q : Row). (numbers_of C).name (before q) ≡ m) (sym here) before_is)
 
   -- a row that may write, and is neither wholly before the number nor wholly after it, isn't wholly after a later one either
-  bar_sound : IsSound C → (i m : ℕ) → IsRowAt (seen_many C) m None → stores C (row_on C i) ≡ true → (numbered C).past i m ≡ false → (numbered C).ahead i m ≡ false → IsBar (numbered C) i m
+  bar_sound : IsSoundCourse C → (i m : ℕ) → IsRowAt (seen_many C) m None → stores C (row_on C i) ≡ true → (numbered C).past i m ≡ false → (numbered C).ahead i m ≡ false → IsBar (numbered C) i m
   bar_sound sound i m none writes past ahead w next =
       let later : (numbered C).ahead i w ≡ false = not_so ((numbered C).ahead i w) (λ e. false≢true (sym ahead ∙ ahead_back C sound (numbers_of C) (are_numbers C sound) i m w writes next e)) in
       sym (else_falls C sound (numbers_of C) (are_numbers C sound) m w i next (no_own m w none)) ∙ and_from (stores C (row_on C i)) (not ((numbered C).past i m) && not ((numbered C).ahead i w)) writes (and_from (not ((numbered C).past i m)) (not ((numbered C).ahead i w)) (ap not past) (ap not later))
 
   -- that the course is sound may be a mere fact
-  pub bar_is : ∥ IsSound C ∥₁ → (i m : ℕ) → IsRowAt (seen_many C) m None → stores C (row_on C i) ≡ true → (numbered C).past i m ≡ false → (numbered C).ahead i m ≡ false → IsBar (numbered C) i m
+  pub bar_is : ∥ IsSoundCourse C ∥₁ → (i m : ℕ) → IsRowAt (seen_many C) m None → stores C (row_on C i) ≡ true → (numbered C).past i m ≡ false → (numbered C).ahead i m ≡ false → IsBar (numbered C) i m
   bar_is t i m none writes past ahead w next = ∥∥₁_elim t (hlevel props) (λ sound. bar_sound sound i m none writes past ahead w next)
 
 -- a course whose rows that may write are listed is sound

@@ -10,7 +10,7 @@ use Rattle.rept_order.specs.Moments.Moment.{before, after, at_end}
 use Rattle.rept_order.specs.Times.{begin_of, ends_by, own_before, sooner, same_part, same_row, not_later}
 use Rattle.rept_moments.specs.Numbers.{numbers_of}
 use Rattle.rept_moments.proofs.Places.{get_end, get_before}
-use Rattle.rept_extents.specs.Times.{ComesFrom, ComesBefore, EndsBefore, AllFrom, AllBefore, AreBegins, AreEnds}
+use Rattle.rept_extents.specs.Times.{ComesFrom, ComesBefore, EndsBefore, AllFrom, AllBefore, AreBegins, AreEndTimes}
 
 some_same : {A : Type 0} {x y : A} → Some x ≡ Some y → x ≡ y
 some_same e = cc
@@ -65,7 +65,7 @@ module _ (C : Course) (xs : List ℕ) (new : ℕ) where
         | inr (inr over) ↦ absurd (let less = get_less xs new k time there in omega arith)
       ]
 
-  pub ends_more : (n : ℕ) → length xs ≡ n → AreEnds C xs → AllBefore C (suc n) (suc new) → AreEnds C (xs ++ new ∷ [])
+  pub ends_more : (n : ℕ) → length xs ≡ n → AreEndTimes C xs → AllBefore C (suc n) (suc new) → AreEndTimes C (xs ++ new ∷ [])
   ends_more n total known own k time there =
       elim (cases_order k (length xs)) [
         | inl end ↦ subst (λ (t : ℕ). AllBefore C (suc k) (suc t)) (get_one xs new k time end there) (subst (λ (l : ℕ). AllBefore C (suc l) (suc new)) (sym (end ∙ total)) own)
@@ -88,7 +88,7 @@ all_from C xs count time (suc k) low are few most last place j up under =
     from_down C ((numbers_of C).last j) (suc time) at.0 (last k at.0 refl at.1) (are k low at.0 at.1 place j up under)
 
 -- the first so many numbers come before a time, if the last of so many ends does
-pub all_before : (C : Course) (xs : List ℕ) (time n : ℕ) → AreEnds C xs → n ≤ length xs → ((k t : ℕ) → n ≡ suc k → slice_get xs k ≡ Some t → t < time) → AllBefore C n time
+pub all_before : (C : Course) (xs : List ℕ) (time n : ℕ) → AreEndTimes C xs → n ≤ length xs → ((k t : ℕ) → n ≡ suc k → slice_get xs k ≡ Some t → t < time) → AllBefore C n time
 all_before C xs time zero are most last j under = absurd (omega arith)
 all_before C xs time (suc k) are most last j under =
     let at = found xs k (omega arith) in

@@ -6,7 +6,7 @@ use Rattle.std.specs.Option.{IsSome}
 use Rattle.std.proofs.lemmas.Bool.{false≢true, cases_lt, cases_order, or_right, and_parts, eqb-true}
 use Rattle.std.proofs.lemmas.Option.{slice_get_within}
 use Rattle.rept_isa.specs.declared.row.StepRow.{StepRow}
-use Rattle.rept_steps.specs.Course.{row_of, IsSound}
+use Rattle.rept_steps.specs.Course.{row_of, IsSoundCourse}
 use Rattle.rept_steps.specs.Course as runs
 use Rattle.rept_order.specs.Events.{event_slice, first_event, last_event}
 use Rattle.rept_order.specs.Moments.{Moment, IsMoment, WhollyAfter, stores}
@@ -36,7 +36,7 @@ some_same e = cc
 none_some : {A : Type 0} {x : A} → None ≡ Some x → ⊥
 none_some e = cc
 
-module _ (C : runs.Course) (sound : IsSound C) where
+module _ (C : runs.Course) (sound : IsSoundCourse C) where
   names : AreNames C (numbers_of C)
   names = are_numbers C sound
 

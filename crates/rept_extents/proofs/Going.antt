@@ -74,16 +74,16 @@ module _ (M : Moments) where
   next_in m w outer None known lies e = absurd lies
   next_in m w outer (Some h) known lies e = let low = (known w e).0 in let high = (known w e).1 in let least = lies.0 in let most = lies.1 in (omega arith, omega arith)
 
-  pub leaving : (nexts : List (Option Hull)) (least most n : ℕ) → AreEach (NextsLieIn M) nexts → least ≤ n → n ≤ most → LieIn nexts (record { from = least; to = n; outer = record { least = least; most = most } }) → IsLeaving M least most n
-  leaving nexts least most n known from to all = record {
+  pub leaving : (nexts : List (Option Hull)) (known : Window) (least n : ℕ) → AreEach (NextsLieIn M) nexts → least < known.to → least ≤ n → n ≤ known.to - 1 → LieIn nexts (record { from = least; to = n; outer = record { least = known.from; most = known.to - 1 } }) → IsLeaving M known least n
+  leaving nexts known least n each order from to all = record {
     from = from;
-    to = to;
-    inside = λ m w low less e. next_in m w (record { least = least; most = most }) (get_or nexts m None) (known m) (all m low less) e;
+    to = omega arith;
+    inside = λ m w low less e. let lies = next_in m w (record { least = known.from; most = known.to - 1 }) (get_or nexts m None) (each m) (all m low less) e in let high = lies.1 in (lies.0, omega arith);
   }
 
-  pub leaving_one : (least most : ℕ) → least ≤ most → ((m w : ℕ) → M.next m w ≡ true → w ≡ m + 1) → IsLeaving M least most most
-  leaving_one least most order one = record {
-    from = order;
+  pub leaving_one : (known : Window) (least : ℕ) → known.from ≤ least → least < known.to → ((m w : ℕ) → M.next m w ≡ true → w ≡ m + 1) → IsLeaving M known least (known.to - 1)
+  leaving_one known least since order one = record {
+    from = omega arith;
     to = omega arith;
     inside = λ m w low less e. let next = one m w e in (omega arith, omega arith);
   }

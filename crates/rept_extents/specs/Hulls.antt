@@ -1,4 +1,4 @@
--- Bounds of numbers, and of blocks of 256 of them. This project's own.
+-- Bounds of numbers, and of blocks of 64 of them. This project's own.
 use Rattle.std.specs.Prelude.{ℕ, ◌*◌, ◌+◌, ◌≤◌, ◌<◌, List, Option, Some, None, slice_index_or}
 use Rattle.rept_extents.specs.declared.hulls.Hull.{Hull}
 
@@ -8,18 +8,18 @@ LiesIn None outer = ⊥
 LiesIn (Some h) outer = (outer.least ≤ h.least) × (h.most ≤ outer.most)
 
 -- numbers from one on to before another one, and bounds
-pub record Stretch : Type 0 where
+pub record HullStretch : Type 0 where
   pub from : ℕ
   pub to : ℕ
   pub outer : Hull
 
 -- each of the numbers has bounds that lie within these
-abbrev pub LieIn : List (Option Hull) → Stretch → Type 0
+abbrev pub LieIn : List (Option Hull) → HullStretch → Type 0
 LieIn list s = (k : ℕ) → s.from ≤ k → k < s.to → LiesIn (slice_index_or list k None) s.outer
 
 -- the numbers of a block
-abbrev pub block : ℕ → Hull → Stretch
-block b outer = record { from = b * 256; to = b * 256 + 256; outer = outer }
+abbrev pub block : ℕ → Hull → HullStretch
+block b outer = record { from = b * 64; to = b * 64 + 64; outer = outer }
 
 -- what the bounds of a block lie within, those of each of its numbers lie within
 abbrev pub AreBlocks : List (Option Hull) → List (Option Hull) → Type 0

@@ -38,5 +38,5 @@ abbrev pub AreBegins : Course → ℕ → List ℕ → Type 0
 AreBegins C count list = (k low time : ℕ) → slice_get list k ≡ Some time → low + suc k ≡ count → AllFrom C low count time
 
 -- for the first number, the first two, and so on, a time up to which all their moments come
-abbrev pub AreEnds : Course → List ℕ → Type 0
-AreEnds C list = (k time : ℕ) → slice_get list k ≡ Some time → AllBefore C (suc k) (suc time)
+abbrev pub AreEndTimes : Course → List ℕ → Type 0
+AreEndTimes C list = (k time : ℕ) → slice_get list k ≡ Some time → AllBefore C (suc k) (suc time)

@@ -1,7 +1,7 @@
 //! Which rows fall after a moment, whatever comes next.
 
 ghost use Rattle.std.specs.Prelude.{◌≡◌, true, IsSome};
-ghost use Rattle.rept_steps.specs.Course.{IsSound};
+ghost use Rattle.rept_steps.specs.Course.{IsSoundCourse};
 ghost use Rattle.rept_moments.specs.Courses.{seen_in};
 ghost use Rattle.rept_moments.specs.Several.{seen_of};
 ghost use Rattle.rept_reach.specs.Reaching.{IsBar};
@@ -12,7 +12,7 @@ use rept_moments::{Course, Many};
 /// Whether a row of several threads that may write is neither wholly before a moment nor wholly after it, and the moment is before no row: then the row falls between it and
 /// each one that is next to it.
 fn is_crossing(many: &Many<'_>, row: u32, number: u32) -> bool
-    requires sound { ∥ IsSound many.now ∥₁ }
+    requires sound { ∥ IsSoundCourse many.now ∥₁ }
     requires row { IsSome ((seen_of many.now).legs.row row) }
     ensures { result ≡ true → IsBar (seen_of many.now).moments row number }
 {

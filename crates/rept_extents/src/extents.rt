@@ -1,7 +1,7 @@
 //! Between which numbers each row falls.
 
 ghost use Rattle.std.specs.Prelude.{◌≡◌, ◌≤◌, ◌<◌, ℕ, true, length, IfOk, IsSome};
-ghost use Rattle.rept_steps.specs.Course.{IsSound};
+ghost use Rattle.rept_steps.specs.Course.{IsSoundCourse};
 ghost use Rattle.rept_steps.specs.Runs.{course_of};
 ghost use Rattle.rept_order.specs.Ordered.{course_in};
 ghost use Rattle.rept_moments.specs.Courses.{IsCourseOf};
@@ -9,7 +9,7 @@ ghost use Rattle.rept_moments.specs.Several.{seen_of};
 ghost use Rattle.rept_report.specs.Timeline.{IsTimeline};
 ghost use Rattle.rept_reach.specs.Reaching.{IsExtent};
 ghost use Rattle.rept_timeline.specs.Times.{as_timeline, time_of};
-ghost use Rattle.rept_extents.specs.Times.{AreBegins, AreEnds};
+ghost use Rattle.rept_extents.specs.Times.{AreBegins, AreEndTimes};
 ghost use Rattle.rept_extents.specs.Extents.{AreExtents};
 
 use crate::times::{begins, ends, first_after, first_reaching, slice_end};
@@ -37,10 +37,10 @@ impl Model for Extents {
 
 /// A number before which all are ahead of a row.
 fn from(order: Order<'_>, many: &Many<'_>, ends: &[u64], row: u32) -> u32
-    requires sound { IsSound (course_in order) }
+    requires sound { IsSoundCourse (course_in order) }
     requires course { many.now ≡ course_in order }
     requires row { IsSome ((seen_of many.now).legs.row row) }
-    requires ends { AreEnds many.now ends.now }
+    requires ends { AreEndTimes many.now ends.now }
     requires few { length ends.now ≤ (seen_of many.now).moments.end }
     ensures { (j : ℕ) → j < result → (seen_of many.now).moments.ahead row j ≡ true }
 {
@@ -55,7 +55,7 @@ fn from(order: Order<'_>, many: &Many<'_>, ends: &[u64], row: u32) -> u32
 
 /// A number from which on a row is past all.
 fn to(order: Order<'_>, many: &Many<'_>, begins: &[u64], row: u32) -> u32
-    requires sound { IsSound (course_in order) }
+    requires sound { IsSoundCourse (course_in order) }
     requires course { many.now ≡ course_in order }
     requires row { IsSome ((seen_of many.now).legs.row row) }
     requires begins { AreBegins many.now (seen_of many.now).moments.end begins.now }
@@ -76,11 +76,11 @@ fn to(order: Order<'_>, many: &Many<'_>, begins: &[u64], row: u32) -> u32
 
 /// The numbers between which a row falls, if one leads from the point.
 fn window(order: Order<'_>, many: &Many<'_>, begins: &[u64], ends: &[u64], row: u32) -> Window
-    requires sound { IsSound (course_in order) }
+    requires sound { IsSoundCourse (course_in order) }
     requires course { many.now ≡ course_in order }
     requires begins { AreBegins many.now (seen_of many.now).moments.end begins.now }
     requires few { length begins.now ≤ (seen_of many.now).moments.end }
-    requires ends { AreEnds many.now ends.now }
+    requires ends { AreEndTimes many.now ends.now }
     requires some { length ends.now ≤ (seen_of many.now).moments.end }
     ensures { IsSome ((seen_of many.now).legs.row row) → IsExtent (seen_of many.now).moments row result }
 {
@@ -95,7 +95,7 @@ fn window(order: Order<'_>, many: &Many<'_>, begins: &[u64], ends: &[u64], row: 
 
 /// Those of all rows of several threads.
 fn windows(alloc: Global, order: Order<'_>, many: &Many<'_>) -> Result<Vec<Window>, OutOfMemory>
-    requires sound { IsSound (course_in order) }
+    requires sound { IsSoundCourse (course_in order) }
     requires course { many.now ≡ course_in order }
     ensures { IfOk result (λ v. AreExtents (as_timeline (seen_of many.now)) v.items) }
 {
@@ -111,7 +111,7 @@ fn windows(alloc: Global, order: Order<'_>, many: &Many<'_>) -> Result<Vec<Windo
 impl Extents {
     /// Those of a course, which must be that of a sound run. It takes memory for one entry a point, and while they are made for two a number; of one thread alone none.
     pub fn new(alloc: Global, run: &Run, course: &Course<'_>) -> Result<Extents, OutOfMemory>
-        requires sound { IsSound (course_of run.now) }
+        requires sound { IsSoundCourse (course_of run.now) }
         requires course { IsCourseOf (course_of run.now) course.now }
         ensures { IfOk result (λ e. AreExtents (time_of course.now) e) }
     {

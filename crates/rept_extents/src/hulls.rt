@@ -8,7 +8,7 @@ use std::alloc::{AllocError as OutOfMemory, Global};
 use std::marker::Model;
 
 /// So many numbers have bounds together.
-const BLOCK: u32 = 256;
+const BLOCK: u32 = 64;
 
 /// Bounds of numbers.
 #[derive(Clone, Copy)]
@@ -19,7 +19,7 @@ pub struct Hull {
     pub most: u32,
 }
 
-/// The bounds of each number, if it has some, and of each 256 of them one after the other. Contracts see a list.
+/// The bounds of each number, if it has some, and of each 64 of them one after the other. Contracts see a list.
 #[derive(Drop)]
 pub struct Hulls {
     list: Vec<Option<Hull>>,
@@ -67,11 +67,11 @@ fn lies_in(inner: Option<Hull>, outer: Hull) -> bool
 
 /// The bounds of the numbers of a block, where each has some.
 fn block_of(list: &[Option<Hull>], from: usize) -> Option<Hull>
-    requires { from + 256 ≤ length list.now }
-    ensures { (outer : Hull) → LiesIn result outer → LieIn list.now (record { from = from; to = from + 256; outer = outer }) }
+    requires { from + 64 ≤ length list.now }
+    ensures { (outer : Hull) → LiesIn result outer → LieIn list.now (record { from = from; to = from + 64; outer = outer }) }
 {
     let mut hull = list[from];
-    for number in from + 1..from + 256 {
+    for number in from + 1..from + 64 {
         hull = both(hull, list[number]);
     }
     hull
@@ -82,8 +82,8 @@ fn blocks_of(alloc: Global, list: &[Option<Hull>]) -> Result<Vec<Option<Hull>>, 
     ensures { IfOk result (λ v. AreBlocks v.items list.now) }
 {
     let mut blocks = Vec::new(alloc);
-    for number in 0..list.len() / 256 {
-        blocks.push(block_of(list, number * 256))?;
+    for number in 0..list.len() / 64 {
+        blocks.push(block_of(list, number * 64))?;
     }
     Ok(blocks)
 }

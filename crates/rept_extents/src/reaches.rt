@@ -136,14 +136,16 @@ impl Tables {
         }
     }
 
-    /// A number from one on, up to another one, before which no number from there on has a next one that isn't among these.
-    pub fn leaving_from(&self, least: u32, most: u32) -> u32
-        requires { least ≤ most }
-        ensures { (M : Moments) → ∥ AreTables M self.now ∥₁ → IsLeaving M least most result }
+    /// A number from one of a window on, before the window's end, before which no number from there on has a next one outside the window.
+    pub fn leaving_from(&self, least: u32, known: Window) -> u32
+        requires since { known.from ≤ least }
+        requires order { least < known.to }
+        ensures { (M : Moments) → ∥ AreTables M self.now ∥₁ → IsLeaving M known least result }
     {
+        let (from, most) = (known.from, known.to - 1);
         match self {
             Tables::One => most,
-            Tables::Many { nexts, .. } => nexts.up_to(least, most, Hull { least, most }),
+            Tables::Many { nexts, .. } => nexts.up_to(least, most, Hull { least: from, most }),
         }
     }
 

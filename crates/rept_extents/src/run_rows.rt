@@ -1,7 +1,7 @@
 //! The rows, moments and ends of a run, as an analysis goes over them.
 
 ghost use Rattle.std.specs.Prelude.{◌≡◌, IfOk};
-ghost use Rattle.rept_steps.specs.Course.{IsSound};
+ghost use Rattle.rept_steps.specs.Course.{IsSoundCourse};
 ghost use Rattle.rept_steps.specs.Runs.{course_of};
 ghost use Rattle.rept_moments.specs.Courses.{IsCourseOf};
 ghost use Rattle.rept_timeline.specs.Times.{time_of};
@@ -37,7 +37,7 @@ impl<'a> RunRows<'a> {
         run: &Run,
         paths: &'a RunPaths<'a>,
     ) -> Result<RunRows<'a>, OutOfMemory>
-        requires sound { IsSound (course_of run.now) }
+        requires sound { IsSoundCourse (course_of run.now) }
         requires course { IsCourseOf (course_of run.now) paths.now.ways }
         ensures { IfOk result (λ r. r.paths.now ≡ paths.now) }
     {
@@ -169,8 +169,8 @@ impl<'a> Reaches for RunRows<'a> {
         self.extents.of(self.paths.ways().course(), row)
     }
 
-    fn leaving_from(&self, least: u32, most: u32) -> u32 {
-        self.tables.leaving_from(least, most)
+    fn leaving_from(&self, least: u32, known: Window) -> u32 {
+        self.tables.leaving_from(least, known)
     }
 
     fn reached_up(&self, known: Window, most: u32) -> u32 {

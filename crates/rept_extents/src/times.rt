@@ -1,20 +1,22 @@
 //! Times between which the moments of numbers come.
 
 ghost use Rattle.std.specs.Prelude.{◌≡◌, ◌≤◌, ◌<◌, ℕ, suc, length, IfOk, IfSome, Some, slice_get};
-ghost use Rattle.rept_steps.specs.Course.{IsSound};
+ghost use Rattle.std.specs.Ordering.{MatchOrdering};
+ghost use Rattle.rept_steps.specs.Course.{IsSoundCourse};
 ghost use Rattle.rept_order.specs.Events.{event_slice};
 ghost use Rattle.rept_order.specs.Ordered.{course_in};
 ghost use Rattle.rept_order.specs.Runs.{edge_event, moment_named};
 ghost use Rattle.rept_moments.specs.Several.{seen_of};
-ghost use Rattle.rept_extents.specs.Times.{ComesFrom, ComesBefore, EndsBefore, AllFrom, AllBefore, AreBegins, AreEnds};
+ghost use Rattle.rept_extents.specs.Times.{ComesFrom, ComesBefore, EndsBefore, AllFrom, AllBefore, AreBegins, AreEndTimes};
 
 use rept_moments::Many;
 use rept_order::{Edge, Moment, Order};
 use std::alloc::{AllocError as OutOfMemory, Global};
+use std::cmp::Ordering;
 
 /// A time before which a moment doesn't come; the end comes after all times.
 fn begin_at(order: Order<'_>, moment: Moment) -> u64
-    requires { IsSound (course_in order) }
+    requires { IsSoundCourse (course_in order) }
     ensures { ComesFrom (course_in order.entry) (moment_named moment) result }
 {
     match moment {
@@ -34,7 +36,7 @@ fn begin_at(order: Order<'_>, moment: Moment) -> u64
 
 /// The end of the slice in which a row's first event happens, or its last one, if it happens in one.
 pub fn slice_end(order: Order<'_>, edge: Edge) -> Option<u64>
-    requires { IsSound (course_in order) }
+    requires { IsSoundCourse (course_in order) }
     ensures { IfSome result (λ time. EndsBefore (event_slice (course_in order.entry) (edge_event (course_in order.entry) edge)) (suc time)) }
 {
     match order.slice(edge) {
@@ -45,7 +47,7 @@ pub fn slice_end(order: Order<'_>, edge: Edge) -> Option<u64>
 
 /// The end of the slice that a moment is in, if it is in one.
 fn end_at(order: Order<'_>, moment: Moment) -> Option<u64>
-    requires { IsSound (course_in order) }
+    requires { IsSoundCourse (course_in order) }
     ensures { IfSome result (λ time. ComesBefore (course_in order.entry) (moment_named moment) (suc time)) }
 {
     match moment {
@@ -71,7 +73,7 @@ fn end_at(order: Order<'_>, moment: Moment) -> Option<u64>
 
 /// For the last number before the end, the last two, and so on, a time before which none of their moments comes: the least of their begins.
 pub fn begins(alloc: Global, order: Order<'_>, many: &Many<'_>) -> Result<Vec<u64>, OutOfMemory>
-    requires sound { IsSound (course_in order) }
+    requires sound { IsSoundCourse (course_in order) }
     requires course { many.now ≡ course_in order }
     ensures times { IfOk result (λ v. AreBegins many.now (seen_of many.now).moments.end v.items) }
     ensures few { IfOk result (λ v. length v.items ≤ (seen_of many.now).moments.end) }
@@ -89,9 +91,9 @@ pub fn begins(alloc: Global, order: Order<'_>, many: &Many<'_>) -> Result<Vec<u6
 
 /// For the first number, the first two, and so on, a time up to which all their moments come: the greatest of the ends of their slices, as far as each is in one.
 pub fn ends(alloc: Global, order: Order<'_>, many: &Many<'_>) -> Result<Vec<u64>, OutOfMemory>
-    requires sound { IsSound (course_in order) }
+    requires sound { IsSoundCourse (course_in order) }
     requires course { many.now ≡ course_in order }
-    ensures times { IfOk result (λ v. AreEnds many.now v.items) }
+    ensures times { IfOk result (λ v. AreEndTimes many.now v.items) }
     ensures few { IfOk result (λ v. length v.items ≤ (seen_of many.now).moments.end) }
 {
     let mut list = Vec::new(alloc);
@@ -106,34 +108,16 @@ pub fn ends(alloc: Global, order: Order<'_>, many: &Many<'_>) -> Result<Vec<u64>
     Ok(list)
 }
 
-/// How many of the first of a list whose last one is past a time, found by halves.
-fn count_past(times: &[u64], time: u64) -> usize
+/// How many of the first of a list whose last one lies on a side of a time, found by halves: less than it, it, or greater.
+fn count_to(times: &[u64], time: u64, side: Ordering) -> usize
     ensures few { result ≤ length times.now }
-    ensures last { (k t : ℕ) → result ≡ suc k → slice_get times.now k ≡ Some t → time < t }
+    ensures last { (k t : ℕ) → result ≡ suc k → slice_get times.now k ≡ Some t → MatchOrdering side (t < time) (t ≡ time) (time < t) }
 {
     let mut low = 0;
     let mut high = times.len();
     while low < high {
         let middle = low + (high - low) / 2;
-        if times[middle] > time {
-            low = middle + 1;
-        } else {
-            high = middle;
-        }
-    }
-    low
-}
-
-/// How many of the first of a list whose last one is before a time, found by halves.
-fn count_before(times: &[u64], time: u64) -> usize
-    ensures few { result ≤ length times.now }
-    ensures last { (k t : ℕ) → result ≡ suc k → slice_get times.now k ≡ Some t → t < time }
-{
-    let mut low = 0;
-    let mut high = times.len();
-    while low < high {
-        let middle = low + (high - low) / 2;
-        if times[middle] < time {
+        if times[middle].cmp(&time) == side {
             low = middle + 1;
         } else {
             high = middle;
@@ -149,15 +133,15 @@ pub fn first_after(begins: &[u64], many: &Many<'_>, time: u64) -> u32
     ensures { AllFrom many.now result (seen_of many.now).moments.end (suc time) }
 {
     let count = many.end();
-    count - count_past(begins, time) as u32
+    count - count_to(begins, time, Ordering::Greater) as u32
 }
 
 /// A number below which all moments come before a time.
 pub fn first_reaching(ends: &[u64], many: &Many<'_>, time: u64) -> u32
-    requires times { AreEnds many.now ends.now }
+    requires times { AreEndTimes many.now ends.now }
     requires few { length ends.now ≤ (seen_of many.now).moments.end }
     ensures { AllBefore many.now result time }
 {
     let _count = many.end();
-    count_before(ends, time) as u32
+    count_to(ends, time, Ordering::Less) as u32
 }

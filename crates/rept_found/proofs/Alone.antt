@@ -14,7 +14,7 @@ use Rattle.rept_order.specs.Moments.{Moment}
 use Rattle.rept_order.specs.Moments.Moment.{before, after, at_end}
 use Rattle.rept_moments.specs.Seen.{alone_by, rows_in}
 use Rattle.rept_places.specs.Places.{last_on, named_on, place_on}
-use Rattle.rept_report.specs.OneThread.{along}
+use Rattle.rept_report.specs.OneThread.{path_setting}
 use Rattle.rept_session.specs.Shown.{Shown}
 use Rattle.rept_session.specs.declared.place.ThreadPlace.{ThreadPlace}
 use Rattle.rept_found.specs.Crash.{Crash, Means, Scene, path_of, route, setting}
@@ -47,7 +47,7 @@ is_in_slice C rows e = by_threads C.threads C.dark rows e
 
 module _ {W : Type 0} (m : Means W) (rows : List StepRow) where
   -- in whichever slice it ran, its last values are those of the first note
-  setting_so : (exe : Program) (core : List ElfSegment) (notes : List (List ℕ)) (s : Slice) → 0 < length notes → setting m (record { exe = exe; core = core; notes = notes }) (in_slice rows s) ≡ along (path_of m (record { exe = exe; core = core; notes = notes }) rows)
+  setting_so : (exe : Program) (core : List ElfSegment) (notes : List (List ℕ)) (s : Slice) → 0 < length notes → setting m (record { exe = exe; core = core; notes = notes }) (in_slice rows s) ≡ path_setting (path_of m (record { exe = exe; core = core; notes = notes }) rows)
   setting_so exe core [] s some = absurd (omega (arith, some))
   setting_so exe core (note ∷ notes) s some = refl
 
@@ -81,10 +81,10 @@ module _ {W : Type 0} (m : Means W) (rows : List StepRow) where
       ∙ ap (λ (f : ℕ → ℕ). with all all.rows f one.place) (fun_ext (λ t. first_so s (whole_slice (length rows)) t))
       ∙ ap (λ (p : ℕ → ThreadPlace). with all all.rows all.first p) (fun_ext (λ k. place_so s (whole_slice (length rows)) k))
 
-  pub alone_setting : (crash : Crash) (C : Course) → alone_by C.threads C.dark ≡ Some rows → 0 < length crash.notes → setting m crash C ≡ along (path_of m crash rows)
+  pub alone_setting : (crash : Crash) (C : Course) → alone_by C.threads C.dark ≡ Some rows → 0 < length crash.notes → setting m crash C ≡ path_setting (path_of m crash rows)
   alone_setting crash C e some =
       let its = is_in_slice C rows e in
-      subst (λ (D : Course). setting m crash D ≡ along (path_of m crash rows)) (sym its.1) (setting_so crash.exe crash.core crash.notes its.0 some)
+      subst (λ (D : Course). setting m crash D ≡ path_setting (path_of m crash rows)) (sym its.1) (setting_so crash.exe crash.core crash.notes its.0 some)
 
   pub alone_shown : (crash : Crash) (C : Course) (K : Knowledge) (scene : Scene) → alone_by C.threads C.dark ≡ Some rows → 0 < length crash.notes → shown_on (route m crash C) K scene ≡ shown_of (path_of m crash rows) K scene
   alone_shown crash C K scene e some =

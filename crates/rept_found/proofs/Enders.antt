@@ -7,7 +7,7 @@ use Rattle.rept_dump.specs.Status.{IsStatus}
 use Rattle.rept_dump.specs.declared.status.Status.{Status}
 use Rattle.rept_steps.specs.declared.threads.ThreadRows.{ThreadRows}
 use Rattle.rept_steps.specs.Course.{Course, no_thread, rows_of}
-use Rattle.rept_order.specs.Legs.{Point, points_before, point_of, number_of, point_at}
+use Rattle.rept_order.specs.Legs.{Point, points_before, point_of_thread, number_of, point_at}
 use Rattle.rept_order.proofs.Legs.{point_number}
 use Rattle.rept_course.proofs.Naming.{points_next}
 use Rattle.rept_moments.specs.Seen.{alone_by}
@@ -27,7 +27,7 @@ module _ (C : Course) where
   pub thread_within : (t p : ℕ) → t < length C.threads → points_before C.threads t ≤ p → p ≤ points_before C.threads t + length (rows_of C t) → thread_on C p ≡ t
   thread_within t p below low high =
       let number : number_of C t (p - points_before C.threads t) ≡ p = omega arith in
-      let here : point_at C p ≡ point_of t (p - points_before C.threads t) = ap (point_at C) (sym number) ∙ point_number C t (p - points_before C.threads t) below (omega arith) in
+      let here : point_at C p ≡ point_of_thread t (p - points_before C.threads t) = ap (point_at C) (sym number) ∙ point_number C t (p - points_before C.threads t) below (omega arith) in
       let same : (point_at C p).thread ≡ t = ap (λ (x : Point). x.thread) here in
       cond-true (nat_lt (point_at C p).thread (length C.threads)) (point_at C p).thread 0 (lt-ltb (point_at C p).thread (length C.threads) (omega arith)) ∙ same
 

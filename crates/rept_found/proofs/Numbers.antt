@@ -11,10 +11,10 @@ use Rattle.rept_span.specs.Ranges.{Legs}
 use Rattle.rept_report.specs.Moments.{Moments, AreMoments}
 use Rattle.rept_moments.specs.declared.course.Course as courses
 use Rattle.rept_moments.specs.Courses.{first_in, seen_in, IsCourseOf}
-use Rattle.rept_moments.specs.Seen.{Seen, seen, moment_by, moment_in}
+use Rattle.rept_moments.specs.Seen.{SeenMoments, seen, moment_by, moment_in}
 use Rattle.rept_places.proofs.Naming.{is_only}
 use Rattle.rept_found.specs.Crash.{ended_at}
-use Rattle.rept_found.specs.View.{View, IsOfRun, ended_as, read_in}
+use Rattle.rept_found.specs.View.{CrashView, IsOfRun, ended_as, read_in}
 use Rattle.rept_found.proofs.Enders.{points_fit}
 use Rattle.rept_found.proofs.Settings.{points_are, seen_same}
 
@@ -41,7 +41,7 @@ within_by legs moments laws p (Some row) e = laws.rows_before p row e
 
 pub moment_within : (C : Course) (c : courses.Course) → IsCourseOf C c → AreMoments (seen_in c).legs (seen_in c).moments → (p : ℕ) → moment_in (seen C) p < (seen C).moments.end + 1
 moment_within C c its laws p =
-    let here = subst (λ (x : Seen). moment_in x p ≤ x.moments.end) (seen_same C c its) (within_by (seen_in c).legs (seen_in c).moments laws p ((seen_in c).legs.row p) refl) in
+    let here = subst (λ (x : SeenMoments). moment_in x p ≤ x.moments.end) (seen_same C c its) (within_by (seen_in c).legs (seen_in c).moments laws p ((seen_in c).legs.row p) refl) in
     omega arith
 
 -- the end of a thread that has a status
@@ -54,7 +54,7 @@ ended_there (x ∷ statuses) program zero status e = ap ended_as (some_is e)
 ended_there (x ∷ statuses) program (suc t) status e = ended_there statuses program t status e
 
 -- a point or moment that is shown is one that the analysis goes over
-module _ {W R : Type 0} (v : View W R) (of : IsOfRun v) where
+module _ {W R : Type 0} (v : CrashView W R) (of : IsOfRun v) where
   pub point_inside : (p : ℕ) → p < (seen v.ends.course).legs.count + 1 → p ≤ (read_in.timeline v.analysis.paths).legs.count
   point_inside p below = subst (λ (g : Given). p ≤ g.legs.count) (sym of.given) (omega arith)
 

@@ -19,7 +19,7 @@ use Rattle.rept_course.proofs.Naming.{points_next}
 use Rattle.rept_moments.specs.declared.course.Course as courses
 use Rattle.rept_moments.specs.Courses.{seen_in, IsCourseOf}
 use Rattle.rept_moments.specs.Points.{points_in}
-use Rattle.rept_moments.specs.Seen.{Seen, seen, seen_by, alone_by}
+use Rattle.rept_moments.specs.Seen.{SeenMoments, seen, seen_by, alone_by}
 use Rattle.rept_places.proofs.Naming.{is_only}
 use Rattle.rept_report.specs.Closure.{ClosureHas, IsReport}
 use Rattle.rept_report.specs.declared.conflict.ConflictKind.{ConflictKind}
@@ -33,7 +33,7 @@ use Rattle.rept_trip.specs.Alone.{registers_alone, trip_of}
 use Rattle.rept_trip.specs.Trip.{Trip, thread_on, given_on, setting_on}
 use Rattle.rept_found.specs.Crash.{Crash, Means, ThreadEnd, Scene, ended, last_value, last_values, path_of as crash_path, route, trip_by, values_of}
 use Rattle.rept_found.specs.Ends.{Ends, registers_of_one, registers_in, last_values_in, AreEnds, AreNoted, AreWhole}
-use Rattle.rept_found.specs.View.{View, read_in, ended_as, IsFoundIn, IsOfRun, IsPreparedFor, scene_in, state_in, trip_in}
+use Rattle.rept_found.specs.View.{CrashView, read_in, ended_as, IsFoundIn, IsOfRun, IsPreparedFor, scene_in, state_in, trip_in}
 use Rattle.rept_extents.specs.declared.run_rows.RunRows.{RunRows}
 use Rattle.rept_found.specs.declared.ends.RunEnds.{RunEnds}
 use Rattle.rept_found.proofs.Enders.{thread_inside, values_same}
@@ -81,12 +81,12 @@ ended_are (note ∷ notes) (status ∷ statuses) noted same =
     ∙ ap (λ (xs : List ThreadEnd). ended note ∷ xs) rest
 
 -- a run that ends so, and the scene of it
-pub trip_is : {W R : Type 0} (m : Means W) (v : View W R) (notes : List (List ℕ)) → AreWhole v.ends.statuses → AreNoted notes v.ends.statuses → length v.ends.statuses ≡ length notes → trip_in m v ≡ route m (record { exe = v.program; core = v.core; notes = notes }) v.ends.course
+pub trip_is : {W R : Type 0} (m : Means W) (v : CrashView W R) (notes : List (List ℕ)) → AreWhole v.ends.statuses → AreNoted notes v.ends.statuses → length v.ends.statuses ≡ length notes → trip_in m v ≡ route m (record { exe = v.program; core = v.core; notes = notes }) v.ends.course
 trip_is m v notes whole noted same =
     ap (λ (f : ℕ → List ℕ). trip_by m v.ends.course (record { registers = f; dump = crash_byte (contents v.program) v.core; image_end = (contents v.program).end }))
     (fun_ext (λ t. registers_are notes v.ends.statuses whole noted same t))
 
-pub scene_is : {W R : Type 0} (v : View W R) (notes : List (List ℕ)) → AreNoted notes v.ends.statuses → length v.ends.statuses ≡ length notes → scene_in v ≡ record { threads = map ended notes; program = v.program }
+pub scene_is : {W R : Type 0} (v : CrashView W R) (notes : List (List ℕ)) → AreNoted notes v.ends.statuses → length v.ends.statuses ≡ length notes → scene_in v ≡ record { threads = map ended notes; program = v.program }
 scene_is v notes noted same = ap (λ (xs : List ThreadEnd). record { threads = xs; program = v.program }) (ended_are notes v.ends.statuses noted same)
 
 -- the rows and moments of a course of the code are those of its run
@@ -94,7 +94,7 @@ pub seen_same : (C : Course) (c : courses.Course) → IsCourseOf C c → seen_in
 seen_same C (courses.TheVariants.One steps) its = ap (seen_by C) (sym its)
 seen_same C (courses.TheVariants.Many many) its = ap (λ (D : Course). seen_by D None) its.0 ∙ ap (seen_by C) (sym its.1)
 
-abbrev given_with : Seen → (ℕ → List ℕ) → Program → List ElfSegment → Given
+abbrev given_with : SeenMoments → (ℕ → List ℕ) → Program → List ElfSegment → Given
 given_with x last program core = record { legs = x.legs; moments = x.moments; last = last; dump = crash_byte (contents program) core; image_end = (contents program).end }
 
 -- an analysis of these paths, ends and files
@@ -104,7 +104,7 @@ given_is a paths ends program core p l (e, k) its =
     ∙ ap (λ (x : Ends). given_with (seen_in paths.ways) (last_values_in x) a.exe a.core) l
     ∙ ap (λ (x : Program). given_with (seen_in paths.ways) (last_values_in ends) x a.core) e
     ∙ ap (λ (x : List ElfSegment). given_with (seen_in paths.ways) (last_values_in ends) program x) k
-    ∙ ap (λ (x : Seen). given_with x (last_values_in ends) program core) (seen_same ends.course paths.ways its)
+    ∙ ap (λ (x : SeenMoments). given_with x (last_values_in ends) program core) (seen_same ends.course paths.ways its)
 
 -- each point's last values are 32
 pub values_long : (e : Ends) → AreEnds e → 0 < length e.course.threads → (p : ℕ) → length (last_values_in e p) ≡ 32
@@ -130,7 +130,7 @@ points_are C some = by (alone_by C.threads C.dark) refl
         omega arith
 
 -- the setting of an analysis is that of its trip
-pub setting_is : {W R : Type 0} (m : Means W) (v : View W R) → IsOfRun v → setting_of read_in m.sets m.moves m.rules v.analysis ≡ setting_on (trip_in m v)
+pub setting_is : {W R : Type 0} (m : Means W) (v : CrashView W R) → IsOfRun v → setting_of read_in m.sets m.moves m.rules v.analysis ≡ setting_on (trip_in m v)
 setting_is m v of = ap (setting_by m.sets m.moves m.rules) of.given
 
 -- an analysis that reads the same is of the same trip
@@ -138,7 +138,7 @@ pub still_of : {B W R : Type 0} (m : Means W) (a b : Whole RunRows RunEnds B W R
 still_of m a b g same is = ap (λ (x : Read _). x.given) same ∙ is
 
 -- what it has, said of that setting
-pub found_in : {W R : Type 0} (m : Means W) (v : View W R) → IsOfRun v → IsReport (setting_of read_in m.sets m.moves m.rules v.analysis) (answers (state_in m v)) → IsLogOf (setting_of read_in m.sets m.moves m.rules v.analysis) (answers (state_in m v)) (state_in m v).known.log → IsFoundIn m (trip_in m v) (scene_in v) v
+pub found_in : {W R : Type 0} (m : Means W) (v : CrashView W R) → IsOfRun v → IsReport (setting_of read_in m.sets m.moves m.rules v.analysis) (answers (state_in m v)) → IsLogOf (setting_of read_in m.sets m.moves m.rules v.analysis) (answers (state_in m v)) (state_in m v).known.log → IsFoundIn m (trip_in m v) (scene_in v) v
 found_in {W} m v of report log = record {
   trip = refl;
   same_scene = refl;
@@ -147,7 +147,7 @@ found_in {W} m v of report log = record {
 }
 
 -- what is found of what was prepared for a trip is of that trip
-pub found_there : {W R : Type 0} (m : Means W) (p v : View W R) (t : Trip W) (scene : Scene) → IsPreparedFor m t scene p → IsFoundIn m (trip_in m p) (scene_in p) v → IsFoundIn m t scene v
+pub found_there : {W R : Type 0} (m : Means W) (p v : CrashView W R) (t : Trip W) (scene : Scene) → IsPreparedFor m t scene p → IsFoundIn m (trip_in m p) (scene_in p) v → IsFoundIn m t scene v
 found_there {W} m p v t scene at h = record {
   trip = h.trip ∙ at.trip;
   same_scene = h.same_scene ∙ at.same_scene;

@@ -16,7 +16,7 @@ use Rattle.rept_report.specs.Spots.{spot}
 use Rattle.rept_report.specs.Views.{may_write, is_sure}
 use Rattle.rept_report.specs.Writers.{IsCandidate, IsWriter}
 use Rattle.rept_report.proofs.WriterLaws.{one_writer}
-use Rattle.rept_report.specs.OneThread.{ThreadPath, along}
+use Rattle.rept_report.specs.OneThread.{ThreadPath, path_setting}
 use Rattle.rept_moments.proofs.Apart.{legs_seen}
 use Rattle.rept_analysis.specs.Counts.{rows_below}
 use Rattle.rept_analysis.proofs.Counting.{count_full}
@@ -77,7 +77,7 @@ first_ended e program (suc t) below = absurd (omega arith)
 -- the greatest step before a point that may write a byte is the last candidate
 module _ {W : Type 0} (P : ThreadPath W) (K : Knowledge) (p a : ℕ) where
   abbrev S : Setting W
-  S = along P
+  S = path_setting P
 
   before_point : (k : ℕ) → IsCandidate S K (spot p a) k → k < p
   before_point k its = leb-false p k its.reaches

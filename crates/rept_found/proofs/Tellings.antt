@@ -1,7 +1,7 @@
 -- What an analysis answers is what is shown of its report.
 use Rattle.std.proofs.Common.{◌≡◌, ℕ, ◌<◌, ◌≤◌, length, Some, None, inl, inr, sym, ap, ◌∙◌, subst, arith}
 use Rattle.std.proofs.lemmas.Bool.{false≢true, cases_eq, cases_lt}
-use Rattle.rept_steps.specs.Course.{rows_of, IsSound}
+use Rattle.rept_steps.specs.Course.{rows_of, IsSoundCourse}
 use Rattle.rept_order.specs.Legs.{number_of}
 use Rattle.rept_course.specs.Numbered.{row_on}
 use Rattle.rept_moments.specs.Seen.{seen, moment_in}
@@ -59,7 +59,7 @@ module _ {W : Type 0} (S : Setting W) (K : Knowledge) (x : Spot) where
   last_named writers.None j h last = absurd (h.rows j last.one)
 
 -- what is told of last writers at the points of one thread
-module _ {W : Type 0} (t : Trip W) (sound : IsSound t.course) (K : Knowledge) (thread address : ℕ) where
+module _ {W : Type 0} (t : Trip W) (sound : IsSoundCourse t.course) (K : Knowledge) (thread address : ℕ) where
   abbrev S : Setting W
   S = setting_on t
 

@@ -5,7 +5,7 @@ use Rattle.std.proofs.lemmas.Bool.{false≢true}
 use Rattle.std.proofs.lemmas.List.Elements.{All-weaker}
 use Rattle.rept_isa.specs.declared.row.StepRow.{StepRow}
 use Rattle.rept_partial.specs.Sets.{AreLawful as AreLawfulSets}
-use Rattle.rept_steps.specs.Course.{Course, IsSound}
+use Rattle.rept_steps.specs.Course.{Course, IsSoundCourse}
 use Rattle.rept_order.specs.History.{History, Ending}
 use Rattle.rept_order.specs.Legs.{registers_on}
 use Rattle.rept_order.specs.Moments.{Moment}
@@ -33,7 +33,7 @@ use Rattle.rept_report.specs.Soundness.{IsSound as IsSoundReport, HasNoExecution
 use Rattle.rept_report.specs.Why.{Because, IsReason, IsGiven, RangeAlwaysHolds as RangeHoldsInRuns}
 use Rattle.rept_report.specs.Implied.{HasEnded, known_at_end}
 use Rattle.rept_report.specs.Log.{Entry, logged_of}
-use Rattle.rept_report.specs.OneThread.{ThreadPath, along}
+use Rattle.rept_report.specs.OneThread.{ThreadPath, path_setting}
 use Rattle.rept_trip.specs.Trip.{Trip, setting_on}
 use Rattle.rept_trip.specs.Alone.{trip_of}
 use Rattle.rept_trip.specs.Executed.{IsHistoryOf, HasNoHistory, moment_named, run_on, writer_on}
@@ -45,22 +45,22 @@ use Rattle.rept_trip.proofs.Seeing.{history_runs}
 use Rattle.rept_trip.proofs.Telling.{IsTold, told_by}
 use Rattle.rept_found.specs.Crash.{Means, Scene, trip_by}
 use Rattle.rept_found.specs.Telling.{shown_on}
-use Rattle.rept_found.specs.Histories.{IsReached, IsTrueIn, RangeHoldsInAll, IsTrueBecause, IsTrueTrip, WriterReaches}
+use Rattle.rept_found.specs.Histories.{IsRowReached, IsTrueIn, RangeHoldsInAll, IsTrueBecause, IsTrueTrip, WriterReaches}
 use Rattle.rept_found.proofs.Tellings.{writer_fits}
 use Rattle.rept_found.proofs.Truths.{register_true, left_true, noted_true}
 
 -- the laws of the setting of a trip
-pub uses_trip : {W : Type 0} (m : Means W) (C : Course) (D : Ending) → IsSound C → Uses (setting_on (trip_by m C D)) m.sets m.moves m.rules
+pub uses_trip : {W : Type 0} (m : Means W) (C : Course) (D : Ending) → IsSoundCourse C → Uses (setting_on (trip_by m C D)) m.sets m.moves m.rules
 uses_trip m C D sound = record { its_sets = refl; its_moves = refl; its_rules = refl; its_legs = legs_seen C; its_moments = moments_seen C sound }
 
 -- where there is no run, there is no execution
-pub no_history : {W : Type 0} (t : Trip W) → IsSound t.course → 0 < length t.course.threads → HasNoRun (setting_on t) → HasNoHistory t
+pub no_history : {W : Type 0} (t : Trip W) → IsSoundCourse t.course → 0 < length t.course.threads → HasNoRun (setting_on t) → HasNoHistory t
 no_history t sound some none h x = none (run_on t.course h) (history_runs t h sound some x)
 
-pub no_history_alone : {W : Type 0} (P : ThreadPath W) → HasNoRun (along P) → HasNoHistory (trip_of P)
+pub no_history_alone : {W : Type 0} (P : ThreadPath W) → HasNoRun (path_setting P) → HasNoHistory (trip_of P)
 no_history_alone P none = no_history (trip_of P) (is_sound P.given.rows) (omega arith) none
 
-module _ {W : Type 0} (m : Means W) (sets : AreLawfulSets m.sets) (moves : AreMoves m.sets m.moves) (C : Course) (D : Ending) (K : Knowledge) (sound : IsSound C) (some : 0 < length C.threads) where
+module _ {W : Type 0} (m : Means W) (sets : AreLawfulSets m.sets) (moves : AreMoves m.sets m.moves) (C : Course) (D : Ending) (K : Knowledge) (sound : IsSoundCourse C) (some : 0 < length C.threads) where
   abbrev There : Trip W
   There = trip_by m C D
 
@@ -71,13 +71,13 @@ module _ {W : Type 0} (m : Means W) (sets : AreLawfulSets m.sets) (moves : AreMo
   runs h x = history_runs There h sound some x
 
   -- a row that may write a byte, and doesn't lie wholly after the moment
-  row_reached : (k a j : ℕ) → k ≤ Here.moments.end → IsCandidate Here K (spot k a) j → IsReached C (record { moment = last_on C k; address = a }) (row_on C j)
+  row_reached : (k a j : ℕ) → k ≤ Here.moments.end → IsCandidate Here K (spot k a) j → IsRowReached C (record { moment = last_on C k; address = a }) (row_on C j)
   row_reached k a j few its = by (Here.legs.row j) refl
     where
       told : IsTold C (seen_by C (alone_by C.threads C.dark)) (last_by C (alone_by C.threads C.dark))
       told = told_by C sound (alone_by C.threads C.dark) refl
 
-      by : (o : Option StepRow) → Here.legs.row j ≡ o → IsReached C (record { moment = last_on C k; address = a }) (row_on C j)
+      by : (o : Option StepRow) → Here.legs.row j ≡ o → IsRowReached C (record { moment = last_on C k; address = a }) (row_on C j)
       by (Some its_row) e =
           let is = row_inside C (row_on C j) its_row (told.there j its_row e) in
           record { is = is; not_after = λ past. false≢true (sym its.reaches ∙ told.ahead_from j k few is past) }

@@ -29,12 +29,12 @@ use Rattle.rept_report.specs.Why.{Because, IsReason, IsGiven, RangeAlwaysHolds a
 use Rattle.rept_report.specs.Implied.{HasEnded, known_at_end}
 use Rattle.rept_report.specs.Log.{Entry, logged_of}
 use Rattle.rept_report.proofs.OneThread.{rows_within, are_points, execution_runs, none_later, writes_told}
-use Rattle.rept_report.specs.OneThread.{ThreadPath, along}
+use Rattle.rept_report.specs.OneThread.{ThreadPath, path_setting}
 use Rattle.rept_found.specs.Crash.{Crash, Means, path_of, Scene}
 use Rattle.rept_trip.specs.Alone.{trip_of}
 use Rattle.rept_trip.specs.Last.{writer_found}
 use Rattle.rept_found.specs.Telling.{noted, shown_of}
-use Rattle.rept_found.specs.Truth.{ExecutesPath, HasNoExecutionOfPath, StepOfPathWrites, WriterHoldsOnPath, RangeAlwaysHolds, IsTrueOf, IsTrueReason, IsTrueReport}
+use Rattle.rept_found.specs.Truth.{ExecutesPath, HasNoExecutionOfPath, StepOfPathWrites, WriterHoldsOnPath, RangeAlwaysHoldsOnPath, IsTrueOf, IsTrueReason, IsTrueReport}
 use Rattle.rept_found.proofs.Tellings.{writer_fits}
 
 some_is : {x v : ℕ} → Some x ≡ Some v → x ≡ v
@@ -63,41 +63,41 @@ noted_true m moves (Some set) v n in_set e = moves.noted set n e v (in_set set r
 
 -- An execution of the path is a run, so what holds in every run holds in it.
 module _ {W : Type 0} (P : ThreadPath W) where
-  runs : (states : ℕ → State) → ExecutesPath P states → Runs (along P) (run_of_states states)
+  runs : (states : ℕ → State) → ExecutesPath P states → Runs (path_setting P) (run_of_states states)
   runs states x = execution_runs P.sets P.moves P.rules P.given states x
 
   -- where there is no run, there is no execution
-  pub no_execution : HasNoRun (along P) → HasNoExecutionOfPath P
+  pub no_execution : HasNoRun (path_setting P) → HasNoExecutionOfPath P
   no_execution none states x = none (run_of_states states) (runs states x)
 
   -- what a step writes, it writes in the run
-  step_row : (states : ℕ → State) (j a : ℕ) → StepOfPathWrites P states j a → RowWrites (along P) (run_of_states states) j a
+  step_row : (states : ℕ → State) (j a : ℕ) → StepOfPathWrites P states j a → RowWrites (path_setting P) (run_of_states states) j a
   step_row states j a h = record {
     row = h.row;
     is_row = h.is_row;
     writes = writes_told P.sets P.moves P.rules P.given h.row.instr P.given.image_end (states j).register (states (j + 1)).register (states j).memory (states (j + 1)).memory (states j).memory (states (cond (is_call h.row.instr) j (j + 1))).memory a h.writes;
   }
 
-  row_step : (states : ℕ → State) (j a : ℕ) → RowWrites (along P) (run_of_states states) j a → StepOfPathWrites P states j a
+  row_step : (states : ℕ → State) (j a : ℕ) → RowWrites (path_setting P) (run_of_states states) j a → StepOfPathWrites P states j a
   row_step states j a h = record {
     row = h.row;
     is_row = h.is_row;
     writes = writes_told P.sets P.moves P.rules P.given h.row.instr P.given.image_end (states j).register (states (j + 1)).register (states j).memory (states (cond (is_call h.row.instr) j (j + 1))).memory (states j).memory (states (j + 1)).memory a h.writes;
   }
 
-  writer_true : (K : Knowledge) (states : ℕ → State) (p a : ℕ) (w : Writer) → IsWriter (along P) K (spot p a) w → WriterHoldsIn (along P) (run_of_states states) (spot p a) w → WriterHoldsOnPath P states (spot p a) w
+  writer_true : (K : Knowledge) (states : ℕ → State) (p a : ℕ) (w : Writer) → IsWriter (path_setting P) K (spot p a) w → WriterHoldsIn (path_setting P) (run_of_states states) (spot p a) w → WriterHoldsOnPath P states (spot p a) w
   writer_true K states p a (writers.TheVariants.Writes j) is h = (leb-false p j is.0.one.reaches, row_step states j a h.0, λ k above low w. none_later P.sets P.moves P.rules P.given (run_of_states states) p a j h.2 k above low (step_row states k a w))
   writer_true K states p a (writers.TheVariants.MayWrite j) is h = (leb-false p j is.0.one.reaches, λ k above low w. none_later P.sets P.moves P.rules P.given (run_of_states states) p a j h k above low (step_row states k a w))
   writer_true K states p a writers.TheVariants.Several is h = tt
   writer_true K states p a writers.TheVariants.None is h = λ k low w. let high = leb-true p k (h.1 k (step_row states k a w)) in omega (arith, low, high)
 
   -- so do ranges
-  ranges_true : (xs : List Looked) → All (RangeHoldsInRuns (along P)) xs → All (RangeAlwaysHolds P) xs
-  ranges_true xs h = All-weaker (RangeHoldsInRuns (along P)) (RangeAlwaysHolds P) (λ x holds states e. holds (run_of_states states) (runs states e)) xs h
+  ranges_true : (xs : List Looked) → All (RangeHoldsInRuns (path_setting P)) xs → All (RangeAlwaysHoldsOnPath P) xs
+  ranges_true xs h = All-weaker (RangeHoldsInRuns (path_setting P)) (RangeAlwaysHoldsOnPath P) (λ x holds states e. holds (run_of_states states) (runs states e)) xs h
 
 module _ {W : Type 0} (m : Means W) (sets : AreLawfulSets m.sets) (moves : AreMoves m.sets m.moves) (crash : Crash) (rows : List StepRow) (K : Knowledge) where
   abbrev Here : Setting W
-  Here = along (path_of m crash rows)
+  Here = path_setting (path_of m crash rows)
 
   abbrev There : ThreadPath W
   There = path_of m crash rows
@@ -127,5 +127,5 @@ module _ {W : Type 0} (m : Means W) (sets : AreLawfulSets m.sets) (moves : AreMo
         reason_true l.entries l.tracked log why l.knows (premises l.entries l.tracked f why l.ended here) (ranges l.entries l.tracked f why l.ended here);
   }
 
-pub uses_here : {W : Type 0} (m : Means W) (crash : Crash) (rows : List StepRow) → Uses (along (path_of m crash rows)) m.sets m.moves m.rules
+pub uses_here : {W : Type 0} (m : Means W) (crash : Crash) (rows : List StepRow) → Uses (path_setting (path_of m crash rows)) m.sets m.moves m.rules
 uses_here m crash rows = record { its_sets = refl; its_moves = refl; its_rules = refl; its_legs = rows_within rows; its_moments = are_points rows }

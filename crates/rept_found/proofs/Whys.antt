@@ -7,7 +7,7 @@ use Rattle.rept_reason.specs.declared.fact.Cell.TheVariants.{Register, Byte}
 use Rattle.rept_reason.specs.Facts.{Knowledge}
 use Rattle.rept_report.specs.Setting.{Setting}
 use Rattle.rept_report.specs.Why.{Because, IsReason}
-use Rattle.rept_analysis.specs.State.{State}
+use Rattle.rept_analysis.specs.State.{AnalysisState}
 use Rattle.rept_analysis.specs.Kept.{answers}
 use Rattle.rept_analysis.specs.Reasoned.{KeepsAll}
 use Rattle.rept_session.specs.Shown.{known_value}
@@ -15,7 +15,7 @@ use Rattle.rept_trip.specs.Trip.{Trip}
 use Rattle.rept_found.specs.Crash.{Scene}
 use Rattle.rept_found.specs.Telling.{shown_on}
 
-module _ {W : Type 0} (s t : State W) (kept : KeepsAll s t) where
+module _ {W : Type 0} (s t : AnalysisState W) (kept : KeepsAll s t) where
   same_answers : answers t ≡ answers s
   same_answers = rw (kept.path, kept.known) refl
 

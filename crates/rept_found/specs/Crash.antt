@@ -35,7 +35,7 @@ note_at crash t = unwrap_or (slice_get crash.notes t) []
 abbrev pub end_pc : List ℕ → ℕ
 end_pc note = word_at note 72
 
--- the process in it
+-- the `pr_pid` in it, which is the thread's own number
 abbrev pub process : List ℕ → ℕ
 process note = word_at note 24
 

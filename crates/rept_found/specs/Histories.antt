@@ -4,8 +4,8 @@ use Rattle.rept_steps.specs.Course.{Course, Row, IsRow}
 use Rattle.rept_order.specs.History.{History}
 use Rattle.rept_order.specs.Moments.{WhollyAfter}
 use Rattle.rept_order.specs.Moments.Act.{row}
-use Rattle.rept_order.specs.Points.{registers_at, memory_at}
-use Rattle.rept_order.specs.Writers.{Spot, Writer, WriterHoldsInHistory}
+use Rattle.rept_order.specs.Points.{thread_registers, memory_at}
+use Rattle.rept_order.specs.Writers.{CourseSpot, Writer, WriterHoldsInHistory}
 use Rattle.rept_order.specs.Writers.Writer.{writes, may_write, several, none}
 use Rattle.rept_reason.specs.declared.fact.Fact.{Fact}
 use Rattle.rept_reason.specs.declared.reason.Looked.{Looked}
@@ -22,24 +22,24 @@ use Rattle.rept_found.specs.Telling.{shown_on}
 
 -- what an execution has in a register at a named point, and in memory at the moment that has a number
 abbrev pub value_at : {W : Type 0} → Trip W → History → ThreadPoint → ℕ → ℕ
-value_at t h c r = registers_at t.course h c.thread c.point r
+value_at t h c r = thread_registers t.course h c.thread c.point r
 
 abbrev pub byte_in : {W : Type 0} → Trip W → Shown → History → ℕ → ℕ → ℕ
 byte_in t s h m a = memory_at t.course h (moment_named t.course (s.place m)) a
 
 -- the byte at an address, at the moment that has a number
-abbrev pub spot_in : {W : Type 0} → Trip W → Shown → ℕ → ℕ → Spot
+abbrev pub spot_in : {W : Type 0} → Trip W → Shown → ℕ → ℕ → CourseSpot
 spot_in t s m a = record { moment = moment_named t.course (s.place m); address = a }
 
 -- the row is one of the run, and the order doesn't put it after the moment
-pub record IsReached (C : Course) (x : Spot) (r : Row) : Type 0 where
+pub record IsRowReached (C : Course) (x : CourseSpot) (r : Row) : Type 0 where
   pub is : IsRow C r
   pub not_after : WhollyAfter C (row r) x.moment → ⊥
 
 -- so of the row of which it is told that it wrote the byte, or may have
-abbrev pub WriterReaches : Course → Spot → Writer → Type 0
-WriterReaches C x (writes r) = IsReached C x r
-WriterReaches C x (may_write r) = IsReached C x r
+abbrev pub WriterReaches : Course → CourseSpot → Writer → Type 0
+WriterReaches C x (writes r) = IsRowReached C x r
+WriterReaches C x (may_write r) = IsRowReached C x r
 WriterReaches C x several = ⊤
 WriterReaches C x none = ⊤
 

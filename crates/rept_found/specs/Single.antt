@@ -5,7 +5,7 @@ use Rattle.rept_report.specs.declared.writer.Writer.{Writer}
 use Rattle.rept_report.specs.declared.writer.Writer as writers
 use Rattle.rept_report.specs.Setting.{Setting}
 use Rattle.rept_report.specs.Views.{may_write, is_sure}
-use Rattle.rept_report.specs.OneThread.{ThreadPath, along}
+use Rattle.rept_report.specs.OneThread.{ThreadPath, path_setting}
 use Rattle.rept_session.specs.Shown.{Shown}
 use Rattle.rept_session.specs.declared.place.Place.TheVariants as places
 
@@ -29,5 +29,5 @@ pub record IsOneThread {W : Type 0} (P : ThreadPath W) (K : Knowledge) (s : Show
   pub moments : s.moments ≡ length P.given.rows + 1
   pub moment : (p : ℕ) → p ≤ length P.given.rows → s.moment p ≡ p
   pub place : (m : ℕ) → m ≤ length P.given.rows → s.place m ≡ record { thread = 0; place = places.Point m }
-  pub writer : (p a : ℕ) → p ≤ length P.given.rows → s.writer p a ≡ last_writer (along P) K p a
+  pub writer : (p a : ℕ) → p ≤ length P.given.rows → s.writer p a ≡ last_writer (path_setting P) K p a
   pub steps : s.counts.steps ≡ length P.given.rows

@@ -12,7 +12,7 @@ use Rattle.rept_report.specs.declared.writer.Writer as writers
 use Rattle.rept_report.specs.Spots.{Spot, spot}
 use Rattle.rept_report.specs.Why.{Because, IsReason, IsGiven}
 use Rattle.rept_analysis.specs.Logged.{IsLogOf}
-use Rattle.rept_report.specs.OneThread.{ThreadPath, along}
+use Rattle.rept_report.specs.OneThread.{ThreadPath, path_setting}
 use Rattle.rept_session.specs.Shown.{Shown}
 use Rattle.rept_found.specs.Crash.{Scene}
 use Rattle.rept_found.specs.Telling.{shown_of}
@@ -45,7 +45,7 @@ WriterHoldsOnPath P run x writers.TheVariants.None = (k : ℕ) → k < x.moment 
 
 -- Of one execution: each value of a register and each byte that is told is the one that it has, each register lies between the
 -- bounds that are told and has the bits that are noted, and what is told of the step that last wrote a byte is so: that step came before the point, wrote it and no later one did; it came before and no later
--- one did; or none did.
+-- one did; or none did. `bytes` bounds no p, and needs none: a report has no byte past the last point.
 pub record IsTrueOf {W : Type 0} (P : ThreadPath W) (s : Shown) (run : ℕ → State) : Type 0 where
   pub registers : (p r v : ℕ) → p ≤ length P.given.rows → s.register p r ≡ Some v → (run p).register r ≡ v
   pub ranges : (p r : ℕ) → p ≤ length P.given.rows → ((s.range p r).lo ≤ (run p).register r) × ((run p).register r ≤ (s.range p r).hi)
@@ -54,15 +54,15 @@ pub record IsTrueOf {W : Type 0} (P : ThreadPath W) (s : Shown) (run : ℕ → S
   pub writers : (p a : ℕ) → p ≤ length P.given.rows → a < 2 ^ 32 → WriterHoldsOnPath P run (spot p a) (s.writer p a)
 
 -- the register's value lies in the range in every execution
-abbrev pub RangeAlwaysHolds : {W : Type 0} → ThreadPath W → Looked → Type 0
-RangeAlwaysHolds P x = (run : ℕ → State) → ExecutesPath P run → (x.range.lo ≤ (run x.point).register x.reg) × ((run x.point).register x.reg ≤ x.range.hi)
+abbrev pub RangeAlwaysHoldsOnPath : {W : Type 0} → ThreadPath W → Looked → Type 0
+RangeAlwaysHoldsOnPath P x = (run : ℕ → State) → ExecutesPath P run → (x.range.lo ≤ (run x.point).register x.reg) × ((run x.point).register x.reg ≤ x.range.hi)
 
 -- Of a reason: the facts that it rests on are of the report, and the ranges that it lists hold in every execution.
 pub record IsTrueReason {W : Type 0} (P : ThreadPath W) (K : Knowledge) (why : Because) : Type 0 where
   pub premises : All (IsGiven K) why.premises
-  pub ranges : All (RangeAlwaysHolds P) why.ranges
+  pub ranges : All (RangeAlwaysHoldsOnPath P) why.ranges
 
 -- all that a session tells of a report, whatever the order in which it was learnt
 pub record IsTrueReport {W : Type 0} (P : ThreadPath W) (K : Knowledge) : Type 0 where
   pub answers : (scene : Scene) (run : ℕ → State) → ExecutesPath P run → IsTrueOf P (shown_of P K scene) run
-  pub reasons : (log : List Fact) (fact : Fact) (why : Because) → IsLogOf (along P) K log → IsReason (along P) log fact why → IsTrueReason P K why
+  pub reasons : (log : List Fact) (fact : Fact) (why : Because) → IsLogOf (path_setting P) K log → IsReason (path_setting P) log fact why → IsTrueReason P K why

@@ -4,12 +4,12 @@ use Rattle.rept_elf.specs.Segments.{ElfSegment}
 use Rattle.rept_dump.specs.Memory.{crash_byte}
 use Rattle.rept_dump.specs.Program.{Program, contents}
 use Rattle.rept_dump.specs.declared.status.Status.{Status}
-use Rattle.rept_steps.specs.Course.{IsSound}
+use Rattle.rept_steps.specs.Course.{IsSoundCourse}
 use Rattle.rept_order.specs.History.{Ending}
 use Rattle.rept_report.specs.Closure.{IsReport}
 use Rattle.rept_timeline.specs.Times.{time_of}
 use Rattle.rept_versions.specs.OnLine.{Parts, store}
-use Rattle.rept_analysis.specs.State.{State, Whole, Reader, reader, given_of, state_of}
+use Rattle.rept_analysis.specs.State.{AnalysisState, Whole, Reader, reader, given_of, state_of}
 use Rattle.rept_analysis.specs.Kept.{answers}
 use Rattle.rept_analysis.specs.Logged.{IsLogOf}
 use Rattle.rept_trip.specs.Trip.{Trip, given_on, setting_on}
@@ -19,7 +19,7 @@ use Rattle.rept_extents.specs.declared.run_rows.RunRows.{RunRows}
 use Rattle.rept_found.specs.declared.ends.RunEnds.{RunEnds}
 
 -- the analysis, how the threads of its run ended, the files of the program, and the segments of the core file
-pub record View (W R : Type 0) : Type 0 where
+pub record CrashView (W R : Type 0) : Type 0 where
   pub analysis : Whole RunRows RunEnds Parts W R
   pub ends : Ends
   pub program : Program
@@ -30,7 +30,7 @@ abbrev pub read_in : Reader RunRows RunEnds
 read_in = reader (λ rows. time_of rows.paths.now.ways) (λ ends. last_values_in ends.ends.now)
 
 -- how the run ended
-abbrev pub ending_in : {W R : Type 0} → View W R → Ending
+abbrev pub ending_in : {W R : Type 0} → CrashView W R → Ending
 ending_in v = record {
   registers = registers_in v.ends;
   dump = crash_byte (contents v.program) v.core;
@@ -38,33 +38,33 @@ ending_in v = record {
 }
 
 -- the trip that the analysis is of
-abbrev pub trip_in : {W R : Type 0} → Means W → View W R → Trip W
+abbrev pub trip_in : {W R : Type 0} → Means W → CrashView W R → Trip W
 trip_in m v = trip_by m v.ends.course (ending_in v)
 
 abbrev pub ended_as : Status → ThreadEnd
 ended_as status = record { end_pc = status.pc; process = status.pid }
 
 -- what a session tells of the crash besides
-abbrev pub scene_in : {W R : Type 0} → View W R → Scene
+abbrev pub scene_in : {W R : Type 0} → CrashView W R → Scene
 scene_in v = record { threads = map ended_as v.ends.statuses; program = v.program }
 
 -- the analysis, as definitions speak of it
-abbrev pub state_in : {W R : Type 0} → Means W → View W R → State W
+abbrev pub state_in : {W R : Type 0} → Means W → CrashView W R → AnalysisState W
 state_in m v = state_of read_in m.sets m.moves m.rules store v.analysis
 
 -- it goes over the rows and moments of a sound run of at least one thread, and ends as that does
-pub record IsOfRun {W R : Type 0} (v : View W R) : Type 0 where
+pub record IsOfRun {W R : Type 0} (v : CrashView W R) : Type 0 where
   pub some : 0 < length v.ends.course.threads
-  pub sound : IsSound v.ends.course
+  pub sound : IsSoundCourse v.ends.course
   pub given : given_of read_in v.analysis ≡ given_on v.ends.course (ending_in v)
 
 -- it is of this trip and crash
-pub record IsPreparedFor {W R : Type 0} (m : Means W) (t : Trip W) (scene : Scene) (v : View W R) : Type 0 where
+pub record IsPreparedFor {W R : Type 0} (m : Means W) (t : Trip W) (scene : Scene) (v : CrashView W R) : Type 0 where
   pub trip : trip_in m v ≡ t
   pub same_scene : scene_in v ≡ scene
 
 -- it has the report, and an order in which that was learnt
-pub record IsFoundIn {W R : Type 0} (m : Means W) (t : Trip W) (scene : Scene) (v : View W R) : Type 0 where
+pub record IsFoundIn {W R : Type 0} (m : Means W) (t : Trip W) (scene : Scene) (v : CrashView W R) : Type 0 where
   pub trip : trip_in m v ≡ t
   pub same_scene : scene_in v ≡ scene
   pub report : IsReport (setting_on t) (answers (state_in m v))

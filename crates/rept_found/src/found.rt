@@ -33,9 +33,9 @@ impl<'a, W: Transfer, R: RowRules> Model for Found<'a, W, R> {
     ghost use Rattle.std.specs.Prelude.{◌≡◌, true};
     ghost use Rattle.rept_dump.specs.Dump.{exe_of, core_of};
     ghost use Rattle.rept_moments.specs.Courses.{IsCourseOf};
-    ghost use Rattle.rept_found.specs.View.{View, IsOfRun};
+    ghost use Rattle.rept_found.specs.View.{CrashView, IsOfRun};
 
-    ghost Value = { View W R };
+    ghost Value = { CrashView W R };
 
     ghost view = { λ f. record { analysis = f.analysis; ends = f.ends.now; program = exe_of f.dump.now; core = core_of f.dump.now } };
 

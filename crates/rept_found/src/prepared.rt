@@ -1,7 +1,7 @@
 //! An analysis that has the memory with which it begins.
 
 ghost use Rattle.std.specs.Prelude.{◌≡◌, ℕ, List, length, IfOk};
-ghost use Rattle.rept_steps.specs.Course.{IsSound};
+ghost use Rattle.rept_steps.specs.Course.{IsSoundCourse};
 ghost use Rattle.rept_moments.specs.Courses.{IsCourseOf};
 ghost use Rattle.rept_found.specs.Crash.{crash_of, means, route, scene_of};
 ghost use Rattle.rept_found.specs.Ends.{AreNoted};
@@ -31,9 +31,9 @@ pub struct Prepared<'a, W: Transfer, R: RowRules> {
 impl<'a, W: Transfer, R: RowRules> Model for Prepared<'a, W, R> {
     ghost use Rattle.rept_dump.specs.Dump.{exe_of, core_of};
     ghost use Rattle.rept_moments.specs.Courses.{IsCourseOf};
-    ghost use Rattle.rept_found.specs.View.{View, IsOfRun};
+    ghost use Rattle.rept_found.specs.View.{CrashView, IsOfRun};
 
-    ghost Value = { View W R };
+    ghost Value = { CrashView W R };
 
     ghost view = { λ p. record { analysis = p.analysis; ends = p.ends.now; program = exe_of p.dump.now; core = core_of p.dump.now } };
 
@@ -49,7 +49,7 @@ pub fn prepare<'a, W: Transfer, R: RowRules>(
     dump: &'a Dump<'a>,
     rules: R,
 ) -> Result<Prepared<'a, W, R>, OutOfMemory>
-    requires sound { IsSound ends.now.course }
+    requires sound { IsSoundCourse ends.now.course }
     requires course { IsCourseOf ends.now.course paths.now.ways }
     ensures prepared { (notes : List (List ℕ)) → AreNoted notes ends.now.statuses → length ends.now.statuses ≡ length notes → IfOk result (IsPreparedFor (means W.sets W.moves R.rules) (route (means W.sets W.moves R.rules) (crash_of dump.now notes) ends.now.course) (scene_of (crash_of dump.now notes))) }
 {

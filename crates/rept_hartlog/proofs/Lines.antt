@@ -1,11 +1,13 @@
 -- Lines of a log, and their words.
-use Rattle.std.proofs.Common.{◌≡◌, ℕ, zero, suc, ◌+◌, ◌-◌, ◌<◌, ◌≤◌, List, [], ◌∷◌, ◌++◌, length, take, drop, slice_get, Option, None, Some, refl, sym, ◌∙◌, ap, subst, arith, length-append}
+use Rattle.std.proofs.Common.{◌≡◌, ℕ, zero, suc, ◌+◌, ◌-◌, ◌^◌, ◌<◌, ◌≤◌, List, [], ◌∷◌, length, take, drop, get_or, slice_get, Option, None, Some, refl, sym, ◌∙◌, ap, subst, arith}
 use Rattle.std.specs.Option.{IfNone}
 use Rattle.std.proofs.Math.Seq.{take-length}
 use Rattle.std.proofs.lemmas.List.{length-drop}
-use Rattle.rept_simlog.specs.Log.{IsFirstLine}
+use Rattle.std.proofs.lemmas.Option.{slice_get_within, slice_get-get_or}
+use Rattle.rept_simlog.specs.Lines.{AreEntries, last_entries}
+use Rattle.rept_simlog.proofs.Reading.{few_lines}
 use Rattle.rept_hartlog.specs.declared.log.Entry.{Entry}
-use Rattle.rept_hartlog.specs.Log.{IsFirstSpace, IsWord, Gives, AreNumbers, AreEntriesThen, AreLinesFrom, AreLines}
+use Rattle.rept_hartlog.specs.Log.{IsFirstSpace, IsLogWord, GivesEntry, AreNumbers, IsHartEntry, AreLinesFrom, AreLines}
 
 pub none_of : (A : Type 0) (x : Option A) (P Q : Type 0) → (P → Q) → IfNone x P → IfNone x Q
 none_of A None P Q f h = f h
@@ -18,41 +20,30 @@ space_once t m n a b =
     omega arith
 
 -- what follows the first word is one text
-pub rest_once : (t w r v s : List ℕ) → IsWord t w r → IsWord t v s → r ≡ s
+pub rest_once : (t w r v s : List ℕ) → IsLogWord t w r → IsLogWord t v s → r ≡ s
 rest_once t w r v s a b = a.later ∙ ap (λ (k : ℕ). drop (k + 1) t) (space_once t a.size b.size a.space b.space) ∙ sym b.later
 
 -- and so is the word
-pub word_once : (t w r v s : List ℕ) → IsWord t w r → IsWord t v s → w ≡ v
+pub word_once : (t w r v s : List ℕ) → IsLogWord t w r → IsLogWord t v s → w ≡ v
 word_once t w r v s a b = a.front ∙ ap (λ (k : ℕ). take k t) (space_once t a.size b.size a.space b.space) ∙ sym b.front
 
 -- what isn't given where the line's words are these
-pub none_given : (line hart rest thread address : List ℕ) (entry : Entry) → IsWord line hart rest → IsWord rest thread address → Gives line entry → AreNumbers hart thread address entry
+pub none_given : (line hart rest thread address : List ℕ) (entry : Entry) → IsLogWord line hart rest → IsLogWord rest thread address → GivesEntry line entry → AreNumbers hart thread address entry
 none_given line hart rest thread address entry one two g =
     let same_hart : g.hart ≡ hart = word_once line g.hart g.rest hart rest g.first one in
     let same_rest : g.rest ≡ rest = rest_once line g.hart g.rest hart rest g.first one in
-    let second : IsWord rest g.thread g.address = subst (λ (r : List ℕ). IsWord r g.thread g.address) same_rest g.second in
+    let second : IsLogWord rest g.thread g.address = subst (λ (r : List ℕ). IsLogWord r g.thread g.address) same_rest g.second in
     let same_thread : g.thread ≡ thread = word_once rest g.thread g.address thread address second two in
     let same_address : g.address ≡ address = rest_once rest g.thread g.address thread address second two in
     subst (λ (a : List ℕ). AreNumbers hart thread a entry) same_address (subst (λ (t : List ℕ). AreNumbers hart t g.address entry) same_thread (subst (λ (h : List ℕ). AreNumbers h g.thread g.address entry) same_hart g.numbers))
 
 -- no second word
-pub none_second : (line hart rest : List ℕ) (entry : Entry) → IsWord line hart rest → ((word later : List ℕ) → IsWord rest word later → ⊥) → Gives line entry → ⊥
-none_second line hart rest entry one none g = none g.thread g.address (subst (λ (r : List ℕ). IsWord r g.thread g.address) (rest_once line g.hart g.rest hart rest g.first one) g.second)
+pub none_second : (line hart rest : List ℕ) (entry : Entry) → IsLogWord line hart rest → ((word later : List ℕ) → IsLogWord rest word later → ⊥) → GivesEntry line entry → ⊥
+none_second line hart rest entry one none g = none g.thread g.address (subst (λ (r : List ℕ). IsLogWord r g.thread g.address) (rest_once line g.hart g.rest hart rest g.first one) g.second)
 
--- one entry more
-pub entries_push : (before : ℕ) (bytes rest line after : List ℕ) (entries : List Entry) (entry : Entry) → AreEntriesThen before bytes entries rest → 0 < length rest → IsFirstLine rest line after → entry.line ≡ before + length entries + 1 → Gives line entry → AreEntriesThen before bytes (entries ++ entry ∷ []) after
-entries_push before bytes rest line after [] entry h some cut place gives =
-    let e : rest ≡ bytes = sym h in
-    (line, after, subst (λ (b : List ℕ). 0 < length b) e some, subst (λ (b : List ℕ). IsFirstLine b line after) e cut, (place ∙ omega arith), gives, refl)
-entries_push before bytes rest line after (x ∷ entries) entry h some cut place gives =
-    (h.0, h.1, h.2, h.3, h.4, h.5, entries_push (before + 1) h.1 rest line after entries entry h.6 some cut (place ∙ omega arith) gives)
-
-pub size_push : (old new : List Entry) (entry : Entry) → new ≡ old ++ entry ∷ [] → length new ≡ length old + 1
-size_push old new entry e = ap (length {A = Entry}) e ∙ length-append old (entry ∷ [])
-
-pub lines_push : (line : ℕ) (entries : List Entry) (entry : Entry) → AreLinesFrom line entries → entry.line ≡ line + length entries → AreLinesFrom line (entries ++ entry ∷ [])
-lines_push line [] entry h place = (place ∙ omega arith, tt)
-lines_push line (x ∷ entries) entry h place = (h.0, lines_push (line + 1) entries entry h.1 (place ∙ omega arith))
+lines_from : (line : ℕ) (entries : List Entry) → ((i : ℕ) (entry : Entry) → slice_get entries i ≡ Some entry → entry.line ≡ line + i) → AreLinesFrom line entries
+lines_from line [] h = tt
+lines_from line (x ∷ entries) h = (h 0 x refl ∙ omega arith, lines_from (line + 1) entries (λ i entry at. h (suc i) entry at ∙ omega arith))
 
 lines_drop : (line : ℕ) (entries : List Entry) (k : ℕ) → AreLinesFrom line entries → AreLinesFrom (line + k) (drop k entries)
 lines_drop line entries zero h = let e : line ≡ line + 0 = omega arith in subst (λ (n : ℕ). AreLinesFrom n entries) e h
@@ -78,3 +69,17 @@ line_at line (x ∷ entries) zero entry h there =
     let same : x ≡ entry = cc in
     ap (λ (e : Entry). e.line) (sym same) ∙ h.0 ∙ omega arith
 line_at line (x ∷ entries) (suc i) entry h there = line_at (line + 1) entries i entry h.1 there ∙ omega arith
+
+-- the last entries of a log are of lines that follow one another
+pub last_lines : (log : List ℕ) (entries : List Entry) → length log < 2 ^ 32 → AreEntries IsHartEntry log entries → AreLines (last_entries entries)
+last_lines log entries small are =
+    let count = are.told.count in
+    let few = few_lines log [] are.lines are.cut in
+    are_lines_drop entries (length entries - 65537) (omega arith) (record { line = 1; each = lines_from 1 entries number; few = omega arith })
+  where
+    number : (i : ℕ) (entry : Entry) → slice_get entries i ≡ Some entry → entry.line ≡ 1 + i
+    number i entry at =
+        let within = slice_get_within entries i entry at in
+        let count = are.told.count in
+        let told = are.told.each i (get_or are.lines i []) entry (slice_get-get_or are.lines i [] (omega arith)) at in
+        told.0 ∙ omega arith

@@ -1,5 +1,5 @@
 -- Pieces of a log, and the stretches that they make.
-use Rattle.std.proofs.Common.{◌≡◌, ◌⊎◌, ℕ, zero, suc, ◌+◌, ◌-◌, ◌<◌, ◌≤◌, ◌^◌, List, [], ◌∷◌, ◌++◌, length, map, take, drop, slice_get, Option, None, Some, Ok, Bool, false, refl, sym, ◌∙◌, ap, subst, arith, inl, inr, append_assoc, length-append}
+use Rattle.std.proofs.Common.{◌≡◌, ℕ, zero, suc, ◌+◌, ◌-◌, ◌<◌, ◌≤◌, ◌^◌, List, [], ◌∷◌, ◌++◌, length, map, take, drop, slice_get, Option, None, Some, Ok, Bool, false, refl, sym, ◌∙◌, ap, subst, arith, inl, inr, append_assoc, length-append}
 use Rattle.std.proofs.lemmas.List.{append-nil, length-drop, take-append-drop}
 use Rattle.rept_elf.proofs.SegmentLemmas.{drop-slice_get}
 use Rattle.std.proofs.lemmas.Bool.{cases_eq, eq-eqb}
@@ -15,9 +15,10 @@ use Rattle.rept_hartlog.specs.declared.log.Entry.{Entry}
 use Rattle.rept_hartlog.specs.declared.refusal.Refusal.{Refusal}
 use Rattle.rept_hartlog.specs.declared.refusal.Refusal.TheVariants.{Executable, NoNumbers, NoInstruction, NoStep, JumpEnds, NoSteps, TooLong, OutOfMemory}
 use Rattle.rept_hartlog.specs.Log.{AreLines}
-use Rattle.rept_hartlog.specs.Steps.{Logged, logged_as, next_address, AddsRow, AreLoggedThen, AreLogged, IsReached, HasNoStep}
+use Rattle.rept_hartlog.specs.Steps.{Logged, logged_as, next_address, AddsRow, AreLoggedThen, AreLogged, IsEntryReached, HasNoStep}
 use Rattle.rept_hartlog.specs.Stretches.{AreTogether, IsPiece, IsStretchOf, AreStretches, AreStretchesOf}
 use Rattle.rept_hartlog.specs.Recorded.{IsStepRefused, IsStepsFault}
+use Rattle.rept_simlog.proofs.Reading.{get_push}
 use Rattle.rept_hartlog.proofs.Lines.{line_at, rest_whole}
 
 abbrev pub no_entry : Entry
@@ -62,12 +63,6 @@ map_push (x ∷ steps) step = ap (λ (rows : List StepRow). x.row ∷ rows) (map
 map_size : (steps : List Logged) → length (map (λ (s : Logged). s.row) steps) ≡ length steps
 map_size [] = refl
 map_size (x ∷ steps) = ap suc (map_size steps)
-
-get_push : (rows : List StepRow) (row : StepRow) (i : ℕ) (r : StepRow) → slice_get (rows ++ row ∷ []) i ≡ Some r → (slice_get rows i ≡ Some r) ⊎ ((i ≡ length rows) × (row ≡ r))
-get_push [] row zero r h = inr (refl, (cc))
-get_push [] row (suc i) r h = absurd (cc)
-get_push (x ∷ rows) row zero r h = inl h
-get_push (x ∷ rows) row (suc i) r h = elim (get_push rows row i r h) [ inl g ↦ inl g | inr g ↦ inr (ap suc g.0, g.1) ]
 
 get_last : (rows : List StepRow) (row : StepRow) → slice_get (rows ++ row ∷ []) (length rows) ≡ Some row
 get_last [] row = refl
@@ -241,7 +236,7 @@ module _ (code : Code) (entries : List Entry) (i : ℕ) (old new : List StepRow)
 pub fault_here : (code : Code) (entries : List Entry) (i : ℕ) (rows : List StepRow) (entry : Entry) (to : ℕ) (r : Refusal) → Going code entries i rows → slice_get entries i ≡ Some entry → next_address (drop (i + 1) entries) entry.thread ≡ Some to → IsStepRefused code entry to r → IsStepsFault code entries r
 fault_here code entries i rows entry to r g there next h = by r h
   where
-    reached : IsReached code entries entry to
+    reached : IsEntryReached code entries entry to
     reached = record {
       before = take i entries;
       after = drop (i + 1) entries;
@@ -358,7 +353,7 @@ short_piece code rest rows count first stretch piece lines begins same begin =
 pub fault_on : (code : Code) (entries rest : List Entry) (stretches : List Stretch) (r : Refusal) → Progress code entries rest stretches → IsStepsFault code rest r → IsStepsFault code entries r
 fault_on code entries rest stretches r p h = by r h
   where
-    reached : (from : Entry) (to : ℕ) → IsReached code rest from to → IsReached code entries from to
+    reached : (from : Entry) (to : ℕ) → IsEntryReached code rest from to → IsEntryReached code entries from to
     reached from to x = record {
       before = p.done ++ x.before;
       after = x.after;

@@ -3,26 +3,16 @@ use Rattle.std.specs.Prelude.{◌≡◌, ℕ, ◌<◌, List, [], ◌∷◌, leng
 use Rattle.rept_elf.specs.Checks.{checks, first_failure}
 use Rattle.rept_elf.specs.declared.fault.Want.TheVariants.{Exec}
 use Rattle.rept_path.specs.Code.{Code}
+use Rattle.rept_simlog.specs.Lines.{AreEntries, IsNoEntry, last_entries}
 use Rattle.rept_simlog.specs.Program.{built}
 use Rattle.rept_weave.specs.declared.stretch.Stretch.{Stretch}
 use Rattle.rept_weave.specs.Woven.{IsWoven}
 use Rattle.rept_hartlog.specs.declared.log.Entry.{Entry}
 use Rattle.rept_hartlog.specs.declared.refusal.Refusal.{Refusal}
 use Rattle.rept_hartlog.specs.declared.refusal.Refusal.TheVariants.{Executable, NoNumbers, NoInstruction, NoStep, JumpEnds, NoSteps, TooLong, OutOfMemory}
-use Rattle.rept_hartlog.specs.Log.{AreEntries, IsNoNumbers, last_entries}
+use Rattle.rept_hartlog.specs.Log.{IsHartEntry}
 use Rattle.rept_hartlog.specs.Steps.{HasNoInstruction, HasNoStep, LacksInstruction, LacksStep, AreLogged}
 use Rattle.rept_hartlog.specs.Stretches.{AreStretchesOf, IsJumpEndOf}
-
--- why the lines aren't read
-abbrev pub IsLogFault : List ℕ → Refusal → Type 0
-IsLogFault log (NoNumbers k) = IsNoNumbers log k
-IsLogFault log OutOfMemory = Unit {0}
-IsLogFault log (Executable fault) = ⊥
-IsLogFault log (NoInstruction k fault) = ⊥
-IsLogFault log (NoStep k) = ⊥
-IsLogFault log (JumpEnds k) = ⊥
-IsLogFault log NoSteps = ⊥
-IsLogFault log TooLong = ⊥
 
 -- why an entry has no step to an address
 abbrev pub IsStepRefused : Code → Entry → ℕ → Refusal → Type 0
@@ -58,7 +48,7 @@ IsTraceFault stretches (NoNumbers k) = ⊥
 IsTraceFault stretches (Executable fault) = ⊥
 
 -- The trace has one stream, which has the steps of these entries.
-pub record Records (code : Code) (entries : List Entry) (trace : List ℕ) : Type 0 where
+pub record RecordsSeveralHarts (code : Code) (entries : List Entry) (trace : List ℕ) : Type 0 where
   pub stretches : List Stretch
   pub steps : AreStretchesOf code entries stretches
   pub some : 0 < length stretches
@@ -80,23 +70,23 @@ IsNotRecorded code entries (NoNumbers k) = ⊥
 IsNotRecorded code entries (Executable fault) = ⊥
 
 -- The trace tells the last steps of a log over an executable.
-pub record IsRecorded (exe log trace : List ℕ) : Type 0 where
+pub record IsRecordedSeveralHarts (exe log trace : List ℕ) : Type 0 where
   pub read : first_failure (checks Exec exe) ≡ None
   pub entries : List Entry
-  pub lines : AreEntries log entries
-  pub records : Records (built exe) (last_entries entries) trace
+  pub lines : AreEntries IsHartEntry log entries
+  pub records : RecordsSeveralHarts (built exe) (last_entries entries) trace
 
 -- The lines are read, and the last steps of the log over the executable aren't recorded, for this.
-abbrev pub IsStopped : List ℕ → List ℕ → Refusal → Type 0
-IsStopped exe log refusal = (entries : List Entry) × AreEntries log entries × IsNotRecorded (built exe) (last_entries entries) refusal
+abbrev pub IsLogStopped : List ℕ → List ℕ → Refusal → Type 0
+IsLogStopped exe log refusal = (entries : List Entry) × AreEntries IsHartEntry log entries × IsNotRecorded (built exe) (last_entries entries) refusal
 
 -- why there is no trace
-abbrev pub IsRefused : List ℕ → List ℕ → Refusal → Type 0
-IsRefused exe log (Executable fault) = first_failure (checks Exec exe) ≡ Some fault
-IsRefused exe log (NoNumbers k) = IsNoNumbers log k
-IsRefused exe log (NoInstruction k fault) = IsStopped exe log (NoInstruction k fault)
-IsRefused exe log (NoStep k) = IsStopped exe log (NoStep k)
-IsRefused exe log (JumpEnds k) = IsStopped exe log (JumpEnds k)
-IsRefused exe log NoSteps = IsStopped exe log NoSteps
-IsRefused exe log TooLong = IsStopped exe log TooLong
-IsRefused exe log OutOfMemory = Unit {0}
+abbrev pub IsRefusedSeveralHarts : List ℕ → List ℕ → Refusal → Type 0
+IsRefusedSeveralHarts exe log (Executable fault) = first_failure (checks Exec exe) ≡ Some fault
+IsRefusedSeveralHarts exe log (NoNumbers k) = IsNoEntry IsHartEntry log k
+IsRefusedSeveralHarts exe log (NoInstruction k fault) = IsLogStopped exe log (NoInstruction k fault)
+IsRefusedSeveralHarts exe log (NoStep k) = IsLogStopped exe log (NoStep k)
+IsRefusedSeveralHarts exe log (JumpEnds k) = IsLogStopped exe log (JumpEnds k)
+IsRefusedSeveralHarts exe log NoSteps = IsLogStopped exe log NoSteps
+IsRefusedSeveralHarts exe log TooLong = IsLogStopped exe log TooLong
+IsRefusedSeveralHarts exe log OutOfMemory = Unit {0}

@@ -6,7 +6,7 @@ use Rattle.rept_isa.specs.declared.row.StepRow.{StepRow}
 use Rattle.rept_path.specs.declared.fault.PathFault.{PathFault}
 use Rattle.rept_path.specs.Code.{Code, look, is_short}
 use Rattle.rept_encode.specs.Walkable.{IsStepped}
-use Rattle.rept_encode.specs.Added.{Asked, asked_of, MayStep}
+use Rattle.rept_encode.specs.Added.{AskedStep, asked_of, MayStep}
 use Rattle.rept_simlog.specs.Program.{site_of}
 use Rattle.rept_hartlog.specs.declared.log.Entry.{Entry}
 
@@ -16,7 +16,7 @@ next_address [] thread = None
 next_address (entry ∷ entries) thread = if entry.thread == thread then Some entry.address else next_address entries thread
 
 -- The row is the step of an entry to an address, by the instruction that stands there.
-pub record IsStep (code : Code) (from : Entry) (to : ℕ) (row : StepRow) : Type 0 where
+pub record IsEntryStep (code : Code) (from : Entry) (to : ℕ) (row : StepRow) : Type 0 where
   pub stepped : IsStepped code.halves row
   pub at : row.at ≡ from.address
   pub next : row.next ≡ to
@@ -27,7 +27,7 @@ pub record IsStep (code : Code) (from : Entry) (to : ℕ) (row : StepRow) : Type
 pub record AddsRow (code : Code) (old new : List StepRow) (from : Entry) (to : ℕ) : Type 0 where
   pub row : StepRow
   pub rows : new ≡ old ++ row ∷ []
-  pub step : IsStep code from to row
+  pub step : IsEntryStep code from to row
 
 -- an entry with its step
 pub record Logged : Type 0 where
@@ -40,14 +40,14 @@ logged_as entry row = record { entry = entry; row = row }
 -- These are, in order, the entries that aren't the last ones of their threads, each with its step. The rest follows them in the log.
 abbrev pub AreLoggedThen : Code → List Entry → List Entry → List Logged → Type 0
 AreLoggedThen code [] rest logged = logged ≡ []
-AreLoggedThen code (entry ∷ entries) rest logged = ((next_address (entries ++ rest) entry.thread ≡ None) × AreLoggedThen code entries rest logged) ⊎ ((to : ℕ) × (row : StepRow) × (later : List Logged) × (next_address (entries ++ rest) entry.thread ≡ Some to) × (logged ≡ logged_as entry row ∷ later) × IsStep code entry to row × AreLoggedThen code entries rest later)
+AreLoggedThen code (entry ∷ entries) rest logged = ((next_address (entries ++ rest) entry.thread ≡ None) × AreLoggedThen code entries rest logged) ⊎ ((to : ℕ) × (row : StepRow) × (later : List Logged) × (next_address (entries ++ rest) entry.thread ≡ Some to) × (logged ≡ logged_as entry row ∷ later) × IsEntryStep code entry to row × AreLoggedThen code entries rest later)
 
 -- These are the steps of all entries.
 abbrev pub AreLogged : Code → List Entry → List Logged → Type 0
 AreLogged code entries logged = AreLoggedThen code entries [] logged
 
 -- All entries before this one have their steps, and the next one of its thread is at this address.
-pub record IsReached (code : Code) (entries : List Entry) (from : Entry) (to : ℕ) : Type 0 where
+pub record IsEntryReached (code : Code) (entries : List Entry) (from : Entry) (to : ℕ) : Type 0 where
   pub before : List Entry
   pub after : List Entry
   pub order : entries ≡ before ++ from ∷ after
@@ -56,7 +56,7 @@ pub record IsReached (code : Code) (entries : List Entry) (from : Entry) (to : �
   pub next : next_address after from.thread ≡ Some to
 
 -- the step of an instruction from an entry to an address
-abbrev pub step_asked : Code → Instr → Entry → ℕ → Asked
+abbrev pub step_asked : Code → Instr → Entry → ℕ → AskedStep
 step_asked code instr from to = asked_of code.halves (site_of code from.address instr) to
 
 -- No instruction can have run at the entry's address, by this fault.
@@ -69,8 +69,8 @@ HasNoStep code from to = (instr : Instr) × (look code from.address ≡ Ok instr
 
 -- The entry of this line is the first one that has no step though its thread goes on, since no instruction can have run there.
 abbrev pub LacksInstruction : Code → List Entry → ℕ → PathFault → Type 0
-LacksInstruction code entries line fault = (from : Entry) × (to : ℕ) × IsReached code entries from to × (from.line ≡ line) × HasNoInstruction code from fault
+LacksInstruction code entries line fault = (from : Entry) × (to : ℕ) × IsEntryReached code entries from to × (from.line ≡ line) × HasNoInstruction code from fault
 
 -- The entry of this line is the first one from which the code can't go on to where its thread goes on.
 abbrev pub LacksStep : Code → List Entry → ℕ → Type 0
-LacksStep code entries line = (from : Entry) × (to : ℕ) × IsReached code entries from to × (from.line ≡ line) × HasNoStep code from to
+LacksStep code entries line = (from : Entry) × (to : ℕ) × IsEntryReached code entries from to × (from.line ≡ line) × HasNoStep code from to

@@ -1,13 +1,10 @@
 //! The lines of a log of several harts: a hart, a thread and an address each.
 
-ghost use Rattle.std.specs.Prelude.{◌≡◌, ◌<◌, ◌^◌, ℕ, List, length, true, IfOk, IfErr, IfSome, IfNone};
+ghost use Rattle.std.specs.Prelude.{◌≡◌, ℕ, List, true, IfSome, IfNone};
 ghost use Rattle.rept_hartlog.specs.declared.log.Entry.{Entry};
-ghost use Rattle.rept_hartlog.specs.Log.{IsFirstSpace, IsWord, AreNumbers, Gives, NamesHarts, AreEntries, AreLines};
-ghost use Rattle.rept_hartlog.specs.Recorded.{IsLogFault};
+ghost use Rattle.rept_hartlog.specs.Log.{IsFirstSpace, IsLogWord, AreNumbers, IsHartEntry, NamesHarts};
 
-use crate::refusal::Refusal;
-use rept_simlog::{address_of, first_line};
-use std::alloc::Global;
+use rept_simlog::{LogEntry, address_of};
 
 /// A line of a log: its number, from 1 on, and what it gives.
 #[derive(Clone, Copy)]
@@ -50,8 +47,8 @@ fn word_length(text: &[u8]) -> Option<usize>
 
 /// What stands before the first space, and what after it.
 fn cut_word(text: &[u8]) -> Option<(&[u8], &[u8])>
-    ensures some { IfSome result (λ parts. IsWord text.now parts.0.now parts.1.now) }
-    ensures none { IfNone result ((word rest : List ℕ) → IsWord text.now word rest → ⊥) }
+    ensures some { IfSome result (λ parts. IsLogWord text.now parts.0.now parts.1.now) }
+    ensures none { IfNone result ((word rest : List ℕ) → IsLogWord text.now word rest → ⊥) }
 {
     match word_length(text) {
         Some(size) => Some((&text[..size], &text[size + 1..])),
@@ -73,41 +70,16 @@ fn entry_by(hart: &[u8], thread: &[u8], address: &[u8], line: u32) -> Option<Ent
     })
 }
 
-/// What the line of this number gives.
-fn entry_of(text: &[u8], line: u32) -> Option<Entry>
-    ensures some { IfSome result (λ entry. Gives text.now entry) }
-    ensures line { IfSome result (λ entry. entry.line ≡ line) }
-    ensures none { IfNone result ((entry : Entry) → Gives text.now entry → ⊥) }
-{
-    let Some((hart, rest)) = cut_word(text) else {
-        return None;
-    };
-    let Some((thread, address)) = cut_word(rest) else {
-        return None;
-    };
-    entry_by(hart, thread, address, line)
-}
+impl LogEntry for Entry {
+    ghost tells = { IsHartEntry };
 
-/// The entries of a log, of which there are fewer than 2^32 bytes.
-pub fn entries_of(alloc: Global, log: &[u8]) -> Result<Vec<Entry>, Refusal>
-    requires { length log.now < 2 ^ 32 }
-    ensures ok { IfOk result (λ entries. AreEntries log.now entries.items) }
-    ensures lines { IfOk result (λ entries. AreLines entries.items) }
-    ensures err { IfErr result (λ refusal. IsLogFault log.now refusal) }
-{
-    let mut entries = Vec::new(alloc);
-    let mut rest = log;
-    let mut number = 0u32;
-    while rest.len() > 0 {
-        let (line, after) = first_line(rest);
-        number += 1;
-        let Some(entry) = entry_of(line, number) else {
-            return Err(Refusal::NoNumbers(number));
+    fn of_line(line: &[u8], number: u32) -> Option<Entry> {
+        let Some((hart, rest)) = cut_word(line) else {
+            return None;
         };
-        if let Err(_) = entries.push(entry) {
-            return Err(Refusal::OutOfMemory);
-        }
-        rest = after;
+        let Some((thread, address)) = cut_word(rest) else {
+            return None;
+        };
+        entry_by(hart, thread, address, number)
     }
-    Ok(entries)
 }

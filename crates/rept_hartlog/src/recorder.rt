@@ -1,42 +1,25 @@
 //! The trace of a log.
 
-ghost use Rattle.std.specs.Prelude.{◌≡◌, ◌<◌, ◌≤◌, ◌+◌, ◌-◌, ◌^◌, ◌∷◌, [], length, IfOk, IfErr};
+ghost use Rattle.std.specs.Prelude.{◌<◌, ◌≤◌, ◌+◌, ◌-◌, ◌^◌, ◌∷◌, [], length, IfOk, IfErr};
 ghost use Rattle.std.specs.List.{All};
 ghost use Rattle.rept_encode.specs.Walkable.{IsWalkable, IsFirstJumpEnd, AreStraight};
-ghost use Rattle.rept_weave.specs.Woven.{IsAt, IsWoven};
+ghost use Rattle.rept_weave.specs.Woven.{IsAtPlace, IsWoven};
 ghost use Rattle.rept_simlog.specs.Program.{program_of};
-ghost use Rattle.rept_hartlog.specs.Log.{last_entries, AreLines};
-ghost use Rattle.rept_hartlog.specs.Recorded.{IsTraceFault, Records, IsNotRecorded, IsRecorded, IsRefused};
+ghost use Rattle.rept_hartlog.specs.Log.{AreLines};
+ghost use Rattle.rept_hartlog.specs.Recorded.{IsTraceFault, RecordsSeveralHarts, IsNotRecorded, IsRecordedSeveralHarts, IsRefusedSeveralHarts};
 ghost use Rattle.rept_hartlog.specs.Stretches.{IsJumpEndAt};
 
-use crate::log::{Entry, entries_of};
-use crate::refusal::Refusal;
+use crate::log::Entry;
+use crate::refusal::{Refusal, refusal_of};
 use crate::threads::stretches_of;
-use rept_elf::{Image, Want};
-use rept_simlog::Program;
+use rept_simlog::{Program, last_entries, read_log};
 use rept_weave::{Hart, Harts, Place, WeaveFault, weave};
 use rept_word::Text;
 use std::alloc::Global;
 
-/// The most entries that are recorded: one more than the steps of the longest run.
-const MOST: usize = 65537;
-
-/// The last entries, as many as are recorded.
-fn last_entries(entries: &[Entry]) -> &[Entry]
-    requires { AreLines entries.now }
-    ensures last { result.now ≡ last_entries entries.now }
-    ensures few { length result.now ≤ 65537 }
-    ensures lines { AreLines result.now }
-{
-    if entries.len() > MOST {
-        return &entries[entries.len() - MOST..];
-    }
-    entries
-}
-
 /// The line of the step that ends a jump.
 fn line_of(harts: &Harts, place: Place) -> u32
-    requires there { IsAt harts.now place IsFirstJumpEnd }
+    requires there { IsAtPlace harts.now place IsFirstJumpEnd }
     requires short { All (All (λ s. s.begin + length s.steps ≤ 2 ^ 32)) harts.now }
     ensures { IsJumpEndAt harts.now place result }
 {
@@ -74,7 +57,7 @@ fn trace_of(alloc: Global, halves: bool, stretches: Hart) -> Result<Text, Refusa
 fn record_entries(alloc: Global, program: &Program<'_>, entries: &[Entry]) -> Result<Text, Refusal>
     requires few { length entries.now ≤ 65537 }
     requires lines { AreLines entries.now }
-    ensures ok { IfOk result (λ trace. Records (program_of program.now) entries.now trace) }
+    ensures ok { IfOk result (λ trace. RecordsSeveralHarts (program_of program.now) entries.now trace) }
     ensures err { IfErr result (λ refusal. IsNotRecorded (program_of program.now) entries.now refusal) }
 {
     let stretches = match stretches_of(alloc, program, entries) {
@@ -94,14 +77,12 @@ fn record_entries(alloc: Global, program: &Program<'_>, entries: &[Entry]) -> Re
 /// no thread has two lines, or the packets take 2^32 bytes; or it is a want of memory.
 pub fn record(alloc: Global, exe: &[u8], log: &[u8]) -> Result<Text, Refusal>
     requires { length log.now < 2 ^ 32 }
-    ensures ok { IfOk result (λ trace. IsRecorded exe.now log.now trace) }
-    ensures err { IfErr result (λ refusal. IsRefused exe.now log.now refusal) }
+    ensures ok { IfOk result (λ trace. IsRecordedSeveralHarts exe.now log.now trace) }
+    ensures err { IfErr result (λ refusal. IsRefusedSeveralHarts exe.now log.now refusal) }
 {
-    let image = match Image::read(exe, Want::Exec) {
-        Ok(image) => image,
-        Err(fault) => return Err(Refusal::Executable(fault)),
+    let log = match read_log::<Entry>(alloc, exe, log) {
+        Ok(log) => log,
+        Err(fault) => return Err(refusal_of(fault)),
     };
-    let entries = entries_of(alloc, log)?;
-    let program = Program::new(&image);
-    record_entries(alloc, &program, last_entries(entries.as_slice()))
+    record_entries(alloc, &log.program, last_entries(log.entries.as_slice()))
 }

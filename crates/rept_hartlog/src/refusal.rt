@@ -1,7 +1,13 @@
 //! Why a log of several harts isn't recorded.
 
+ghost use Rattle.std.specs.Prelude.{ℕ, List};
+ghost use Rattle.rept_simlog.specs.Lines.{IsLogFault};
+ghost use Rattle.rept_hartlog.specs.Log.{IsHartEntry};
+ghost use Rattle.rept_hartlog.specs.Recorded.{IsRefusedSeveralHarts};
+
 use rept_elf::ElfFault;
 use rept_path::PathFault;
+use rept_simlog::LogFault;
 use thiserror::Error;
 
 /// Why a log of several harts isn't recorded. Lines are numbered from 1.
@@ -31,4 +37,15 @@ pub enum Refusal {
     /// No memory was left.
     #[error("out of memory")]
     OutOfMemory,
+}
+
+/// The refusal of a log that isn't read.
+pub(crate) fn refusal_of(fault: LogFault) -> Refusal
+    ensures { (exe log : List ℕ) → IsLogFault IsHartEntry exe log fault → IsRefusedSeveralHarts exe log result }
+{
+    match fault {
+        LogFault::Executable(fault) => Refusal::Executable(fault),
+        LogFault::NoEntry(line) => Refusal::NoNumbers(line),
+        LogFault::OutOfMemory => Refusal::OutOfMemory,
+    }
 }

@@ -7,7 +7,7 @@ use Rattle.rept_alias.specs.declared.addresses.Access.{Access}
 use Rattle.rept_alias.specs.declared.addresses.CallAccess.{CallAccess}
 use Rattle.rept_alias.specs.Accesses.{hits, hits_part, call_hits, distance, between, everywhere}
 use Rattle.rept_machine.specs.Calls.{within, is_silent, is_error, may_change}
-use Rattle.rept_havoc.specs.Havoc.{nothing, one, every_byte, interval, grown, mapped, changed_by, changed, Lies, IsExact, Meets, AreExact, IsNumber, RangeWithin, IsWithin, NumberWithin}
+use Rattle.rept_havoc.specs.Havoc.{nothing, one, every_byte, interval, grown, mapped, changed_by, changed, Lies, IsExact, MeetsArguments, AreExact, IsNumber, RangeWithin, AreArgumentsWithin, NumberWithin}
 
 true≢false : true ≡ false → ⊥
 true≢false e = cc
@@ -238,7 +238,7 @@ either false q true s f g t = refl
 either false q false s f g t = g t
 
 -- each byte that a call may change is one of those that its ranges give
-pub changed_covers : (number : ℕ) (x : ℕ → Range) (answered : Range) (image_end : ℕ) (register : ℕ → ℕ) (answer a : ℕ) → number ≡ register 17 → Meets x register → Lies answer answered → may_change image_end register answer a ≡ true → call_hits (changed_by number x answered image_end) a ≡ true
+pub changed_covers : (number : ℕ) (x : ℕ → Range) (answered : Range) (image_end : ℕ) (register : ℕ → ℕ) (answer a : ℕ) → number ≡ register 17 → MeetsArguments x register → Lies answer answered → may_change image_end register answer a ≡ true → call_hits (changed_by number x answered image_end) a ≡ true
 changed_covers number x answered image_end register answer a named meets lies t =
     subst (λ (n : ℕ). call_hits (changed_by n x answered image_end) a ≡ true) (sym named)
     (covers_line (is_silent (register 17)) nothing _ false _ a (λ e. e)
@@ -280,7 +280,7 @@ changed_exact number x answered image_end register answer a named known exact fi
     both_are e f = rw (e, f) refl
 
 -- narrower ranges give no more
-within_by : (n : ℕ) (x wide : ℕ → Range) (answered wider : Range) (image_end a : ℕ) → IsWithin x wide → RangeWithin answered wider → call_hits (changed_by n x answered image_end) a ≡ true → call_hits (changed_by n wide wider image_end) a ≡ true
+within_by : (n : ℕ) (x wide : ℕ → Range) (answered wider : Range) (image_end a : ℕ) → AreArgumentsWithin x wide → RangeWithin answered wider → call_hits (changed_by n x answered image_end) a ≡ true → call_hits (changed_by n wide wider image_end) a ≡ true
 within_by n x wide answered wider image_end a w v =
     within_line (is_silent n) nothing _ nothing _ a (λ e. e)
     (within_line (n == 63) (one (interval (x 11) (x 12).hi)) _ (one (interval (wide 11) (wide 12).hi)) _ a (within_one _ _ a (interval_within (x 11) (wide 11) (x 12).hi (wide 12).hi a (w 11 (lit≤ tt) (lit≤ tt)) ((w 12 (lit≤ tt) (lit≤ tt)).1)))
@@ -294,7 +294,7 @@ within_by n x wide answered wider image_end a w v =
     (either (hits_part (interval (x 10) 4) a) (hits_part (interval (x 14) 4) a) _ _ (interval_within (x 10) (wide 10) 4 4 a (w 10 (lit≤ tt) (lit≤ tt)) (lit≤ tt)) (interval_within (x 14) (wide 14) 4 4 a (w 14 (lit≤ tt) (lit≤ tt)) (lit≤ tt)))
     (λ e. e)))))))))
 
-pub changed_within : (number wider_number : Flat) (x wide : ℕ → Range) (answered wider : Range) (image_end a : ℕ) → NumberWithin number wider_number → IsWithin x wide → RangeWithin answered wider → call_hits (changed number x answered image_end) a ≡ true → call_hits (changed wider_number wide wider image_end) a ≡ true
+pub changed_within : (number wider_number : Flat) (x wide : ℕ → Range) (answered wider : Range) (image_end a : ℕ) → NumberWithin number wider_number → AreArgumentsWithin x wide → RangeWithin answered wider → call_hits (changed number x answered image_end) a ≡ true → call_hits (changed wider_number wide wider image_end) a ≡ true
 changed_within number Unknown x wide answered wider image_end a n w v t = refl
 changed_within Unknown (Known m) x wide answered wider image_end a n w v t = absurd n
 changed_within (Known k) (Known m) x wide answered wider image_end a n w v t = subst (λ (i : ℕ). call_hits (changed_by i wide wider image_end) a ≡ true) n (within_by k x wide answered wider image_end a w v t)

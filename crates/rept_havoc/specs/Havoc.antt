@@ -65,8 +65,8 @@ abbrev pub IsExact : Range → ℕ → Type 0
 IsExact range v = (range.lo ≡ v) × (range.hi ≡ v)
 
 -- each argument is in its range
-abbrev pub Meets : (ℕ → Range) → (ℕ → ℕ) → Type 0
-Meets x register = (r : ℕ) → 10 ≤ r → r ≤ 15 → Lies (register r) (x r)
+abbrev pub MeetsArguments : (ℕ → Range) → (ℕ → ℕ) → Type 0
+MeetsArguments x register = (r : ℕ) → 10 ≤ r → r ≤ 15 → Lies (register r) (x r)
 
 -- each argument is known
 abbrev pub AreExact : (ℕ → Range) → (ℕ → ℕ) → Type 0
@@ -81,8 +81,8 @@ IsNumber (Known w) v = v ≡ w
 abbrev pub RangeWithin : Range → Range → Type 0
 RangeWithin narrow wide = (wide.lo ≤ narrow.lo) × (narrow.hi ≤ wide.hi)
 
-abbrev pub IsWithin : (ℕ → Range) → (ℕ → Range) → Type 0
-IsWithin x wide = (r : ℕ) → 10 ≤ r → r ≤ 15 → RangeWithin (x r) (wide r)
+abbrev pub AreArgumentsWithin : (ℕ → Range) → (ℕ → Range) → Type 0
+AreArgumentsWithin x wide = (r : ℕ) → 10 ≤ r → r ≤ 15 → RangeWithin (x r) (wide r)
 
 -- what is known of the number in the wider one is known in the other too
 abbrev pub NumberWithin : Flat → Flat → Type 0

@@ -5,7 +5,7 @@ ghost use Rattle.rept_partial.specs.declared.range.Range.{Range};
 ghost use Rattle.rept_partial.specs.declared.flat.Flat.{Flat};
 ghost use Rattle.rept_alias.specs.Accesses.{call_hits};
 ghost use Rattle.rept_machine.specs.Calls.{may_change};
-ghost use Rattle.rept_havoc.specs.Havoc.{nothing, one, every_byte, interval, grown, mapped, changed_by, changed, argument, Meets, AreExact, IsNumber, IsWithin, NumberWithin, RangeWithin, Lies, IsExact};
+ghost use Rattle.rept_havoc.specs.Havoc.{nothing, one, every_byte, interval, grown, mapped, changed_by, changed, argument, MeetsArguments, AreExact, IsNumber, AreArgumentsWithin, NumberWithin, RangeWithin, Lies, IsExact};
 
 use rept_alias::{Access, CallAccess};
 use rept_partial::{Flat, Partial, Range};
@@ -17,9 +17,9 @@ use rept_partial::{Flat, Partial, Range};
 /// is unknown, or of one that isn't listed, may change every byte.
 pub fn havoc(number: Flat, args: &[Range; 6], answered: Range, image_end: u64) -> CallAccess
     ensures value { result ≡ changed number (argument args.now) answered image_end }
-    ensures covers { (register : ℕ → ℕ) (answer a : ℕ) → IsNumber number (register 17) → Meets (argument args.now) register → Lies answer answered → may_change image_end register answer a ≡ true → call_hits result a ≡ true }
+    ensures covers { (register : ℕ → ℕ) (answer a : ℕ) → IsNumber number (register 17) → MeetsArguments (argument args.now) register → Lies answer answered → may_change image_end register answer a ≡ true → call_hits result a ≡ true }
     ensures exact { (register : ℕ → ℕ) (answer a : ℕ) → number ≡ Flat.Known (register 17) → AreExact (argument args.now) register → IsExact answered answer → a < 2 ^ 32 → call_hits result a ≡ may_change image_end register answer a }
-    ensures monotone { (wider_number : Flat) (wider : ℕ → Range) (wider_answer : Range) (a : ℕ) → NumberWithin number wider_number → IsWithin (argument args.now) wider → RangeWithin answered wider_answer → call_hits result a ≡ true → call_hits (changed wider_number wider wider_answer image_end) a ≡ true }
+    ensures monotone { (wider_number : Flat) (wider : ℕ → Range) (wider_answer : Range) (a : ℕ) → NumberWithin number wider_number → AreArgumentsWithin (argument args.now) wider → RangeWithin answered wider_answer → call_hits result a ≡ true → call_hits (changed wider_number wider wider_answer image_end) a ≡ true }
 {
     match number {
         Flat::Unknown => every_byte(),

@@ -212,7 +212,7 @@ pub record IsAmo (op : AmoOp) (word rd rs1 rs2 : ℕ) : Type 0 where
   pub second : rs2 ≡ rs2_field word
   pub source : HasSource op rs2
 
--- the word asks for no order of memory accesses
+-- The word asks for no order of memory accesses. So do the words that the encoder writes; a word that is read may ask for any.
 abbrev pub IsUnordered : ℕ → Type 0
 IsUnordered word = field word 25 2 ≡ 0
 
@@ -221,7 +221,7 @@ pub record IsFence (word : ℕ) : Type 0 where
   pub form : opcode word ≡ 15
   pub operation : funct3 word < 2
 
--- 0x0ff0000f, the word of `fence iorw, iorw` (chapter 2.7)
+-- 0x0ff0000f, the word of `fence iorw, iorw` (chapter 2.7): the one that the encoder writes for a fence
 abbrev pub full_fence : ℕ
 full_fence = 267386895
 

@@ -28,7 +28,7 @@ use Rattle.rept_partial.specs.Sets.{IsWithin}
 use Rattle.rept_partial.specs.Ranges.{word}
 use Rattle.rept_span.specs.Laws.RangeBounds.{word_small}
 use Rattle.rept_span.specs.Laws.RangeMoves.{named_target}
-use Rattle.rept_span.specs.Moves.{Moves, Covers, StepsFrom, AreWithin, AreMoves}
+use Rattle.rept_span.specs.Moves.{Moves, CoversOperand, StepsFrom, AreWithin, AreMoves}
 use Rattle.rept_known.specs.declared.bits.Bits.{Bits}
 use Rattle.rept_known.specs.Masks.{bit_of_word}
 use Rattle.rept_known.specs.Bits.{bits_has, bits_meet, bits_sets}
@@ -135,10 +135,10 @@ loaded_agrees Lb s base state small = all_agree (loaded Lb s.memory base) small
 loaded_agrees Lh s base state small = all_agree (loaded Lh s.memory base) small
 loaded_agrees Lw s base state small = all_agree (loaded Lw s.memory base) small
 
-covers_agrees : (a : Bits) (place : Option ℕ) (s : State) (r : ℕ) → Covers bits_sets a place s → place ≡ Some r → Agrees a (s.register r)
+covers_agrees : (a : Bits) (place : Option ℕ) (s : State) (r : ℕ) → CoversOperand bits_sets a place s → place ≡ Some r → Agrees a (s.register r)
 covers_agrees a place s r c e = has_agrees a (s.register r) (c r e)
 
-applied_covers : (instr : Instr) (image_end : ℕ) (place : Addresses) (s t : State) (a b : Bits) (r : ℕ) → IsState s → IsState t → HasEffect instr image_end place s t → Covers bits_sets a (first_read instr) s → Covers bits_sets b (second_read instr) s → written_by instr ≡ Some r → Agrees (applied_bits instr place.from a b) (t.register r)
+applied_covers : (instr : Instr) (image_end : ℕ) (place : Addresses) (s t : State) (a b : Bits) (r : ℕ) → IsState s → IsState t → HasEffect instr image_end place s t → CoversOperand bits_sets a (first_read instr) s → CoversOperand bits_sets b (second_read instr) s → written_by instr ≡ Some r → Agrees (applied_bits instr place.from a b) (t.register r)
 applied_covers (Lui rd imm) image_end place s t a b r before after h x y w =
     let is = h.result.written in
     written_agrees _ s t rd r imm w is (one_agrees imm (written_small s t rd r imm after w is))
@@ -287,13 +287,13 @@ branch_left false a b x y h k e = all_left a b x y h k
 record CoversLeft (left : Option (Bits × Bits)) (first second : Option ℕ) (s : State) : Type 0 where
   pub pair : Bits × Bits
   pub is : left ≡ Some pair
-  pub one : Covers bits_sets pair.0 first s
-  pub two : Covers bits_sets pair.1 second s
+  pub one : CoversOperand bits_sets pair.0 first s
+  pub two : CoversOperand bits_sets pair.1 second s
 
-has_covers : (a : Bits) (s : State) (r : ℕ) → bits_has a (s.register r) ≡ true → Covers bits_sets a (Some r) s
+has_covers : (a : Bits) (s : State) (r : ℕ) → bits_has a (s.register r) ≡ true → CoversOperand bits_sets a (Some r) s
 has_covers a s r h q e = subst (λ (n : ℕ). bits_has a (s.register n) ≡ true) (some_number e) h
 
-left_covers : (instr : Instr) (image_end : ℕ) (place : Addresses) (s t : State) (a b : Bits) → HasEffect instr image_end place s t → Covers bits_sets a (first_read instr) s → Covers bits_sets b (second_read instr) s → CoversLeft (left_bits instr (turn_by instr place) a b) (first_read instr) (second_read instr) s
+left_covers : (instr : Instr) (image_end : ℕ) (place : Addresses) (s t : State) (a b : Bits) → HasEffect instr image_end place s t → CoversOperand bits_sets a (first_read instr) s → CoversOperand bits_sets b (second_read instr) s → CoversLeft (left_bits instr (turn_by instr place) a b) (first_read instr) (second_read instr) s
 left_covers (Branch op rs1 rs2 imm) image_end place s t a b h x y =
     let turn = turn_by (Branch op rs1 rs2 imm) place in
     let kept = branch_left (tells_equal op turn) a b (s.register rs1) (s.register rs2) (x rs1 refl) (y rs2 refl) (told_equal op (s.register rs1) (s.register rs2) turn (way_tells (branch_holds op (s.register rs1) (s.register rs2)) place.from (plus place.at imm) place.next h.onward)) in

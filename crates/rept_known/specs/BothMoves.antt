@@ -28,7 +28,7 @@ use Rattle.rept_span.specs.Laws.RangeBounds.{IsIn, in_has, in_from_to, in_full, 
 use Rattle.rept_span.specs.Laws.RangeCovering.{upper_small}
 use Rattle.rept_span.specs.Laws.RangeCovering as ranges
 use Rattle.rept_span.specs.Laws.RangeMoves.{range_covers}
-use Rattle.rept_span.specs.Moves.{Moves, Covers, StepsFrom, AreWithin, AreMoves}
+use Rattle.rept_span.specs.Moves.{Moves, CoversOperand, StepsFrom, AreWithin, AreMoves}
 use Rattle.rept_known.specs.declared.bits.Bits.{Bits}
 use Rattle.rept_known.specs.declared.both.Both.{Both}
 use Rattle.rept_known.specs.Masks.{bit_of_word}
@@ -216,10 +216,10 @@ applied_common (Op op rd rs1 rs2) address a b = operation_common op a b
 applied_common _ address a b = any_common
 
 -- ---- the laws
-range_covered : (a : Both) (place : Option ℕ) (s : State) → Covers both_sets a place s → Covers range_sets a.range place s
+range_covered : (a : Both) (place : Option ℕ) (s : State) → CoversOperand both_sets a place s → CoversOperand range_sets a.range place s
 range_covered a place s c r e = (both_parts a (s.register r) (c r e)).0
 
-bits_covered : (a : Both) (place : Option ℕ) (s : State) → Covers both_sets a place s → Covers bits_sets a.bits place s
+bits_covered : (a : Both) (place : Option ℕ) (s : State) → CoversOperand both_sets a place s → CoversOperand bits_sets a.bits place s
 bits_covered a place s c r e = (both_parts a (s.register r) (c r e)).1
 
 range_steps : (row : StepRow) (a b : Both) (image_end : ℕ) (s t : State) → StepsFrom both_sets row a b image_end s t → StepsFrom range_sets row a.range b.range image_end s t
@@ -256,7 +256,7 @@ some_common r b v p q = elim (reduced_cases r b) [
   | inr (c, some) ↦ (c, some, (reduced_common r b c some).into v p q)
 ]
 
-has_covers : (c : Both) (place : Option ℕ) (s : State) (q : ℕ) → place ≡ Some q → both_has c (s.register q) ≡ true → Covers both_sets c place s
+has_covers : (c : Both) (place : Option ℕ) (s : State) (q : ℕ) → place ≡ Some q → both_has c (s.register q) ≡ true → CoversOperand both_sets c place s
 has_covers c place s q e h r f = subst (λ (n : ℕ). both_has c (s.register n) ≡ true) (some_number (sym e ∙ f)) h
 
 -- what is left covers the operands

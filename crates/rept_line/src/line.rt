@@ -176,8 +176,8 @@ impl<'a> Reaches for OnePath<'a> {
         }
     }
 
-    fn leaving_from(&self, _least: u32, most: u32) -> u32 {
-        most
+    fn leaving_from(&self, _least: u32, known: Window) -> u32 {
+        known.to - 1
     }
 
     fn reached_up(&self, known: Window, _most: u32) -> u32 {

@@ -5,8 +5,8 @@ use Rattle.rept_reason.specs.declared.fact.Fact.{Fact}
 use Rattle.rept_reason.specs.declared.fact.Cell.TheVariants.{Byte}
 use Rattle.rept_reason.specs.Facts.{told}
 use Rattle.rept_nearest.specs.declared.found.Found.{Found}
-use Rattle.rept_nearest.specs.Nets.{IsWithin, IsNearest}
-use Rattle.rept_nearest.specs.Nets.IsWithin.{here, onward as one_more}
+use Rattle.rept_nearest.specs.Nets.{IsWithinLinks, IsNearest}
+use Rattle.rept_nearest.specs.Nets.IsWithinLinks.{here, onward as one_more}
 use Rattle.rept_report.specs.Setting.{Setting, HasLaws}
 use Rattle.rept_report.specs.Reasons.{StandsIn}
 use Rattle.rept_report.specs.Reasons.StandsIn.{listed, last_byte, onward, back}
@@ -51,7 +51,7 @@ module _ {W : Type 0} (S : Setting W) (fs : List Fact) (a : ℕ) where
     ]
 
     -- what stands where links lead to stands here too
-    within_stands : (m k n v : ℕ) → IsWithin (links_in S fs a) m k n → StandsIn S fs (fact_of n (Byte a) v) → StandsIn S fs (fact_of m (Byte a) v)
+    within_stands : (m k n v : ℕ) → IsWithinLinks (links_in S fs a) m k n → StandsIn S fs (fact_of n (Byte a) v) → StandsIn S fs (fact_of m (Byte a) v)
     within_stands m _ _ v (here k) h = h
     within_stands m _ _ v (one_more k n w x link) h = within_stands m k n v x (elim (links_is S laws (told fs) a w n link) [
       | inl c ↦ onward (fact_of n (Byte a) v) (fact_of w (Byte a) v) a w n refl refl c refl refl refl h

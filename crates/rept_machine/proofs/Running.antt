@@ -8,7 +8,7 @@ use Rattle.std.proofs.lemmas.Option.{slice_get_within}
 use Rattle.rept_isa.specs.declared.row.StepRow.{StepRow}
 use Rattle.rept_isa.specs.Words.{IsWord}
 use Rattle.rept_machine.specs.declared.machine.Machine.{Machine}
-use Rattle.rept_machine.specs.Machine.{state_of, pc_of, code_of, base_of, word_of_code, IsNext}
+use Rattle.rept_machine.specs.Machine.{state_of, pc_of, code_of, base_of, word_of_code, IsNextInstr}
 use Rattle.rept_machine.specs.State.{State, IsState}
 use Rattle.rept_machine.specs.Step.{IsStep}
 use Rattle.rept_machine.specs.Runs.{LeadFrom, IsSpelled, RunsOwnCode}
@@ -73,7 +73,7 @@ before n run last i le = let t : nat_le i n ≡ true = grind (arith, nat_tests) 
 at_last : (n : ℕ) (run : ℕ → State) (last : State) → longer n run last (n + 1) ≡ last
 at_last n run last = let t : nat_le (n + 1) n ≡ false = grind (arith, nat_tests) in rw t refl
 
-module _ (old mid new : Machine) (rows : List StepRow) (ran : Ran old mid rows) (row : StepRow) (lawful : (e : ℕ) → IsStep e row (state_of mid) (state_of new)) (state : IsState (state_of new)) (at : row.at ≡ pc_of mid) (next : pc_of new ≡ row.next) (instr : IsNext mid row.instr) (kept : code_of new ≡ code_of mid) (base : base_of new ≡ base_of mid) where
+module _ (old mid new : Machine) (rows : List StepRow) (ran : Ran old mid rows) (row : StepRow) (lawful : (e : ℕ) → IsStep e row (state_of mid) (state_of new)) (state : IsState (state_of new)) (at : row.at ≡ pc_of mid) (next : pc_of new ≡ row.next) (instr : IsNextInstr mid row.instr) (kept : code_of new ≡ code_of mid) (base : base_of new ≡ base_of mid) where
   abbrev run : ℕ → State
   run = longer (length rows) ran.states (state_of new)
 

@@ -15,13 +15,13 @@ use Rattle.rept_isa.specs.Rows.{Addresses, addresses_of}
 use Rattle.rept_isa.specs.Operands.{written_by, unless_zero}
 use Rattle.rept_machine.specs.State.{State}
 use Rattle.rept_machine.specs.Writes.{WritesBy, WritesAtomic}
-use Rattle.rept_machine.specs.Step.{IsStep, HasEffect, Sets, Tries}
+use Rattle.rept_machine.specs.Step.{IsStep, HasEffect, SetsRegister, Tries}
 
 unless_zero-suc : (n : ℕ) → unless_zero (suc n) ≡ Some (suc n)
 unless_zero-suc n = grind (arith, nat_tests)
 
 -- a register other than the one that is set
-kept_by_sets : (rd value : ℕ) (s t : State) → Sets rd value s t → (r : ℕ) → unless_zero rd ≢ Some r → t.register r ≡ s.register r
+kept_by_sets : (rd value : ℕ) (s t : State) → SetsRegister rd value s t → (r : ℕ) → unless_zero rd ≢ Some r → t.register r ≡ s.register r
 kept_by_sets zero value s t h r other = elim (cases_order r 0) [
   | inl e ↦ rw e (h.lost refl)
   | inr (inl l) ↦ h.others r (omega arith)

@@ -7,7 +7,9 @@ use Rattle.std.specs.Prelude.{◌≡◌, ℕ, ◌+◌, ◌^◌, ◌==◌, nat_lt
 abbrev pub within : ℕ → ℕ → ℕ → Bool
 within base size a = if size == 0 then false else if nat_le (base + size) (2 ^ 32) then nat_le base a && nat_lt a (base + size) else true
 
--- openat, close, write, writev, kill, tgkill, and getpid to gettid: they only read memory
+-- openat, close, write, writev, kill, tgkill, and getpid to gettid: they only read memory. Of openat, write and writev that
+-- is a premise: their file isn't mapped. Linux shows a write in the pages that map the file, and an openat with O_TRUNC
+-- takes these pages away; here a mapped file doesn't change.
 abbrev pub is_silent : ℕ → Bool
 is_silent number = number == 56 || number == 57 || number == 64 || number == 66 || number == 129 || number == 131 || (nat_le 172 number && nat_le number 178)
 
@@ -18,6 +20,10 @@ is_error answer = nat_le (2 ^ 32) (answer + 4095)
 -- Whether the byte at a may change: read 63, rt_sigprocmask 135, brk 214, munmap 215, mmap2 222, getrandom 278,
 -- clock_gettime64 403, futex_time64 422. The registers are those at the call, the image's end is where the program's own
 -- memory ends and the heap begins. munmap and mmap2 work on whole pages of 4096 bytes.
+-- brk isn't rounded to pages: the bytes from the image's end up to the answer may change, the answer not included. Linux
+-- rounds (mm/mmap.c, PAGE_ALIGN): it maps whole pages, and so clears the last one to its end, past the answer. What stands
+-- there differs from this table only where brk gave that page back before and now takes it again in part. That a program
+-- doesn't do so in what is traced is a premise. Where the answer is a multiple of 4096, rounding makes no difference.
 abbrev pub may_change : ℕ → (ℕ → ℕ) → ℕ → ℕ → Bool
 may_change image_end register answer a =
     if is_silent (register 17) then false

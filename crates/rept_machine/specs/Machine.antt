@@ -45,11 +45,11 @@ abbrev pub IsNotRunnable : ℕ → Type 0
 IsNotRunnable word = (i : Instr) → IsWord word i → i ≡ Ebreak
 
 -- the instruction that is next
-abbrev pub IsNext : Machine → Instr → Type 0
-IsNext machine instr = MatchOption (next_word machine) ⊥ (λ word. IsWord word instr)
+abbrev pub IsNextInstr : Machine → Instr → Type 0
+IsNextInstr machine instr = MatchOption (next_word machine) ⊥ (λ word. IsWord word instr)
 
 -- Why the machine halts. Memory can only be wanting for a store.
 abbrev pub Halts : Machine → Halt → Type 0
 Halts machine (NotCode address) = (address ≡ pc_of machine) × (next_word machine ≡ None)
 Halts machine (NotRunnable address) = (address ≡ pc_of machine) × MatchOption (next_word machine) ⊥ IsNotRunnable
-Halts machine OutOfMemory = (instr : Instr) × IsNext machine instr × WritesMemory instr
+Halts machine OutOfMemory = (instr : Instr) × IsNextInstr machine instr × WritesMemory instr

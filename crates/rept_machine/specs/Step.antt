@@ -20,20 +20,20 @@ abbrev pub SameMemory : State → State → Type 0
 SameMemory s t = (a : ℕ) → t.memory a ≡ s.memory a
 
 -- t has the value in register rd, and the other registers of s. A write to x0 is lost.
-pub record Sets (rd value : ℕ) (s t : State) : Type 0 where
+pub record SetsRegister (rd value : ℕ) (s t : State) : Type 0 where
   pub written : rd ≢ 0 → t.register rd ≡ value
   pub lost : rd ≡ 0 → t.register 0 ≡ s.register 0
   pub others : (r : ℕ) → r ≢ rd → t.register r ≡ s.register r
 
 -- the instruction writes a value that it computed, and the next one follows
 pub record Computes (rd value : ℕ) (a : Addresses) (s t : State) : Type 0 where
-  pub result : Sets rd value s t
+  pub result : SetsRegister rd value s t
   pub memory : SameMemory s t
   pub onward : a.next ≡ following a.from
 
 -- a jump writes the address of the instruction that follows it
 pub record Jumps (rd target : ℕ) (a : Addresses) (s t : State) : Type 0 where
-  pub link : Sets rd (following a.from) s t
+  pub link : SetsRegister rd (following a.from) s t
   pub memory : SameMemory s t
   pub onward : a.next ≡ target
 
@@ -57,12 +57,12 @@ pub record PutsWord (value base : ℕ) (s t : State) : Type 0 where
 
 -- in one step a register takes an answer and the memory at base a word; both are made of what was there before
 pub record Exchanges (rd answer : ℕ) (value base : ℕ) (a : Addresses) (s t : State) : Type 0 where
-  pub result : Sets rd answer s t
+  pub result : SetsRegister rd answer s t
   pub memory : PutsWord value base s t
   pub onward : a.next ≡ following a.from
 
 -- an SC that fails writes no byte, and answers by another value than 0
-pub record Fails (rd : ℕ) (a : Addresses) (s t : State) : Type 0 where
+pub record FailsToStore (rd : ℕ) (a : Addresses) (s t : State) : Type 0 where
   pub code : rd ≢ 0 → t.register rd ≢ 0
   pub lost : rd ≡ 0 → t.register 0 ≡ s.register 0
   pub others : (r : ℕ) → r ≢ rd → t.register r ≡ s.register r
@@ -71,7 +71,7 @@ pub record Fails (rd : ℕ) (a : Addresses) (s t : State) : Type 0 where
 
 -- Reservations aren't modelled: an SC may succeed, with 0, or fail, whatever was before (chapter 8.2 lets it fail at any time).
 abbrev pub Tries : ℕ → ℕ → ℕ → Addresses → State → State → Type 0
-Tries rd value base a s t = Exchanges rd 0 value base a s t ⊎ Fails rd a s t
+Tries rd value base a s t = Exchanges rd 0 value base a s t ⊎ FailsToStore rd a s t
 
 -- an atomic memory operation answers by the word that was there
 abbrev pub Combines : AmoOp → ℕ → ℕ → ℕ → Addresses → State → State → Type 0
@@ -114,9 +114,10 @@ pub record Calls (image_end : ℕ) (a : Addresses) (s t : State) : Type 0 where
 abbrev pub far_target : ℕ → ℤ → ℕ
 far_target base imm = plus base imm / 2 * 2
 
--- The effect of the instruction at the first of these addresses, which leads to the last one. Targets are reckoned from its own address, and what follows
--- it from the second: so a compressed one is followed by the instruction two bytes on (chapter 16.1). AUIPC adds to its own address (chapter 2.4), which is the
--- second one too, since no compressed instruction expands to AUIPC. EBREAK has no step: no two states are those before and after one.
+-- The effect of the instruction at `a.at`, which leads to `a.next`. Its pc is `a.at`: the targets of JAL and of branches are reckoned from it. What follows
+-- it in memory is four bytes after `a.from`, which is `a.at` for a word and two bytes less for a compressed instruction (chapter 16.1). AUIPC adds to its pc
+-- (chapter 2.4). It is written with `a.from`, which is the same: no compressed instruction expands to AUIPC, so `a.from` is `a.at` in each AUIPC of a path.
+-- EBREAK has no step: no two states are those before and after one.
 abbrev pub HasEffect : Instr → ℕ → Addresses → State → State → Type 0
 HasEffect (Lui rd imm) image_end a s t = Computes rd imm a s t
 HasEffect (Auipc rd imm) image_end a s t = Computes rd (beside a.from imm) a s t

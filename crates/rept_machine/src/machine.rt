@@ -39,7 +39,7 @@ pub struct Machine<'a> {
 }
 
 impl<'a> Machine<'a> {
-    ghost use Rattle.rept_machine.specs.Machine.{state_of, pc_of, code_of, base_of, next_word, word_of_code, IsNext, IsUnchanged, IsNotRunnable, Halts};
+    ghost use Rattle.rept_machine.specs.Machine.{state_of, pc_of, code_of, base_of, next_word, word_of_code, IsNextInstr, IsUnchanged, IsNotRunnable, Halts};
     ghost use Rattle.rept_machine.specs.Runs.{RunsOwnCode};
     ghost use Rattle.rept_machine.specs.declared.machine.Machine.{Machine};
     ghost use Rattle.rept_isa.specs.declared.row.StepRow.{StepRow};
@@ -74,7 +74,7 @@ impl<'a> Machine<'a> {
         ensures picks { IfOk result (λ row. Picks row.instr (state_of self.old) (state_of self.new)) }
         ensures at { IfOk result (λ row. row.at ≡ pc_of self.old) }
         ensures next { IfOk result (λ row. pc_of self.new ≡ row.next) }
-        ensures instr { IfOk result (λ row. IsNext self.old row.instr) }
+        ensures instr { IfOk result (λ row. IsNextInstr self.old row.instr) }
         ensures call { IfOk result (λ row. IsTrue row.call ↔ (row.instr ≡ Instr.Ecall)) }
         ensures long { IfOk result (λ row. row.short ≡ false) }
         ensures code { code_of self.new ≡ code_of self.old }

@@ -17,11 +17,11 @@ use Rattle.rept_notes.specs.Notes.{Note, HoldsNote, AreNotesThen, AreNotes, Have
 use Rattle.rept_dump.specs.Registers.{SaysOfAll, all_registers, pid_of, short_size, first_of, first_short, first_twin, by_size, by_twin}
 use Rattle.rept_dump.specs.Memory.{bytes_from, crash_byte, code_at, held_by}
 use Rattle.rept_path.specs.Code.{instruction, words as words_of, look}
-use Rattle.rept_make.specs.Files.{bytes_of_words}
+use Rattle.rept_make.specs.Files.{bytes_of_words, exe_header, executable, core_header, status_start, status_middle, status_of, status_note}
 use Rattle.rept_make.proofs.Filed.{length_words, word_there}
 use Rattle.rept_turns.specs.declared.turn.Turn.{Turn}
 use Rattle.rept_play.specs.Shares.{sees}
-use Rattle.rept_maderuns.specs.Files.{exe_header, executable, core_header, status_start, status_middle, status_of, status_note, shares_of, saved_of, pc_in, core_file}
+use Rattle.rept_maderuns.specs.Files.{shares_of, saved_of, pc_in, core_file}
 
 -- prefixes of known length
 take_front : (xs ys : List ℕ) (m k : ℕ) → m ≡ length xs + k → take m (xs ++ ys) ≡ xs ++ take k ys
@@ -40,15 +40,15 @@ drop_front (x ∷ xs) ys m k e =
 abbrev pub code_of : List ℕ → ElfSegment
 code_of words = record { kind = 1; offset = 84; vaddr = 65536; memsz = 256; filesz = 256; flags = 7; body = bytes_of_words words }
 
-pub exe_segments : (words : List ℕ) → length words ≡ 64 → segments (executable words) ≡ code_of words ∷ []
+pub exe_segments : (words : List ℕ) → length words ≡ 64 → segments (executable 256 7 words) ≡ code_of words ∷ []
 exe_segments words size =
     let n : length (bytes_of_words words) ≡ 256 = (let h = length_words words in omega arith) in
     let t : take 256 (bytes_of_words words) ≡ bytes_of_words words = rw (← n) (take-length (bytes_of_words words)) in
     ap (λ (b : List ℕ). record { kind = 1; offset = 84; vaddr = 65536; memsz = 256; filesz = 256; flags = 7; body = b } ∷ []) t
 
-pub exe_passes : (words : List ℕ) → length words ≡ 64 → first_failure (checks Exec (executable words)) ≡ None
+pub exe_passes : (words : List ℕ) → length words ≡ 64 → first_failure (checks Exec (executable 256 7 words)) ≡ None
 exe_passes words size =
-    let n : length (executable words) ≡ 340 = (let h = length_words words in let a = length-append exe_header (bytes_of_words words) in omega arith) in
+    let n : length (executable 256 7 words) ≡ 340 = (let h = length_words words in let a = length-append (exe_header 256 7) (bytes_of_words words) in omega arith) in
     rw n refl
 
 module _ (words : List ℕ) (size : length words ≡ 64) (small : (i : ℕ) → get_or words i 0 < 2 ^ 32) where
@@ -196,10 +196,10 @@ abbrev pub data_of : List ℕ → ElfSegment
 data_of bytes = record { kind = 1; offset = 1012; vaddr = 131072; memsz = 32; filesz = 32; flags = 6; body = bytes }
 
 module _ (notes bytes : List ℕ) (count : length notes ≡ 896) (size : length bytes ≡ 32) where
-  pub core_size : length (core_header ++ (notes ++ bytes)) ≡ 1044
+  pub core_size : length (core_header 896 32 ++ (notes ++ bytes)) ≡ 1044
   core_size = let a = length-append notes bytes in omega arith
 
-  pub core_segments : segments (core_header ++ (notes ++ bytes)) ≡ note_of notes ∷ data_of bytes ∷ []
+  pub core_segments : segments (core_header 896 32 ++ (notes ++ bytes)) ≡ note_of notes ∷ data_of bytes ∷ []
   core_segments =
       let t : take 896 (notes ++ bytes) ≡ notes = take_front notes bytes 896 0 (omega arith) ∙ append-nil notes in
       let d : drop 896 (notes ++ bytes) ≡ bytes = drop_front notes bytes 896 0 (omega arith) in
@@ -207,7 +207,7 @@ module _ (notes bytes : List ℕ) (count : length notes ≡ 896) (size : length 
       let f : List ℕ → List ℕ → List ElfSegment = λ a b. record { kind = 4; offset = 116; vaddr = 0; memsz = 0; filesz = 896; flags = 0; body = a } ∷ data_of b ∷ [] in
       ap (λ (a : List ℕ). f a (take 32 (drop 896 (notes ++ bytes)))) t ∙ ap (λ (b : List ℕ). f notes (take 32 b)) d ∙ ap (λ (b : List ℕ). f notes b) w
 
-  pub core_passes : first_failure (checks Core (core_header ++ (notes ++ bytes))) ≡ None
+  pub core_passes : first_failure (checks Core (core_header 896 32 ++ (notes ++ bytes))) ≡ None
   core_passes = let n = core_size in rw n refl
 
 abbrev note_with : ℕ → List ℕ → Note
@@ -261,13 +261,13 @@ module _ (a b c d bytes : List ℕ) (one : length a ≡ 32) (two : length b ≡ 
     omega arith,
   )
 
-  pub core_says : SaysOfAll (length (core_header ++ (notes_body a b c d ++ bytes))) (segments (core_header ++ (notes_body a b c d ++ bytes))) (Ok statuses)
+  pub core_says : SaysOfAll (length (core_header 896 32 ++ (notes_body a b c d ++ bytes))) (segments (core_header 896 32 ++ (notes_body a b c d ++ bytes))) (Ok statuses)
   core_says =
       let n = core_size (notes_body a b c d) bytes notes_size size in
       let only = four_say (status_of 1 a) (status_of 2 b) (status_of 3 c) (status_of 4 d) (status_size 1 a one) (status_size 2 b two) (status_size 3 c three) (status_size 4 d four) refl refl refl refl in
-      let have : HaveNotes (length (core_header ++ (notes_body a b c d ++ bytes))) (note_of (notes_body a b c d) ∷ []) all_notes = (all_notes, [], refl, rw n (omega arith), are_notes, refl) in
-      let said : SaysOfAll (length (core_header ++ (notes_body a b c d ++ bytes))) (note_of (notes_body a b c d) ∷ data_of bytes ∷ []) (Ok statuses) = inr (all_notes, have, sym only) in
-      subst (λ (ss : List ElfSegment). SaysOfAll (length (core_header ++ (notes_body a b c d ++ bytes))) ss (Ok statuses)) (sym (core_segments (notes_body a b c d) bytes notes_size size)) said
+      let have : HaveNotes (length (core_header 896 32 ++ (notes_body a b c d ++ bytes))) (note_of (notes_body a b c d) ∷ []) all_notes = (all_notes, [], refl, rw n (omega arith), are_notes, refl) in
+      let said : SaysOfAll (length (core_header 896 32 ++ (notes_body a b c d ++ bytes))) (note_of (notes_body a b c d) ∷ data_of bytes ∷ []) (Ok statuses) = inr (all_notes, have, sym only) in
+      subst (λ (ss : List ElfSegment). SaysOfAll (length (core_header 896 32 ++ (notes_body a b c d ++ bytes))) ss (Ok statuses)) (sym (core_segments (notes_body a b c d) bytes notes_size size)) said
 
 -- the only bytes that the two files give of memory are the data
 one_segment : (f : ElfSegment → ℕ) (x : ElfSegment) (b : Bool) (v : ℕ) → option_or (option_map f (cond b (Some x) None)) None ≡ Some v → (b ≡ true) × (f x ≡ v)
@@ -324,7 +324,7 @@ parts_are a b c d e bytes f g h i j k l none head one two three four last =
     ∙ ap (λ (xs : List ℕ). xs ++ (a ++ (b ++ (c ++ (d ++ (e ++ bytes)))))) none
 
 pub core_is : (turns : List Turn) (registers bytes : List ℕ) (p q r s : ℕ) (new : List ℕ) → p ≡ pc_in turns 0 → q ≡ pc_in turns 1 → r ≡ pc_in turns 2 → s ≡ pc_in turns 3
-    → new ≡ core_header ++ (status_note 1 (saved_of 0 p registers) ++ (status_note 2 (saved_of 1 q registers) ++ (status_note 3 (saved_of 2 r registers) ++ (status_note 4 (saved_of 3 s registers) ++ bytes))))
+    → new ≡ core_header 896 32 ++ (status_note 1 (saved_of 0 p registers) ++ (status_note 2 (saved_of 1 q registers) ++ (status_note 3 (saved_of 2 r registers) ++ (status_note 4 (saved_of 3 s registers) ++ bytes))))
     → new ≡ core_file turns registers bytes
 core_is turns registers bytes p q r s new one two three four is =
-    is ∙ (λ i. core_header ++ (status_note 1 (saved_of 0 (one i) registers) ++ (status_note 2 (saved_of 1 (two i) registers) ++ (status_note 3 (saved_of 2 (three i) registers) ++ (status_note 4 (saved_of 3 (four i) registers) ++ bytes)))))
+    is ∙ (λ i. core_header 896 32 ++ (status_note 1 (saved_of 0 (one i) registers) ++ (status_note 2 (saved_of 1 (two i) registers) ++ (status_note 3 (saved_of 2 (three i) registers) ++ (status_note 4 (saved_of 3 (four i) registers) ++ bytes)))))

@@ -13,11 +13,11 @@ use Rattle.rept_turns.specs.Turns.{rows_in, slices_from, AreApartByStream, TakeT
 use Rattle.rept_turns.proofs.Slices.{slices_keep}
 use Rattle.rept_play.specs.Code.{address_in, row_in, IsPlayable}
 use Rattle.rept_weave.specs.declared.stretch.Stretch.{Stretch}
-use Rattle.rept_slices.specs.Joins.{Note}
+use Rattle.rept_slices.specs.Joins.{ThreadNote}
 use Rattle.rept_slices.specs.Order.{by_time}
 use Rattle.rept_slices.proofs.InTime.{Each}
 use Rattle.rept_woven.specs.Told.{AreInTime}
-use Rattle.rept_woven.specs.Ordered.{Piece, pieces, begins, begin_of, thread_of, thread_in, IsJoined, IsNoted, AreApart, AreOrdered}
+use Rattle.rept_woven.specs.Ordered.{Piece, pieces, begins, begin_of, thread_of, thread_in, IsThreadJoined, IsNoted, AreApart, AreOrdered}
 use Rattle.rept_maderuns.specs.Files.{pc_in}
 use Rattle.rept_maderuns.specs.Harts.{steps_in, stretches_of, harts_of}
 use Rattle.rept_maderuns.proofs.Turning.{after_all, Same, all_same, four_rows}
@@ -26,11 +26,11 @@ use Rattle.rept_maderuns.proofs.Gathering.{stretches_own, stretches_other}
 use Rattle.rept_maderuns.proofs.Threads.{steps_are, slices_are, linked, ends}
 
 -- where the four threads stand
-abbrev pub notes_of : List Turn → List Note
+abbrev pub notes_of : List Turn → List ThreadNote
 notes_of turns =
     record { process = 1; pc = pc_in turns 0 } ∷ record { process = 2; pc = pc_in turns 1 } ∷ record { process = 3; pc = pc_in turns 2 } ∷ record { process = 4; pc = pc_in turns 3 } ∷ []
 
-noted_by : (notes : List Note) (a b c d t : ℕ) → notes ≡ record { process = 1; pc = a } ∷ record { process = 2; pc = b } ∷ record { process = 3; pc = c } ∷ record { process = 4; pc = d } ∷ [] → t < 4 → list_any (λ (n : Note). n.process == t + 1) notes ≡ true
+noted_by : (notes : List ThreadNote) (a b c d t : ℕ) → notes ≡ record { process = 1; pc = a } ∷ record { process = 2; pc = b } ∷ record { process = 3; pc = c } ∷ record { process = 4; pc = d } ∷ [] → t < 4 → list_any (λ (n : ThreadNote). n.process == t + 1) notes ≡ true
 noted_by notes a b c d zero is small = rw is refl
 noted_by notes a b c d (suc zero) is small = rw is refl
 noted_by notes a b c d (suc (suc zero)) is small = rw is refl
@@ -124,24 +124,24 @@ module _ (code : List Instr) (T : List ThreadRows) (turns : List Turn) (n : ℕ)
     threads_are four = (λ i. told_of 0 i ∷ told_of 1 i ∷ told_of 2 i ∷ told_of 3 i ∷ []) ∙ sym (four_are T four)
 
     module _ (rows : (t i : ℕ) → i < rows_in t turns → slice_get (steps_in T t) i ≡ Some (row_in code t i)) where
-      joined_at : (t : ℕ) → IsJoined (thread_of (by_time begin_of (of_process (t + 1) (pieces (harts_of T turns n 0))))) (pc_in turns t)
+      joined_at : (t : ℕ) → IsThreadJoined (thread_of (by_time begin_of (of_process (t + 1) (pieces (harts_of T turns n 0))))) (pc_in turns t)
       joined_at t =
           let own : (i : ℕ) → i < length (steps_in T t) → slice_get (steps_in T t) i ≡ Some (row_in code t (0 + i)) = λ i less. let same = size t in let e : i ≡ 0 + i = omega arith in rows t i (omega arith) ∙ ap (λ (k : ℕ). Some (row_in code t k)) e in
           let rows_are : 0 + length (steps_in T t) ≡ rows_in t turns = let same = size t in omega arith in
           let last : EndBefore (steps_in T t) (pc_in turns t) = subst (λ (k : ℕ). EndBefore (steps_in T t) (address_in t (k % 16))) rows_are (ends code t (steps_in T t) 0 own) in
           let time : KeepTime (unwrap_or (slice_get T t) no_thread).slices = subst KeepTime (sym (slices t)) (slices_keep t 0 turns playable.order playable.apart) in
-          subst (λ (x : ThreadRows). IsJoined x (pc_in turns t)) (sym (told_of t)) (record { linked = linked code t (steps_in T t) 0 own; ends = last; in_time = time })
+          subst (λ (x : ThreadRows). IsThreadJoined x (pc_in turns t)) (sym (told_of t)) (record { linked = linked code t (steps_in T t) 0 own; ends = last; in_time = time })
 
       rows_told : (t : ℕ) → length (thread_of (by_time begin_of (of_process (t + 1) (pieces (harts_of T turns n 0))))).steps ≡ rows_in t turns
       rows_told t = ap (λ (x : ThreadRows). length x.steps) (told_of t) ∙ size t
 
-      few_rows : sum_by (λ (note : Note). length (thread_in (harts_of T turns n 0) note).steps) (notes_of turns) ≤ 65536
+      few_rows : sum_by (λ (note : ThreadNote). length (thread_in (harts_of T turns n 0) note).steps) (notes_of turns) ≤ 65536
       few_rows =
-          let a = sum_by-cons (λ (note : Note). length (thread_in (harts_of T turns n 0) note).steps) (record { process = 1; pc = pc_in turns 0 }) (record { process = 2; pc = pc_in turns 1 } ∷ record { process = 3; pc = pc_in turns 2 } ∷ record { process = 4; pc = pc_in turns 3 } ∷ []) in
-          let b = sum_by-cons (λ (note : Note). length (thread_in (harts_of T turns n 0) note).steps) (record { process = 2; pc = pc_in turns 1 }) (record { process = 3; pc = pc_in turns 2 } ∷ record { process = 4; pc = pc_in turns 3 } ∷ []) in
-          let c = sum_by-cons (λ (note : Note). length (thread_in (harts_of T turns n 0) note).steps) (record { process = 3; pc = pc_in turns 2 }) (record { process = 4; pc = pc_in turns 3 } ∷ []) in
-          let d = sum_by-cons (λ (note : Note). length (thread_in (harts_of T turns n 0) note).steps) (record { process = 4; pc = pc_in turns 3 }) [] in
-          let none : sum_by (λ (note : Note). length (thread_in (harts_of T turns n 0) note).steps) [] ≡ 0 = refl in
+          let a = sum_by-cons (λ (note : ThreadNote). length (thread_in (harts_of T turns n 0) note).steps) (record { process = 1; pc = pc_in turns 0 }) (record { process = 2; pc = pc_in turns 1 } ∷ record { process = 3; pc = pc_in turns 2 } ∷ record { process = 4; pc = pc_in turns 3 } ∷ []) in
+          let b = sum_by-cons (λ (note : ThreadNote). length (thread_in (harts_of T turns n 0) note).steps) (record { process = 2; pc = pc_in turns 1 }) (record { process = 3; pc = pc_in turns 2 } ∷ record { process = 4; pc = pc_in turns 3 } ∷ []) in
+          let c = sum_by-cons (λ (note : ThreadNote). length (thread_in (harts_of T turns n 0) note).steps) (record { process = 3; pc = pc_in turns 2 }) (record { process = 4; pc = pc_in turns 3 } ∷ []) in
+          let d = sum_by-cons (λ (note : ThreadNote). length (thread_in (harts_of T turns n 0) note).steps) (record { process = 4; pc = pc_in turns 3 }) [] in
+          let none : sum_by (λ (note : ThreadNote). length (thread_in (harts_of T turns n 0) note).steps) [] ≡ 0 = refl in
           let rows = four_rows turns playable.threads in
           let few = playable.few in
           omega (arith, a, b, c, d, none, rows, few, rows_told 0, rows_told 1, rows_told 2, rows_told 3)
@@ -167,6 +167,6 @@ module _ (code : List Instr) (T : List ThreadRows) (turns : List Turn) (n : ℕ)
         together = all_of (λ (k : ℕ). k ≡ 0) (begins (harts_of T turns n 0)) (all_begin T turns together n 0);
         apart = apart_at;
         noted = noted_at;
-        joined = All-from_recursion (λ (note : Note). IsJoined (thread_in (harts_of T turns n 0) note) note.pc) (notes_of turns) (joined_at 0, (joined_at 1, (joined_at 2, (joined_at 3, tt))));
+        joined = All-from_recursion (λ (note : ThreadNote). IsThreadJoined (thread_in (harts_of T turns n 0) note) note.pc) (notes_of turns) (joined_at 0, (joined_at 1, (joined_at 2, (joined_at 3, tt))));
         few = few_rows;
       }

@@ -5,7 +5,7 @@ use Rattle.std.proofs.lemmas.Bool.{cases_eq, eq-eqb, ne_eqb, le-leb, lt-leb}
 use Rattle.std.proofs.lemmas.List.Elements.{All-nil, All-cons, All-head, All-tail, filter-append}
 use Rattle.rept_steps.specs.declared.threads.ThreadRows.{ThreadRows}
 use Rattle.rept_turns.specs.declared.turn.Turn.{Turn}
-use Rattle.rept_turns.specs.Turns.{rows_in, AreApart, TakeTime}
+use Rattle.rept_turns.specs.Turns.{rows_in, AreTurnsApart, TakeTime}
 use Rattle.rept_weave.specs.declared.stretch.Stretch.{Stretch}
 use Rattle.rept_slices.specs.Order.{put, by_time}
 use Rattle.rept_slices.proofs.InTime.{Each, each_by_time}
@@ -157,13 +157,13 @@ module _ (T : List ThreadRows) where
   no_pieces zero s before = refl
   no_pieces (suc n) s before = no_pieces n (suc s) before
 
-  later_begin : (n : ℕ) (before : List Turn) (h : Turn) (turns : List Turn) → AreApart (h ∷ turns) → TakeTime (h ∷ turns) → Each (λ (p : Piece). p.stretch.process ≡ h.thread + 1 → h.begin < p.stretch.begin) (all_pieces (before ++ h ∷ []) turns n 0)
+  later_begin : (n : ℕ) (before : List Turn) (h : Turn) (turns : List Turn) → AreTurnsApart (h ∷ turns) → TakeTime (h ∷ turns) → Each (λ (p : Piece). p.stretch.process ≡ h.thread + 1 → h.begin < p.stretch.begin) (all_pieces (before ++ h ∷ []) turns n 0)
   later_begin n before h turns apart long =
       let time = All-head (λ (turn : Turn). turn.begin < turn.end) h turns long in
       each_piece (λ b turn. turn.thread ≡ h.thread → h.end ≤ turn.begin) (λ (p : Piece). p.stretch.process ≡ h.thread + 1 → h.begin < p.stretch.begin)
       (λ b turn late same. let begin = late (omega arith) in omega arith) n 0 (before ++ h ∷ []) turns (after_all (λ (turn : Turn). turn.thread ≡ h.thread → h.end ≤ turn.begin) (before ++ h ∷ []) turns apart.0)
 
-  pub sorted : (t n : ℕ) (before turns : List Turn) → All (λ turn. turn.stream < n) turns → AreApart turns → TakeTime turns → by_time begin_of (of_process (t + 1) (all_pieces before turns n 0)) ≡ own_pieces t before turns
+  pub sorted : (t n : ℕ) (before turns : List Turn) → All (λ turn. turn.stream < n) turns → AreTurnsApart turns → TakeTime turns → by_time begin_of (of_process (t + 1) (all_pieces before turns n 0)) ≡ own_pieces t before turns
   sorted t n before [] streams apart long = ap (λ (ps : List Piece). by_time begin_of (of_process (t + 1) ps)) (no_pieces n 0 before)
   sorted t n before (h ∷ turns) streams apart long =
       let stream = All-head (λ (turn : Turn). turn.stream < n) h turns streams in

@@ -7,24 +7,24 @@ use Rattle.rept_isa.specs.declared.row.StepRow.{StepRow}
 use Rattle.rept_encode.specs.Walkable.{IsWalkable, IsFirstJumpEnd}
 use Rattle.rept_weave.specs.declared.stretch.Stretch.{Stretch}
 use Rattle.rept_weave.specs.declared.fault.Place.{Place}
-use Rattle.rept_weave.specs.Woven.{IsInnerCall, IsAt}
+use Rattle.rept_weave.specs.Woven.{IsInnerCall, IsAtPlace}
 use Rattle.rept_maderuns.specs.Harts.{IsSendable}
 
 found_in : {A : Type 0} (P : A → Type 0) (xs : List A) (i : ℕ) (x : A) → All P xs → slice_get xs i ≡ Some x → P x
 found_in P xs i x all found = subst P (get_or_from_slice_get xs i x x found) (All-get_or P xs i x (slice_get_within xs i x found) all)
 
 module _ (harts : List (List Stretch)) (sendable : All (All (λ (s : Stretch). IsSendable s.steps)) harts) where
-  sent : (place : Place) (P : List StepRow → ℕ → Type 0) (at : IsAt harts place P) → IsSendable at.2.0.steps
+  sent : (place : Place) (P : List StepRow → ℕ → Type 0) (at : IsAtPlace harts place P) → IsSendable at.2.0.steps
   sent place P at = found_in (λ (s : Stretch). IsSendable s.steps) at.0 place.stretch at.2.0 (found_in (All (λ (s : Stretch). IsSendable s.steps)) harts place.hart at.0 sendable at.1) at.2.1
 
-  pub no_inner : (place : Place) → IsAt harts place IsInnerCall → ⊥
+  pub no_inner : (place : Place) → IsAtPlace harts place IsInnerCall → ⊥
   no_inner place at =
       let inner = at.2.2 in
       let early = inner.early in
       let last = (sent place IsInnerCall at).calls place.step inner.row inner.there inner.call in
       omega arith
 
-  pub no_jump : (place : Place) → IsAt harts place IsFirstJumpEnd → ⊥
+  pub no_jump : (place : Place) → IsAtPlace harts place IsFirstJumpEnd → ⊥
   no_jump place at =
       let end = at.2.2.there in
       false≢true (sym ((sent place IsFirstJumpEnd at).near end.before end.jump end.jumps) ∙ end.far)

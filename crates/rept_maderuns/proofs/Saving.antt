@@ -7,12 +7,13 @@ use Rattle.rept_turns.specs.declared.turn.Turn.{Turn}
 use Rattle.rept_turns.specs.Turns.{rows_in}
 use Rattle.rept_play.specs.declared.made.Made.{Made}
 use Rattle.rept_play.specs.declared.score.Sizes.{Sizes}
-use Rattle.rept_play.specs.Made.{IsMade}
+use Rattle.rept_play.specs.Made.{IsPlayMade}
 use Rattle.rept_play.proofs.Turning.{rows_most}
 use Rattle.rept_weave.specs.declared.stretch.Stretch.{Stretch}
 use Rattle.rept_weave.specs.Woven.{IsWoven}
 use Rattle.rept_maderuns.specs.Words.{AreCode}
-use Rattle.rept_maderuns.specs.Files.{executable, core_file}
+use Rattle.rept_make.specs.Files.{executable}
+use Rattle.rept_maderuns.specs.Files.{core_file}
 use Rattle.rept_maderuns.specs.Harts.{harts_of, HaveRows, IsSendable}
 use Rattle.rept_maderuns.specs.Made.{IsMadeRun}
 use Rattle.rept_maderuns.proofs.Sending.{all_sendable}
@@ -21,7 +22,7 @@ pub harts_size : (T : List ThreadRows) (turns : List Turn) (n s : ℕ) → lengt
 harts_size T turns zero s = refl
 harts_size T turns (suc n) s = let rest = harts_size T turns n (suc s) in omega arith
 
-module _ (seed : ℕ) (sizes : Sizes) (made : Made) (m : IsMade seed sizes made) where
+module _ (seed : ℕ) (sizes : Sizes) (made : Made) (m : IsPlayMade seed sizes made) where
   pub few_rows : (t : ℕ) → rows_in t made.turns.items ≤ 65536
   few_rows t = let most = rows_most t made.turns.items in let few = m.playable.few in omega arith
 
@@ -47,13 +48,13 @@ module _ (seed : ℕ) (sizes : Sizes) (made : Made) (m : IsMade seed sizes made)
     pub harts_sendable : All (All (λ (s : Stretch). IsSendable s.steps)) harts
     harts_sendable = subst (All (All (λ (s : Stretch). IsSendable s.steps))) (sym harts_are) (sendable sizes.streams)
 
-    pub made_run : (code : List Instr) (words words_now bytes exe core trace : List ℕ) → code ≡ made.code.items → AreCode code words → words_now ≡ words → exe ≡ executable words_now → bytes ≡ made.played.bytes.items
+    pub made_run : (code : List Instr) (words words_now bytes exe core trace : List ℕ) → code ≡ made.code.items → AreCode code words → words_now ≡ words → exe ≡ executable 256 7 words_now → bytes ≡ made.played.bytes.items
         → core ≡ core_file turns made.played.registers bytes → IsWoven false harts trace → IsMadeRun seed sizes (record { made = made; exe = exe; core = core; trace = trace })
     made_run code words words_now bytes exe core trace code_is spelled words_are exe_is bytes_are core_is woven = record {
       play = m;
       words = words;
       code = subst (λ (is : List Instr). AreCode is words) code_is spelled;
-      exe = exe_is ∙ ap executable words_are;
+      exe = exe_is ∙ ap (executable 256 7) words_are;
       core = core_is ∙ (λ i. core_file (turns_are i) made.played.registers (bytes_are i));
       woven = subst (λ (hs : List (List Stretch)). IsWoven false hs trace) harts_are woven;
     }

@@ -14,8 +14,8 @@ use Rattle.rept_path.specs.Code.{flow_of, jumps_far}
 use Rattle.rept_encode.specs.Walkable.{MayLead, calls, IsStepped}
 use Rattle.rept_turns.specs.declared.turn.Turn.{Turn}
 use Rattle.rept_turns.specs.Turns.{rows_in, slice_by, slices_from}
-use Rattle.rept_play.specs.Shares.{Uses}
-use Rattle.rept_play.specs.Code.{drawn_in, instr_in, row_in, IsCode, CallsLast, IsPlayable}
+use Rattle.rept_play.specs.Shares.{UsesOwn}
+use Rattle.rept_play.specs.Code.{drawn_in, instr_in, row_in, IsPlayCode, CallsLast, IsPlayable}
 use Rattle.rept_play.proofs.Finishing.{jump_in, other_in}
 use Rattle.rept_weave.specs.declared.stretch.Stretch.{Stretch}
 use Rattle.rept_slices.proofs.InTime.{Each}
@@ -30,7 +30,7 @@ unfolding word
 word_back = refl
 
 -- an instruction that uses registers of the thread alone
-uses_leads : (t : ℕ) (instr : Instr) (a : Addresses) → Uses t instr → a.next ≡ following a.from → MayLead false (flow_of instr) a
+uses_leads : (t : ℕ) (instr : Instr) (a : Addresses) → UsesOwn t instr → a.next ≡ following a.from → MayLead false (flow_of instr) a
 uses_leads t (Imm op rd rs1 imm) a own on = on
 uses_leads t (Op op rd rs1 rs2) a own on = on
 uses_leads t (Load op rd rs1 imm) a own on = on
@@ -46,7 +46,7 @@ uses_leads t Ecall a own on = on
 uses_leads t Ebreak a own on = absurd own
 uses_leads t (Counter rd csr) a own on = absurd own
 
-uses_near : (t : ℕ) (instr : Instr) → Uses t instr → (is_call instr ≡ calls (flow_of instr)) × (jumps_far (flow_of instr) ≡ false)
+uses_near : (t : ℕ) (instr : Instr) → UsesOwn t instr → (is_call instr ≡ calls (flow_of instr)) × (jumps_far (flow_of instr) ≡ false)
 uses_near t (Imm op rd rs1 imm) own = (refl, refl)
 uses_near t (Op op rd rs1 rs2) own = (refl, refl)
 uses_near t (Load op rd rs1 imm) own = (refl, refl)
@@ -67,7 +67,7 @@ pub record IsFine (row : StepRow) : Type 0 where
   pub stepped : IsStepped false row
   pub near : jumps_far (flow_of row.instr) ≡ false
 
-module _ (code : List Instr) (slots : IsCode code) (t : ℕ) (few : t < 4) where
+module _ (code : List Instr) (slots : IsPlayCode code) (t : ℕ) (few : t < 4) where
   fine_instr : (i : ℕ) → MayLead false (flow_of (instr_in code t (i % 16))) (addresses_of (row_in code t i)) × ((is_call (instr_in code t (i % 16)) ≡ calls (flow_of (instr_in code t (i % 16)))) × (jumps_far (flow_of (instr_in code t (i % 16))) ≡ false))
   fine_instr i =
       elim (cases_eq (i % 16) 15) [

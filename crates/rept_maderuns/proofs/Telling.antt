@@ -18,14 +18,15 @@ use Rattle.rept_play.specs.declared.score.Sizes.{Sizes}
 use Rattle.rept_play.specs.Shares.{sees}
 use Rattle.rept_play.specs.Code.{row_in}
 use Rattle.rept_play.specs.Drawn.{next_turn, drawn_turns, start_registers}
-use Rattle.rept_play.specs.Played.{IsLeft, IsExecutedFrom}
+use Rattle.rept_play.specs.Played.{IsPlayLeft, IsExecutedFrom}
 use Rattle.rept_weave.specs.declared.stretch.Stretch.{Stretch}
 use Rattle.rept_weave.specs.Woven.{AreStreamsOf}
-use Rattle.rept_slices.specs.Joins.{Note}
-use Rattle.rept_slices.specs.Raw.{note_in, IsRunOf}
+use Rattle.rept_slices.specs.Joins.{ThreadNote}
+use Rattle.rept_slices.specs.Raw.{note_in, IsRunOfFiles}
 use Rattle.rept_woven.specs.Ordered.{begins, dark_of, run_of_harts, thread_in, AreOrdered, HasStretches}
 use Rattle.rept_maderuns.specs.declared.made.MadeRun.{MadeRun}
-use Rattle.rept_maderuns.specs.Files.{core_header, status_of, status_note, saved_of, pc_in}
+use Rattle.rept_make.specs.Files.{core_header, status_of, status_note}
+use Rattle.rept_maderuns.specs.Files.{saved_of, pc_in}
 use Rattle.rept_maderuns.specs.Harts.{steps_in, harts_of}
 use Rattle.rept_maderuns.specs.Made.{IsMadeRun}
 use Rattle.rept_maderuns.specs.Told.{IsEndingOf, IsToldByFiles}
@@ -64,7 +65,7 @@ module _ (a b c d : List ℕ) (P : ℕ → ℕ → Type 0) (s : ℕ)
   in_notes (suc (suc (suc (suc t)))) desc found = absurd (no_desc found)
 
 module _ (seed : ℕ) (sizes : Sizes) (made : MadeRun) (m : IsMadeRun seed sizes made) (some : 1 ≤ sizes.turns) (small : (i : ℕ) → get_or made.made.played.registers i 0 < 2 ^ 32)
-    (whole : (contents : Contents) (file : StreamFile) (notes : List Note) (harts : List (List Stretch)) → AreStreamsOf file.halves harts file.streams → HasStretches (coded file.halves contents) harts → AreOrdered harts notes → IsRunOf (record { contents = contents; file = file; notes = notes; from = 0 }) (run_of_harts harts notes)) where
+    (whole : (contents : Contents) (file : StreamFile) (notes : List ThreadNote) (harts : List (List Stretch)) → AreStreamsOf file.halves harts file.streams → HasStretches (coded file.halves contents) harts → AreOrdered harts notes → IsRunOfFiles (record { contents = contents; file = file; notes = notes; from = 0 }) (run_of_harts harts notes)) where
   abbrev T : List ThreadRows
   T = made.made.played.run.threads
 
@@ -120,8 +121,8 @@ module _ (seed : ℕ) (sizes : Sizes) (made : MadeRun) (m : IsMadeRun seed sizes
   body_size : length (notes_body (saved 0) (saved 1) (saved 2) (saved 3)) ≡ 896
   body_size = notes_size (saved 0) (saved 1) (saved 2) (saved 3) data_bytes (count 0) (count 1) (count 2) (count 3) bytes_size
 
-  core_is : made.core ≡ core_header ++ (notes_body (saved 0) (saved 1) (saved 2) (saved 3) ++ data_bytes)
-  core_is = m.core ∙ ap (λ (xs : List ℕ). core_header ++ xs) (regroup (status_note 1 (saved 0)) (status_note 2 (saved 1)) (status_note 3 (saved 2)) (status_note 4 (saved 3)) data_bytes)
+  core_is : made.core ≡ core_header 896 32 ++ (notes_body (saved 0) (saved 1) (saved 2) (saved 3) ++ data_bytes)
+  core_is = m.core ∙ ap (λ (xs : List ℕ). core_header 896 32 ++ xs) (regroup (status_note 1 (saved 0)) (status_note 2 (saved 1)) (status_note 3 (saved 2)) (status_note 4 (saved 3)) data_bytes)
 
   core_are : segments made.core ≡ note_of (notes_body (saved 0) (saved 1) (saved 2) (saved 3)) ∷ data_of data_bytes ∷ []
   core_are = ap segments core_is ∙ core_segments (notes_body (saved 0) (saved 1) (saved 2) (saved 3)) data_bytes body_size bytes_size
@@ -147,7 +148,7 @@ module _ (seed : ℕ) (sizes : Sizes) (made : MadeRun) (m : IsMadeRun seed sizes
   register_in : (t process s : ℕ) → t < 4 → 0 < s → s < 32 → word_at (status_of process (saved t)) (72 + 4 * s) ≡ cond (sees t s) (get_or registers s 0) 0
   register_in t process s few more less = status_word process (saved t) (count t) (saved_low t few) s less ∙ saved_at t (pc_in turns t) registers s more less
 
-  left : (D : Ending) → IsEndingOf made.exe made.core descs D → IsLeft D made.made.played
+  left : (D : Ending) → IsEndingOf made.exe made.core descs D → IsPlayLeft D made.made.played
   left D ending = record {
     registers = λ t s v more said.
         let e = ending.registers t s v more said in
@@ -174,7 +175,7 @@ module _ (seed : ℕ) (sizes : Sizes) (made : MadeRun) (m : IsMadeRun seed sizes
     file = file;
     streams = m.woven.file;
     run = run_of_harts harts (notes_of turns);
-    told = subst (λ (ns : List Note). IsRunOf (record { contents = of_executable made.exe; file = record { halves = false; streams = m.woven.streams }; notes = ns; from = 0 }) (run_of_harts harts (notes_of turns))) (sym notes_are)
+    told = subst (λ (ns : List ThreadNote). IsRunOfFiles (record { contents = of_executable made.exe; file = record { halves = false; streams = m.woven.streams }; notes = ns; from = 0 }) (run_of_harts harts (notes_of turns))) (sym notes_are)
         (whole (of_executable made.exe) (record { halves = false; streams = m.woven.streams }) (notes_of turns) harts m.woven.each carried ordered);
     played = told_threads;
     none_skipped = refl;

@@ -4,7 +4,7 @@ use Rattle.std.proofs.lemmas.Bool.{cases_eq}
 use Rattle.std.proofs.lemmas.List.Elements.{All-head, All-tail}
 use Rattle.rept_steps.specs.declared.slice.Slice.{Slice}
 use Rattle.rept_turns.specs.declared.turn.Turn.{Turn}
-use Rattle.rept_turns.specs.Turns.{all_rows, rows_in, slice_by, slices_from, AreApart, TakeTime}
+use Rattle.rept_turns.specs.Turns.{all_rows, rows_in, slice_by, slices_from, AreTurnsApart, TakeTime}
 use Rattle.rept_turns.proofs.Places.{rows_own, rows_other}
 use Rattle.rept_turns.proofs.Slices.{slices_own, slices_other}
 
@@ -60,7 +60,7 @@ after_split P all before (h ∷ turns) is w = (w before h turns is, after_split 
 abbrev pub Same : Turn → Turn → Type 0
 Same a b = a.thread ≡ b.thread → a.begin ≡ b.begin → a.stream ≡ b.stream
 
-same_at : (turns : List Turn) (i j : ℕ) (d : Turn) → AreApart turns → TakeTime turns → i < length turns → j < length turns → Same (get_or turns i d) (get_or turns j d)
+same_at : (turns : List Turn) (i j : ℕ) (d : Turn) → AreTurnsApart turns → TakeTime turns → i < length turns → j < length turns → Same (get_or turns i d) (get_or turns j d)
 same_at [] i j d apart long less later = absurd (omega arith)
 same_at (h ∷ turns) zero zero d apart long less later = λ thread begin. refl
 same_at (h ∷ turns) zero (suc j) d apart long less later = λ thread begin.
@@ -73,7 +73,7 @@ same_at (h ∷ turns) (suc i) zero d apart long less later = λ thread begin.
     absurd (omega arith)
 same_at (h ∷ turns) (suc i) (suc j) d apart long less later = same_at turns i j d apart.1 (All-tail (λ (turn : Turn). turn.begin < turn.end) h turns long) (omega arith) (omega arith)
 
-pub all_same : (turns : List Turn) → AreApart turns → TakeTime turns → All (λ a. All (Same a) turns) turns
+pub all_same : (turns : List Turn) → AreTurnsApart turns → TakeTime turns → All (λ a. All (Same a) turns) turns
 all_same turns apart long = λ i d less j e later. subst (λ (x : Turn). Same (get_or turns i d) x) (other turns j d e later) (same_at turns i j d apart long less later)
   where
     other : (xs : List Turn) (k : ℕ) (d e : Turn) → k < length xs → get_or xs k d ≡ get_or xs k e

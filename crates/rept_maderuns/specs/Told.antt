@@ -10,7 +10,7 @@ use Rattle.rept_steps.specs.declared.run.Run.{Run}
 use Rattle.rept_steps.specs.Runs.{course_of}
 use Rattle.rept_order.specs.History.{Ending}
 use Rattle.rept_trace.specs.Streams.{StreamFile, AreStreams}
-use Rattle.rept_slices.specs.Raw.{note_in, IsRunOf}
+use Rattle.rept_slices.specs.Raw.{note_in, IsRunOfFiles}
 use Rattle.rept_play.specs.Drawn.{start_registers}
 use Rattle.rept_play.specs.Played.{IsExecutedFrom}
 use Rattle.rept_maderuns.specs.declared.made.MadeRun.{MadeRun}
@@ -30,7 +30,7 @@ pub record IsToldByFiles (seed : ℕ) (made : MadeRun) : Type 0 where
   pub file : StreamFile
   pub streams : AreStreams made.trace file
   pub run : Run
-  pub told : IsRunOf (record { contents = of_executable made.exe; file = file; notes = map note_in descs; from = 0 }) run
+  pub told : IsRunOfFiles (record { contents = of_executable made.exe; file = file; notes = map note_in descs; from = 0 }) run
   pub played : run.threads ≡ made.made.played.run.threads
   pub none_skipped : run.skipped ≡ 0
   pub execution : (D : Ending) → IsEndingOf made.exe made.core descs D → IsExecutedFrom (start_registers seed) (course_of run) D

@@ -2,7 +2,7 @@
 
 ghost use Rattle.std.specs.Prelude.{◌≡◌, ◌<◌, IfOk};
 ghost use Rattle.rept_isa.specs.Words.{IsWord};
-ghost use Rattle.rept_play.specs.Code.{IsCode, instr_in};
+ghost use Rattle.rept_play.specs.Code.{IsPlayCode, instr_in};
 ghost use Rattle.rept_maderuns.specs.Words.{AreCode};
 
 use rept_isa::{Instr, Reg, encode};
@@ -20,7 +20,7 @@ fn zero() -> Reg
 
 /// The word of a thread's slot: that of its instruction, and in the last one that of the jump back.
 fn word_in(code: &[Instr], thread: u32, slot: u32) -> u32
-    requires code { IsCode code.now }
+    requires code { IsPlayCode code.now }
     requires thread { thread < 4 }
     requires slot { slot < 16 }
     ensures { IsWord result (instr_in code.now thread slot) }
@@ -38,7 +38,7 @@ fn word_in(code: &[Instr], thread: u32, slot: u32) -> u32
 
 /// The words of all four threads, 16 each.
 pub fn words_of(alloc: Global, code: &[Instr]) -> Result<Vec<u32>, OutOfMemory>
-    requires { IsCode code.now }
+    requires { IsPlayCode code.now }
     ensures { IfOk result (λ words. AreCode code.now words.items) }
 {
     let mut words = Vec::new(alloc);

@@ -1,54 +1,16 @@
-//! The executable and the core file.
+//! The core file.
 
 ghost use Rattle.std.specs.Prelude.{◌≡◌, ◌+◌, ◌++◌, ◌<◌, ◌≤◌, ℕ, length, slice_index, suc, if◌then◌else◌, OnOk, IfOk};
 ghost use Rattle.rept_turns.specs.Turns.{rows_in};
 ghost use Rattle.rept_play.specs.Shares.{sees};
-ghost use Rattle.rept_make.specs.Files.{bytes_of_words};
-ghost use Rattle.rept_maderuns.specs.Files.{executable, saved_of, status_note, core_file, pc_in};
+ghost use Rattle.rept_make.specs.Files.{bytes_of_words, status_note};
+ghost use Rattle.rept_maderuns.specs.Files.{saved_of, core_file, pc_in};
 
-use rept_make::push_words;
+use rept_make::{push_core_header, push_note_start};
 use rept_play::rows_in;
 use rept_turns::Turn;
 use rept_word::{OutOfMemory, Text};
 use std::alloc::Global;
-
-/// The header of the executable, and its only program header.
-const EXE_HEADER: [u8; 84] = [
-    0x7f, 0x45, 0x4c, 0x46, 1, 1, 1, 0, 0, 0, 0, 0, 0, 0, 0, 0, 2, 0, 0xf3, 0, 1, 0, 0, 0, 0, 0, 1,
-    0, 0x34, 0, 0, 0, 0, 0, 0, 0, 0, 0, 0, 0, 0x34, 0, 0x20, 0, 1, 0, 0, 0, 0, 0, 0, 0, 1, 0, 0, 0,
-    0x54, 0, 0, 0, 0, 0, 1, 0, 0, 0, 1, 0, 0, 1, 0, 0, 0, 1, 0, 0, 7, 0, 0, 0, 4, 0, 0, 0,
-];
-
-/// The header of the core file, and its two program headers.
-const CORE_HEADER: [u8; 116] = [
-    0x7f, 0x45, 0x4c, 0x46, 1, 1, 1, 0, 0, 0, 0, 0, 0, 0, 0, 0, 4, 0, 0xf3, 0, 1, 0, 0, 0, 0, 0, 0,
-    0, 0x34, 0, 0, 0, 0, 0, 0, 0, 0, 0, 0, 0, 0x34, 0, 0x20, 0, 2, 0, 0, 0, 0, 0, 0, 0, 4, 0, 0, 0,
-    0x74, 0, 0, 0, 0, 0, 0, 0, 0, 0, 0, 0, 0x80, 3, 0, 0, 0, 0, 0, 0, 0, 0, 0, 0, 0, 0, 0, 0, 1, 0,
-    0, 0, 0xf4, 3, 0, 0, 0, 0, 2, 0, 0, 0, 0, 0, 0x20, 0, 0, 0, 0x20, 0, 0, 0, 6, 0, 0, 0, 1, 0, 0,
-    0,
-];
-
-/// A register note up to its process.
-const NOTE_START: [u8; 44] = [
-    5, 0, 0, 0, 0xcc, 0, 0, 0, 1, 0, 0, 0, 0x43, 0x4f, 0x52, 0x45, 0, 0, 0, 0, 0, 0, 0, 0, 0, 0, 0,
-    0, 0, 0, 0, 0, 0x0b, 0, 0, 0, 0, 0, 0, 0, 0, 0, 0, 0,
-];
-
-/// A register note from its process on, up to its registers.
-const NOTE_MIDDLE: [u8; 44] = [
-    0, 0, 0, 0, 0, 0, 0, 0, 0, 0, 0, 0, 0, 0, 0, 0, 0, 0, 0, 0, 0, 0, 0, 0, 0, 0, 0, 0, 0, 0, 0, 0,
-    0, 0, 0, 0, 0, 0, 0, 0, 0, 0, 0, 0,
-];
-
-/// The executable of these words of code.
-pub fn executable(alloc: Global, code: &[u32]) -> Result<Text, OutOfMemory>
-    ensures { IfOk result (λ file. file ≡ executable code.now) }
-{
-    let mut file = Text::new(alloc);
-    file.push(&EXE_HEADER)?;
-    push_words(&mut file, code)?;
-    Ok(file)
-}
 
 /// What a register is to a thread: its own and x17 are those of the machine, others are 0.
 fn share(thread: u32, register: u32, registers: &[u32; 32]) -> u32
@@ -100,9 +62,7 @@ fn push_status(
     requires { thread < 4 }
     ensures { OnOk result (file.new ≡ file.old ++ status_note (thread + 1) (saved_of thread pc registers.now)) }
 {
-    file.push(&NOTE_START)?;
-    file.push(&[thread as u8 + 1, 0, 0, 0])?;
-    file.push(&NOTE_MIDDLE)?;
+    push_note_start(file, thread as u8 + 1)?;
     push_saved(file, thread, pc, registers)?;
     file.push(&[0, 0, 0, 0])?;
     Ok(())
@@ -119,7 +79,7 @@ pub fn core_file(
     ensures { IfOk result (λ file. file ≡ core_file turns.now registers.now saved_bytes.now) }
 {
     let mut file = Text::new(alloc);
-    file.push(&CORE_HEADER)?;
+    push_core_header(&mut file, 896, 32)?;
     push_status(&mut file, 0, pc_in(0, turns), registers)?;
     push_status(&mut file, 1, pc_in(1, turns), registers)?;
     push_status(&mut file, 2, pc_in(2, turns), registers)?;

@@ -1,14 +1,15 @@
 //! A made run as a whole.
 
 ghost use Rattle.std.specs.Prelude.{◌≤◌, ◌<◌, ◌^◌, ℕ, slice_index, IfOk};
-ghost use Rattle.rept_play.specs.Made.{IsMade};
+ghost use Rattle.rept_play.specs.Made.{IsPlayMade};
 ghost use Rattle.rept_maderuns.specs.Made.{IsMadeRun};
 ghost use Rattle.rept_maderuns.specs.Told.{IsToldByFiles};
 
 use crate::code::words_of;
-use crate::files::{core_file, executable};
+use crate::files::core_file;
 use crate::harts::harts_of;
 use crate::trace::trace_of;
+use rept_make::executable;
 use rept_play::{Made, Sizes, make_play};
 use rept_word::{OutOfMemory, Text};
 use rept_woven::laws::runs_are_whole;
@@ -36,7 +37,7 @@ fn are_words(registers: &[u32; 32])
 
 /// The files of a made run.
 fn save(alloc: Global, seed: u32, sizes: Sizes, made: Made) -> Result<MadeRun, OutOfMemory>
-    requires made { IsMade seed sizes made }
+    requires made { IsPlayMade seed sizes made }
     requires streams { 1 ≤ sizes.streams }
     requires few { sizes.streams ≤ 4 }
     requires turns { 1 ≤ sizes.turns }
@@ -47,7 +48,7 @@ fn save(alloc: Global, seed: u32, sizes: Sizes, made: Made) -> Result<MadeRun, O
     are_words(&made.played.registers);
     let turns = made.turns.as_slice();
     let words = words_of(alloc, made.code.as_slice())?;
-    let exe = executable(alloc, words.as_slice())?;
+    let exe = executable(alloc, 256, 7, words.as_slice())?;
     let core = core_file(
         alloc,
         turns,

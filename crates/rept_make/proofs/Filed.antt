@@ -10,7 +10,7 @@ use Rattle.rept_elf.specs.Symbols.{FunctionSymbol}
 use Rattle.rept_elf.specs.Checks.{checks, first_failure}
 use Rattle.rept_elf.specs.declared.fault.Want.TheVariants.{Exec, Core}
 use Rattle.rept_notes.specs.Notes.{Note, AreNotes, HaveNotes, first_note}
-use Rattle.rept_dump.specs.Registers.{Says, only_registers}
+use Rattle.rept_dump.specs.Registers.{SaysRegisters, only_registers}
 use Rattle.std.specs.Option.{option_map, option_or}
 use Rattle.rept_isa.specs.declared.instr.Instr.{Instr}
 use Rattle.rept_isa.specs.Words.{IsWord}
@@ -19,7 +19,7 @@ use Rattle.rept_dump.specs.Memory.{bytes_from, crash_byte, code_at, held_by}
 use Rattle.rept_path.specs.Code.{instruction, words as words_of, look}
 use Rattle.rept_make.specs.Laid.{laid_byte}
 use Rattle.rept_make.proofs.Laying.{off_code}
-use Rattle.rept_make.specs.Files.{bytes_of_words, exe_header, executable, note_start, core_file}
+use Rattle.rept_make.specs.Files.{bytes_of_words, exe_header, executable, note_start, status_of, core_file}
 
 -- words as bytes
 pub length_words : (words : List ℕ) → length (bytes_of_words words) ≡ 4 * length words
@@ -38,15 +38,15 @@ word_there (w ∷ words) more (suc k) lt small =
     rw e h
 
 -- the executable
-pub exe_segments : (words : List ℕ) → length words ≡ 256 → segments (executable words) ≡ record { kind = 1; offset = 84; vaddr = 65536; memsz = 1024; filesz = 1024; flags = 5; body = bytes_of_words words } ∷ []
+pub exe_segments : (words : List ℕ) → length words ≡ 256 → segments (executable 1024 5 words) ≡ record { kind = 1; offset = 84; vaddr = 65536; memsz = 1024; filesz = 1024; flags = 5; body = bytes_of_words words } ∷ []
 exe_segments words size =
     let n : length (bytes_of_words words) ≡ 1024 = (let h = length_words words in omega arith) in
     let t : take 1024 (bytes_of_words words) ≡ bytes_of_words words = rw (← n) (take-length (bytes_of_words words)) in
     ap (λ (b : List ℕ). record { kind = 1; offset = 84; vaddr = 65536; memsz = 1024; filesz = 1024; flags = 5; body = b } ∷ []) t
 
-pub exe_passes : (words : List ℕ) → length words ≡ 256 → first_failure (checks Exec (executable words)) ≡ None
+pub exe_passes : (words : List ℕ) → length words ≡ 256 → first_failure (checks Exec (executable 1024 5 words)) ≡ None
 exe_passes words size =
-    let n : length (executable words) ≡ 1108 = (let h = length_words words in let a = length-append exe_header (bytes_of_words words) in omega arith) in
+    let n : length (executable 1024 5 words) ≡ 1108 = (let h = length_words words in let a = length-append (exe_header 1024 5) (bytes_of_words words) in omega arith) in
     rw n refl
 
 -- prefixes of known length
@@ -65,15 +65,8 @@ drop_front (x ∷ xs) ys m k e =
 abbrev pub zeros : List ℕ
 zeros = 0 ∷ 0 ∷ 0 ∷ 0 ∷ []
 
--- the descriptor up to its registers
-abbrev pub status_start : List ℕ
-status_start = drop 20 note_start
-
-abbrev pub status_of : List ℕ → List ℕ
-status_of registers = status_start ++ (bytes_of_words registers ++ zeros)
-
 abbrev pub note_of : List ℕ → ElfSegment
-note_of registers = record { kind = 4; offset = 116; vaddr = 0; memsz = 0; filesz = 224; flags = 0; body = note_start ++ (bytes_of_words registers ++ zeros) }
+note_of registers = record { kind = 4; offset = 116; vaddr = 0; memsz = 0; filesz = 224; flags = 0; body = note_start 1 ++ (bytes_of_words registers ++ zeros) }
 
 abbrev pub data_of : List ℕ → ElfSegment
 data_of bytes = record { kind = 1; offset = 340; vaddr = 131072; memsz = 1024; filesz = 1024; flags = 6; body = bytes }
@@ -94,7 +87,7 @@ module _ (registers bytes : List ℕ) (count : length registers ≡ 32) (size : 
       let t : take 132 (bytes_of_words registers ++ (0 ∷ 0 ∷ 0 ∷ 0 ∷ bytes)) ≡ bytes_of_words registers ++ zeros = take_front (bytes_of_words registers) (0 ∷ 0 ∷ 0 ∷ 0 ∷ bytes) 132 4 (omega arith) in
       let d : drop 132 (bytes_of_words registers ++ (0 ∷ 0 ∷ 0 ∷ 0 ∷ bytes)) ≡ bytes = drop_front (bytes_of_words registers) (0 ∷ 0 ∷ 0 ∷ 0 ∷ bytes) 132 4 (omega arith) in
       let w : take 1024 bytes ≡ bytes = rw (← size) (take-length bytes) in
-      let f : List ℕ → List ℕ → List ElfSegment = λ a b. record { kind = 4; offset = 116; vaddr = 0; memsz = 0; filesz = 224; flags = 0; body = note_start ++ a } ∷ data_of b ∷ [] in
+      let f : List ℕ → List ℕ → List ElfSegment = λ a b. record { kind = 4; offset = 116; vaddr = 0; memsz = 0; filesz = 224; flags = 0; body = note_start 1 ++ a } ∷ data_of b ∷ [] in
       ap (λ (a : List ℕ). f a (take 1024 (drop 132 (bytes_of_words registers ++ (0 ∷ 0 ∷ 0 ∷ 0 ∷ bytes))))) t ∙ ap (λ (b : List ℕ). f (bytes_of_words registers ++ zeros) (take 1024 b)) d ∙ ap (λ (b : List ℕ). f (bytes_of_words registers ++ zeros) b) w
 
   pub core_passes : first_failure (checks Core (core_file registers bytes)) ≡ None
@@ -113,8 +106,8 @@ module _ (registers bytes : List ℕ) (count : length registers ≡ 32) (size : 
   abbrev note : Note
   note = first_note 116 (note_of registers).body
 
-  desc_is : note.desc ≡ status_of registers
-  desc_is = ap (λ (xs : List ℕ). status_start ++ xs) note_rest
+  desc_is : note.desc ≡ status_of 1 registers
+  desc_is = ap (λ (xs : List ℕ). drop 20 (note_start 1) ++ xs) note_rest
 
   body_size : length (note_of registers).body ≡ 224
   body_size =
@@ -122,26 +115,26 @@ module _ (registers bytes : List ℕ) (count : length registers ≡ 32) (size : 
       let a = length-append (bytes_of_words registers) zeros in
       omega arith
 
-  status_size : length (status_of registers) ≡ 204
+  status_size : length (status_of 1 registers) ≡ 204
   status_size =
       let n = words_size in
       let a = length-append (bytes_of_words registers) zeros in
       omega arith
 
-  pub core_says : Says (length (core_file registers bytes)) (segments (core_file registers bytes)) (Ok (status_of registers))
+  pub core_says : SaysRegisters (length (core_file registers bytes)) (segments (core_file registers bytes)) (Ok (status_of 1 registers))
   core_says =
       let n = core_size in
       let b = body_size in
       let whole : AreNotes 116 (note_of registers).body (note ∷ []) = ([], ((record { header = rw b (omega arith); fits = rw b (omega arith) }), refl, sym note_end), omega arith) in
       let have : HaveNotes (length (core_file registers bytes)) (note_of registers ∷ []) (note ∷ []) = (note ∷ [], [], refl, rw n (omega arith), whole, refl) in
       let long : nat_lt (length note.desc) 204 ≡ false = ap (λ (k : ℕ). nat_lt k 204) (ap (length {A = ℕ}) desc_is ∙ status_size) in
-      let only : only_registers (note ∷ []) ≡ Ok (status_of registers) = rw long (ap (λ (d : List ℕ). Ok d) desc_is) in
-      let said : Says (length (core_file registers bytes)) (note_of registers ∷ data_of bytes ∷ []) (Ok (status_of registers)) = inr (note ∷ [], have, sym only) in
-      subst (λ (ss : List ElfSegment). Says (length (core_file registers bytes)) ss (Ok (status_of registers))) (sym core_segments) said
+      let only : only_registers (note ∷ []) ≡ Ok (status_of 1 registers) = rw long (ap (λ (d : List ℕ). Ok d) desc_is) in
+      let said : SaysRegisters (length (core_file registers bytes)) (note_of registers ∷ data_of bytes ∷ []) (Ok (status_of 1 registers)) = inr (note ∷ [], have, sym only) in
+      subst (λ (ss : List ElfSegment). SaysRegisters (length (core_file registers bytes)) ss (Ok (status_of 1 registers))) (sym core_segments) said
 
-  pub status_word : ((i : ℕ) → get_or registers i 0 < 2 ^ 32) → (i : ℕ) → i < 32 → word_at (status_of registers) (72 + 4 * i) ≡ get_or registers i 0
+  pub status_word : ((i : ℕ) → get_or registers i 0 < 2 ^ 32) → (i : ℕ) → i < 32 → word_at (status_of 1 registers) (72 + 4 * i) ≡ get_or registers i 0
   status_word small i lt =
-      let d : drop (72 + 4 * i) (status_of registers) ≡ drop (4 * i) (bytes_of_words registers ++ zeros) = drop_front status_start (bytes_of_words registers ++ zeros) (72 + 4 * i) (4 * i) refl in
+      let d : drop (72 + 4 * i) (status_of 1 registers) ≡ drop (4 * i) (bytes_of_words registers ++ zeros) = drop_front (drop 20 (note_start 1)) (bytes_of_words registers ++ zeros) (72 + 4 * i) (4 * i) refl in
       ap (λ (xs : List ℕ). little_number 4 xs) d ∙ word_there registers zeros i (omega arith) small
 
 -- What stands at an address of the code.

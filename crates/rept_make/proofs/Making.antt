@@ -13,7 +13,7 @@ use Rattle.rept_elf.specs.Symbols.{FunctionSymbol, symbol_at}
 use Rattle.rept_elf.specs.Checks.{checks, first_failure}
 use Rattle.rept_elf.specs.declared.fault.Want.TheVariants.{Exec, Core}
 use Rattle.rept_dump.specs.Memory.{crash_byte, held_by}
-use Rattle.rept_dump.specs.Registers.{Says}
+use Rattle.rept_dump.specs.Registers.{SaysRegisters}
 use Rattle.rept_machine.specs.State.{State, IsState}
 use Rattle.rept_machine.specs.Step.{HasEffect}
 use Rattle.rept_machine.specs.declared.machine.Machine.{Machine}
@@ -23,23 +23,23 @@ use Rattle.rept_path.specs.Code.{words as words_of}
 use Rattle.rept_path.specs.Rows.{CarriesCode, CarryCode}
 use Rattle.rept_path.proofs.LongRows.{never_short}
 use Rattle.rept_trace.specs.Stream.{plain}
-use Rattle.rept_path.specs.Traced.{IsTraced}
+use Rattle.rept_path.specs.Traced.{IsTracedPath}
 use Rattle.rept_encode.specs.Encoded.{TellsRows}
-use Rattle.rept_make.specs.Files.{bytes_of_words, executable, core_file}
+use Rattle.rept_make.specs.Files.{bytes_of_words, executable, status_of, core_file}
 use Rattle.rept_make.specs.Laid.{laid}
 use Rattle.rept_make.specs.Made.{AreSaved, IsMade}
 use Rattle.rept_make.specs.Near.{Near}
-use Rattle.rept_make.specs.Ran.{Ran}
-use Rattle.rept_make.specs.Run.{IsMadeRun}
+use Rattle.rept_make.specs.Ran.{RanRows}
+use Rattle.rept_make.specs.Run.{AreMadeStates}
 use Rattle.rept_make.specs.Words.{SpellsAt, IsCode}
-use Rattle.rept_make.proofs.Filed.{exe_segments, exe_passes, status_of, core_segments, core_passes, core_says, status_word, note_of, data_of, code_of, look_there, byte_there}
+use Rattle.rept_make.proofs.Filed.{exe_segments, exe_passes, core_segments, core_passes, core_says, status_word, note_of, data_of, code_of, look_there, byte_there}
 use Rattle.rept_make.proofs.Laying.{laid_step}
 use Rattle.rept_make.proofs.Nearness.{near_step}
 
 no_row : StepRow
 no_row = record { at = 0; instr = Fence; next = 0; call = false; short = false }
 
-module _ (seed : ℕ) (words : List ℕ) (code : IsCode seed words) (rows : List StepRow) (run : ℕ → State) (made : IsMadeRun seed rows run) where
+module _ (seed : ℕ) (words : List ℕ) (code : IsCode seed words) (rows : List StepRow) (run : ℕ → State) (made : AreMadeStates seed rows run) where
   spelled_at : (i : ℕ) (row : StepRow) (get : slice_get rows i ≡ Some row) → let m = made.steps i row get in SpellsAt m.slot (get_or words m.slot 0) row.instr
   spelled_at i row get =
       let m = made.steps i row get in
@@ -90,7 +90,7 @@ past [] i le = refl
 past (x ∷ xs) zero le = absurd (omega arith)
 past (x ∷ xs) (suc i) le = past xs i (omega arith)
 
-executes : (functions : ℕ → Option FunctionSymbol) (seed end : ℕ) (words registers bytes last : List ℕ) (code : IsCode seed words) (rows : List StepRow) (run : ℕ → State) → IsMadeRun seed rows run → (next : ℕ) → AreSaved registers bytes next (run (length rows)) → length last ≡ 32 → ((r : ℕ) → 0 < r → r < 32 → get_or last r 0 ≡ get_or registers r 0) → Execution end rows last (crash_byte (held_by (code_of words ∷ []) functions) (note_of registers ∷ data_of bytes ∷ [])) (λ i. laid (bytes_of_words words) (run i))
+executes : (functions : ℕ → Option FunctionSymbol) (seed end : ℕ) (words registers bytes last : List ℕ) (code : IsCode seed words) (rows : List StepRow) (run : ℕ → State) → AreMadeStates seed rows run → (next : ℕ) → AreSaved registers bytes next (run (length rows)) → length last ≡ 32 → ((r : ℕ) → 0 < r → r < 32 → get_or last r 0 ≡ get_or registers r 0) → Execution end rows last (crash_byte (held_by (code_of words ∷ []) functions) (note_of registers ∷ data_of bytes ∷ [])) (λ i. laid (bytes_of_words words) (run i))
 executes functions seed end words registers bytes last code rows run made next saved size same = record {
   states = λ p le. laid_state words (run p) (made.states p le);
   steps = λ i row get.
@@ -105,7 +105,7 @@ executes functions seed end words registers bytes last code rows run made next s
   bytes_end = λ a v h. byte_there words registers bytes (run (length rows)).memory code.size saved.size saved.bytes functions a v h;
 }
 
-pub made_is : (seed : ℕ) (words : List ℕ) (m : Machine) (rows : List StepRow) → IsCode seed words → ((i : ℕ) → get_or words i 0 < 2 ^ 32) → Ran seed words m rows → (exe core trace registers bytes : List ℕ) → exe ≡ executable words → core ≡ core_file registers bytes → length registers ≡ 32 → get_or registers 0 0 ≡ pc_of m → ((r : ℕ) → 0 < r → r < 32 → get_or registers r 0 ≡ (state_of m).register r) → length bytes ≡ 1024 → ((i : ℕ) → i < 1024 → get_or bytes i 0 ≡ (state_of m).memory (131072 + i)) → TellsRows false trace rows → length trace < 2 ^ 32 → IsMade seed (length rows) (record { exe = exe; core = core; trace = trace })
+pub made_is : (seed : ℕ) (words : List ℕ) (m : Machine) (rows : List StepRow) → IsCode seed words → ((i : ℕ) → get_or words i 0 < 2 ^ 32) → RanRows seed words m rows → (exe core trace registers bytes : List ℕ) → exe ≡ executable 1024 5 words → core ≡ core_file registers bytes → length registers ≡ 32 → get_or registers 0 0 ≡ pc_of m → ((r : ℕ) → 0 < r → r < 32 → get_or registers r 0 ≡ (state_of m).register r) → length bytes ≡ 1024 → ((i : ℕ) → i < 1024 → get_or bytes i 0 ≡ (state_of m).memory (131072 + i)) → TellsRows false trace rows → length trace < 2 ^ 32 → IsMade seed (length rows) (record { exe = exe; core = core; trace = trace })
 made_is seed words m rows code small ran exe core trace registers bytes exe_is core_is count pc regs size held tells few =
     let now = ran.now in
     let saved : AreSaved registers bytes (pc_of m) (ran.run (length rows)) = record {
@@ -134,13 +134,13 @@ made_is seed words m rows code small ran exe core trace registers bytes exe_is c
       core = core_is;
       exe_read = ap (λ (f : List ℕ). first_failure (checks Exec f)) exe_is ∙ exe_passes words code.size;
       core_read = ap (λ (f : List ℕ). first_failure (checks Core f)) core_is ∙ core_passes registers bytes count size;
-      status = status_of registers;
-      notes = subst (λ (f : List ℕ). Says (length f) (segments f) (Ok (status_of registers))) (sym core_is) (core_says registers bytes count size);
+      status = status_of 1 registers;
+      notes = subst (λ (f : List ℕ). SaysRegisters (length f) (segments f) (Ok (status_of 1 registers))) (sym core_is) (core_says registers bytes count size);
       last_pc = status_word registers bytes count size fit 0 (omega arith) ∙ pc;
       rest = tells.rest;
       layout = tells.layout;
       few = few;
-      path = subst (λ (ss : List ElfSegment). IsTraced (record { code = words_of (held_by ss (symbol_at exe)); stream = plain false tells.rest; from = 0; pc = pc_of m }) 0 rows) (sym exe_segs) (tells.path (held_by (code_of words ∷ []) (symbol_at exe)) (pc_of m) (carries seed words code rows ran.run ran.made (symbol_at exe) small) ran.ends);
+      path = subst (λ (ss : List ElfSegment). IsTracedPath (record { code = words_of (held_by ss (symbol_at exe)); stream = plain false tells.rest; from = 0; pc = pc_of m }) 0 rows) (sym exe_segs) (tells.path (held_by (code_of words ∷ []) (symbol_at exe)) (pc_of m) (carries seed words code rows ran.run ran.made (symbol_at exe) small) ran.ends);
       execution = λ last count_last same.
           let e = executes (symbol_at exe) seed (greatest_end (segments exe)) words registers bytes last code rows ran.run ran.made (pc_of m) saved count_last (λ r some lt. same r some lt ∙ status_word registers bytes count size fit r lt) in
           subst (λ (ss : List ElfSegment). Execution (greatest_end (segments exe)) rows last (crash_byte (held_by ss (symbol_at exe)) (segments core)) (λ i. laid (bytes_of_words words) (ran.run i))) (sym exe_segs) (subst (λ (cs : List ElfSegment). Execution (greatest_end (segments exe)) rows last (crash_byte (held_by (code_of words ∷ []) (symbol_at exe)) cs) (λ i. laid (bytes_of_words words) (ran.run i))) (sym core_segs) e);

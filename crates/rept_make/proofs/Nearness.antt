@@ -10,7 +10,7 @@ use Rattle.rept_isa.specs.Numbers.{word, plus, following}
 use Rattle.rept_isa.specs.Rows.{of_word}
 use Rattle.rept_machine.specs.State.{State}
 use Rattle.rept_machine.specs.Arithmetic.{computed, computed_imm, branch_holds}
-use Rattle.rept_machine.specs.Step.{Sets, HasEffect}
+use Rattle.rept_machine.specs.Step.{SetsRegister, HasEffect}
 use Rattle.rept_make.specs.Code.{IsTame, IsStraight, IsPlaced}
 use Rattle.rept_make.specs.Near.{Near}
 
@@ -21,16 +21,16 @@ InCode next = (j : ℕ) × (j < 256) × (next ≡ 65536 + 4 * j)
 near_same : (s t : State) → Near s → t.register 17 ≡ s.register 17 → t.register 20 ≡ s.register 20 → t.register 21 ≡ s.register 21 → t.register 22 ≡ s.register 22 → t.register 23 ≡ s.register 23 → Near t
 near_same s t n a b c d e = record { number = a ∙ n.number; place = b ∙ n.place; offset = (let o = n.offset in omega arith); far = n.far; reached = d ∙ n.reached; few = n.few; target = e ∙ n.target }
 
-near_sets : (rd value : ℕ) (s t : State) → Near s → Sets rd value s t → 17 ≢ rd → 20 ≢ rd → 21 ≢ rd → 22 ≢ rd → 23 ≢ rd → Near t
+near_sets : (rd value : ℕ) (s t : State) → Near s → SetsRegister rd value s t → 17 ≢ rd → 20 ≢ rd → 21 ≢ rd → 22 ≢ rd → 23 ≢ rd → Near t
 near_sets rd value s t n w a b c d e = near_same s t n (w.others 17 a) (w.others 20 b) (w.others 21 c) (w.others 22 d) (w.others 23 e)
 
-near_free : (rd value : ℕ) (s t : State) → Near s → Sets rd value s t → rd ≤ 15 → Near t
+near_free : (rd value : ℕ) (s t : State) → Near s → SetsRegister rd value s t → rd ≤ 15 → Near t
 near_free rd value s t n w le = near_sets rd value s t n w (λ e. omega arith) (λ e. omega arith) (λ e. omega arith) (λ e. omega arith) (λ e. omega arith)
 
 follows : (at slot : ℕ) → at ≡ 65536 + 4 * slot → slot < 255 → InCode (following at)
 follows at slot e lt = (slot + 1, omega arith, omega arith)
 
-masked : (value : ℕ) (s t : State) → Near s → Sets 21 value s t → value ≤ 1020 → Near t
+masked : (value : ℕ) (s t : State) → Near s → SetsRegister 21 value s t → value ≤ 1020 → Near t
 masked value s t n w le =
     let v : t.register 21 ≡ value = w.written (λ e. omega arith) in
     record {
@@ -43,7 +43,7 @@ masked value s t n w le =
       target = w.others 23 (λ e. omega arith) ∙ n.target;
     }
 
-added : (value : ℕ) (s t : State) → Near s → Sets 22 value s t → value ≡ (s.register 20 + s.register 21) % 2 ^ 32 → Near t
+added : (value : ℕ) (s t : State) → Near s → SetsRegister 22 value s t → value ≡ (s.register 20 + s.register 21) % 2 ^ 32 → Near t
 added value s t n w is =
     let v : t.register 22 ≡ value = w.written (λ e. omega arith) in
     let p = n.place in
@@ -80,11 +80,11 @@ module _ (at slot next : ℕ) (s t : State) (here : at ≡ 65536 + 4 * slot) (n 
   tame : (instr : Instr) (image_end : ℕ) → IsTame instr → slot < 255 → (slot ≡ 254 → IsStraight instr) → HasEffect instr image_end (of_word at next) s t → Next t next
   tame (Imm op rd rs1 imm) e free lt straight h = elim free [
     | inl f ↦ (near_free rd _ s t n h.result f.1, onward h.onward lt)
-    | inr f ↦ (let w : Sets 21 (computed_imm Andi (s.register rs1) (pos 1020)) s t = subst (λ (r : ℕ). Sets r (computed_imm Andi (s.register rs1) (pos 1020)) s t) f.1 (subst (λ (z : ℤ). Sets rd (computed_imm Andi (s.register rs1) z) s t) f.2 (subst (λ (o : ImmOp). Sets rd (computed_imm o (s.register rs1) imm) s t) f.0 h.result)) in masked _ s t n w (mask_small (s.register rs1)), onward h.onward lt)
+    | inr f ↦ (let w : SetsRegister 21 (computed_imm Andi (s.register rs1) (pos 1020)) s t = subst (λ (r : ℕ). SetsRegister r (computed_imm Andi (s.register rs1) (pos 1020)) s t) f.1 (subst (λ (z : ℤ). SetsRegister rd (computed_imm Andi (s.register rs1) z) s t) f.2 (subst (λ (o : ImmOp). SetsRegister rd (computed_imm o (s.register rs1) imm) s t) f.0 h.result)) in masked _ s t n w (mask_small (s.register rs1)), onward h.onward lt)
   ]
   tame (Op op rd rs1 rs2) e free lt straight h = elim free [
     | inl f ↦ (near_free rd _ s t n h.result f.1, onward h.onward lt)
-    | inr f ↦ (let v : computed op (s.register rs1) (s.register rs2) ≡ (s.register 20 + s.register 21) % 2 ^ 32 = rw (f.0, f.2, f.3) refl in let w : Sets 22 (computed op (s.register rs1) (s.register rs2)) s t = subst (λ (r : ℕ). Sets r (computed op (s.register rs1) (s.register rs2)) s t) f.1 h.result in added _ s t n w v, onward h.onward lt)
+    | inr f ↦ (let v : computed op (s.register rs1) (s.register rs2) ≡ (s.register 20 + s.register 21) % 2 ^ 32 = rw (f.0, f.2, f.3) refl in let w : SetsRegister 22 (computed op (s.register rs1) (s.register rs2)) s t = subst (λ (r : ℕ). SetsRegister r (computed op (s.register rs1) (s.register rs2)) s t) f.1 h.result in added _ s t n w v, onward h.onward lt)
   ]
   tame (Load op rd rs1 imm) e f lt straight h = (let free = f.0 in near_free rd _ s t n h.result free.1, onward h.onward lt)
   tame (Store op rs1 rs2 imm) e f lt straight h = (let r = h.registers in near_same s t n (r 17) (r 20) (r 21) (r 22) (r 23), onward h.onward lt)

@@ -16,7 +16,7 @@ use Rattle.rept_isa.proofs.WordLemmas.{one_instruction}
 use Rattle.rept_steps.specs.Linked.{BeginAt, EndBefore}
 use Rattle.rept_machine.specs.State.{State, IsState}
 use Rattle.rept_machine.specs.declared.machine.Machine.{Machine}
-use Rattle.rept_machine.specs.Machine.{state_of, pc_of, code_of, base_of, next_word, word_of_code, IsNext, IsNotRunnable, Halts}
+use Rattle.rept_machine.specs.Machine.{state_of, pc_of, code_of, base_of, next_word, word_of_code, IsNextInstr, IsNotRunnable, Halts}
 use Rattle.rept_machine.specs.declared.machine.Halt.TheVariants as halt
 use Rattle.rept_machine.specs.Arithmetic.{branch_holds}
 use Rattle.rept_machine.specs.Step.{HasEffect, IsStep}
@@ -25,8 +25,8 @@ use Rattle.rept_path.specs.declared.flow.Flow.{Flow}
 use Rattle.rept_path.specs.Code.{flow_of, jumps_far}
 use Rattle.rept_encode.specs.Walkable.{MayLead, calls, IsStepped, IsJumpEnd}
 use Rattle.rept_make.specs.Code.{made_instr, IsTame, IsPlaced}
-use Rattle.rept_make.specs.Run.{IsMadeRow, IsMadeRun}
-use Rattle.rept_make.specs.Ran.{Ran}
+use Rattle.rept_make.specs.Run.{AreMadeStates, IsMadeRow}
+use Rattle.rept_make.specs.Ran.{RanRows}
 use Rattle.rept_make.specs.Start.{start_registers}
 use Rattle.rept_make.specs.Words.{SpellsAt, IsCode}
 use Rattle.rept_make.proofs.Nearness.{Next, near_step, jump_lands}
@@ -192,7 +192,7 @@ before n run last i le = let t : nat_le i n ≡ true = grind (arith, nat_tests) 
 at_last : (n : ℕ) (run : ℕ → State) (last : State) → longer n run last (n + 1) ≡ last
 at_last n run last = let t : nat_le (n + 1) n ≡ false = grind (arith, nat_tests) in rw t refl
 
-module _ (seed : ℕ) (words : List ℕ) (code : IsCode seed words) (old new : Machine) (rows : List StepRow) (ran : Ran seed words old rows) (row : StepRow) (lawful : (e : ℕ) → IsStep e row (state_of old) (state_of new)) (state : IsState (state_of new)) (picks : Picks row.instr (state_of old) (state_of new)) (at : row.at ≡ pc_of old) (next : pc_of new ≡ row.next) (instr : IsNext old row.instr) (call : IsTrue row.call ↔ (row.instr ≡ Ecall)) (long : row.short ≡ false) (kept : code_of new ≡ code_of old) (base : base_of new ≡ base_of old) where
+module _ (seed : ℕ) (words : List ℕ) (code : IsCode seed words) (old new : Machine) (rows : List StepRow) (ran : RanRows seed words old rows) (row : StepRow) (lawful : (e : ℕ) → IsStep e row (state_of old) (state_of new)) (state : IsState (state_of new)) (picks : Picks row.instr (state_of old) (state_of new)) (at : row.at ≡ pc_of old) (next : pc_of new ≡ row.next) (instr : IsNextInstr old row.instr) (call : IsTrue row.call ↔ (row.instr ≡ Ecall)) (long : row.short ≡ false) (kept : code_of new ≡ code_of old) (base : base_of new ≡ base_of old) where
   there : row.at ≡ 65536 + 4 * ran.slot.0
   there = at ∙ ran.slot.2
 
@@ -240,7 +240,7 @@ module _ (seed : ℕ) (words : List ℕ) (code : IsCode seed words) (old new : M
       let size : length (rows ++ row ∷ []) ≡ length rows + 1 = length-append rows (row ∷ []) in
       rw size (at_last (length rows) ran.run (state_of new))
 
-  run_on : IsMadeRun seed (rows ++ row ∷ []) run
+  run_on : AreMadeStates seed (rows ++ row ∷ []) run
   run_on =
       let m = ran.made in
       let size : length (rows ++ row ∷ []) ≡ length rows + 1 = length-append rows (row ∷ []) in
@@ -300,7 +300,7 @@ module _ (seed : ℕ) (words : List ℕ) (code : IsCode seed words) (old new : M
   push_some [] e = cc
   push_some (x ∷ xs) e = cc
 
-  pub ran_on : EndBefore (rows ++ row ∷ []) row.next → Ran seed words new (rows ++ row ∷ [])
+  pub ran_on : EndBefore (rows ++ row ∷ []) row.next → RanRows seed words new (rows ++ row ∷ [])
   ran_on ends = record {
     code = kept ∙ ran.code;
     base = base ∙ ran.base;
@@ -318,7 +318,7 @@ module _ (seed : ℕ) (words : List ℕ) (code : IsCode seed words) (old new : M
   }
 
 -- Before the first step.
-pub ran_first : (seed : ℕ) (words : List ℕ) (m : Machine) → code_of m ≡ words → base_of m ≡ 65536 → pc_of m ≡ 65536 → ((r : ℕ) → (state_of m).register r ≡ get_or (start_registers seed) r 0) → ((a : ℕ) → (state_of m).memory a ≡ 0) → IsState (state_of m) → Ran seed words m []
+pub ran_first : (seed : ℕ) (words : List ℕ) (m : Machine) → code_of m ≡ words → base_of m ≡ 65536 → pc_of m ≡ 65536 → ((r : ℕ) → (state_of m).register r ≡ get_or (start_registers seed) r 0) → ((a : ℕ) → (state_of m).memory a ≡ 0) → IsState (state_of m) → RanRows seed words m []
 ran_first seed words m code base pc registers memory state = record {
   code = code;
   base = base;
@@ -345,7 +345,7 @@ start_of seed regs v (suc r) is e =
     e ∙ ap (λ (b : Bool). cond b 0 (get_or regs (suc r) 0)) t ∙ ap (λ (xs : List ℕ). get_or xs (suc r) 0) is
 
 -- the machine of a made run halts only where memory is wanting
-module _ (seed : ℕ) (words : List ℕ) (m : Machine) (rows : List StepRow) (code : IsCode seed words) (ran : Ran seed words m rows) where
+module _ (seed : ℕ) (words : List ℕ) (m : Machine) (rows : List StepRow) (code : IsCode seed words) (ran : RanRows seed words m rows) where
   word_next : next_word m ≡ Some (get_or words ran.slot.0 0)
   word_next = ap (λ (xs : List ℕ). word_of_code xs (base_of m) (pc_of m)) ran.code ∙ word_there words ran.slot.0 (pc_of m) (base_of m) code.size ran.slot.1 ran.base ran.slot.2
 

@@ -9,13 +9,13 @@ use Rattle.rept_machine.specs.Machine.{state_of, pc_of, code_of, base_of}
 use Rattle.rept_path.specs.Code.{flow_of, jumps_far}
 use Rattle.rept_encode.specs.Walkable.{IsStepped, IsJumpEnd}
 use Rattle.rept_make.specs.Near.{Near}
-use Rattle.rept_make.specs.Run.{IsMadeRun}
+use Rattle.rept_make.specs.Run.{AreMadeStates}
 
-pub record Ran (seed : ℕ) (words : List ℕ) (m : Machine) (rows : List StepRow) : Type 0 where
+pub record RanRows (seed : ℕ) (words : List ℕ) (m : Machine) (rows : List StepRow) : Type 0 where
   pub code : code_of m ≡ words
   pub base : base_of m ≡ 65536
   pub run : ℕ → State
-  pub made : IsMadeRun seed rows run
+  pub made : AreMadeStates seed rows run
   pub now : run (length rows) ≡ state_of m
   pub near : Near (state_of m)
   pub state : IsState (state_of m)

@@ -21,7 +21,7 @@ pub record IsMadeRow (seed : ℕ) (row : StepRow) (s t : State) : Type 0 where
   pub call : row.call ≡ calls (flow_of row.instr)
   pub long : row.short ≡ false
 
-pub record IsMadeRun (seed : ℕ) (rows : List StepRow) (run : ℕ → State) : Type 0 where
+pub record AreMadeStates (seed : ℕ) (rows : List StepRow) (run : ℕ → State) : Type 0 where
   pub registers : (r : ℕ) → (run 0).register r ≡ slice_index (start_registers seed) r
   pub memory : (a : ℕ) → (run 0).memory a ≡ 0
   pub begin : BeginAt rows 65536

@@ -8,5 +8,5 @@ mod made;
 mod run;
 mod slot;
 
-pub use files::push_words;
-pub use made::{Made, make};
+pub use files::{executable, push_core_header, push_note_start, push_words};
+pub use made::{Made, make, saved_bytes};

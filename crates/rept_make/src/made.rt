@@ -5,7 +5,7 @@ ghost use Rattle.rept_machine.specs.Machine.{state_of, pc_of};
 ghost use Rattle.rept_encode.specs.Walkable.{IsWalkable, IsJumpEnd};
 ghost use Rattle.rept_encode.specs.Encoded.{TellsRows};
 ghost use Rattle.rept_make.specs.Made.{IsMade};
-ghost use Rattle.rept_make.specs.Ran.{Ran};
+ghost use Rattle.rept_make.specs.Ran.{RanRows};
 ghost use Rattle.rept_make.specs.Words.{IsCode};
 
 use crate::code::{made_code, start_registers};
@@ -42,13 +42,14 @@ fn saved_registers(machine: &Machine<'_>) -> [u32; 32]
     saved
 }
 
-/// The data from 0x20000 on.
-fn saved_bytes(alloc: Global, machine: &Machine<'_>) -> Result<Vec<u8>, AllocError>
-    ensures size { IfOk result (λ bytes. length bytes.items ≡ 1024) }
-    ensures bytes { IfOk result (λ bytes. (i : ℕ) → i < 1024 → slice_index bytes.items i ≡ (state_of machine.now).memory (131072 + i)) }
+/// So many bytes of data, from 0x20000 on.
+pub fn saved_bytes(alloc: Global, machine: &Machine<'_>, count: u32) -> Result<Vec<u8>, AllocError>
+    requires { count ≤ 2 ^ 16 }
+    ensures size { IfOk result (λ bytes. length bytes.items ≡ count) }
+    ensures bytes { IfOk result (λ bytes. (i : ℕ) → i < count → slice_index bytes.items i ≡ (state_of machine.now).memory (131072 + i)) }
 {
     let mut bytes = Vec::new(alloc);
-    for i in 0..1024 {
+    for i in 0..count {
         bytes.push(machine.byte(0x20000 + i))?;
     }
     Ok(bytes)
@@ -72,14 +73,14 @@ fn trace_of(alloc: Global, steps: &Steps) -> Result<Text, OutOfMemory>
 
 /// The files of a run.
 fn save(alloc: Global, code: &[u32], run: &Run<'_>) -> Result<Made, OutOfMemory>
-    requires made { (seed : ℕ) × IsCode seed code.now × Ran seed code.now run.now.machine run.now.steps }
+    requires made { (seed : ℕ) × IsCode seed code.now × RanRows seed code.now run.now.machine run.now.steps }
     requires some { 0 < length run.now.steps }
-    ensures { (seed : ℕ) → IsCode seed code.now → Ran seed code.now run.now.machine run.now.steps → IfOk result (λ made. IsMade seed (length run.now.steps) made) }
+    ensures { (seed : ℕ) → IsCode seed code.now → RanRows seed code.now run.now.machine run.now.steps → IfOk result (λ made. IsMade seed (length run.now.steps) made) }
 {
     let trace = trace_of(alloc, &run.steps)?;
-    let exe = executable(alloc, code)?;
+    let exe = executable(alloc, 1024, 5, code)?;
     let registers = saved_registers(&run.machine);
-    let bytes = saved_bytes(alloc, &run.machine)?;
+    let bytes = saved_bytes(alloc, &run.machine, 1024)?;
     let core = core_file(alloc, &registers, bytes.as_slice())?;
     Ok(Made { exe, core, trace })
 }

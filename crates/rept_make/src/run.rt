@@ -2,7 +2,7 @@
 
 ghost use Rattle.std.specs.Prelude.{◌≡◌, ◌+◌, ◌<◌, ◌≤◌, List, ℕ, length, IfOk, OnOk};
 ghost use Rattle.rept_make.specs.Start.{start_registers};
-ghost use Rattle.rept_make.specs.Ran.{Ran};
+ghost use Rattle.rept_make.specs.Ran.{RanRows};
 ghost use Rattle.rept_make.specs.Words.{IsCode};
 
 use rept_machine::{Halt, Machine};
@@ -12,9 +12,9 @@ use std::alloc::{AllocError, Global};
 
 /// Makes one step and notes it. A seed's code never halts, so nothing but memory can be wanting.
 fn step(machine: &mut Machine<'_>, steps: &mut Steps) -> Result<(), OutOfMemory>
-    requires made { (seed : ℕ) × (words : List ℕ) × IsCode seed words × Ran seed words machine.old steps.old }
+    requires made { (seed : ℕ) × (words : List ℕ) × IsCode seed words × RanRows seed words machine.old steps.old }
     requires few { length steps.old < 65536 }
-    ensures ran { OnOk result ((seed : ℕ) (words : List ℕ) → IsCode seed words → Ran seed words machine.old steps.old → Ran seed words machine.new steps.new) }
+    ensures ran { OnOk result ((seed : ℕ) (words : List ℕ) → IsCode seed words → RanRows seed words machine.old steps.old → RanRows seed words machine.new steps.new) }
     ensures size { OnOk result (length steps.new ≡ length steps.old + 1) }
 {
     let row = match machine.step() {
@@ -51,7 +51,7 @@ pub fn make_run<'a>(
     requires code { IsCode seed code.now }
     requires registers { registers ≡ start_registers seed }
     requires few { count ≤ 65536 }
-    ensures ran { IfOk result (λ run. Ran seed code.now run.machine run.steps) }
+    ensures ran { IfOk result (λ run. RanRows seed code.now run.machine run.steps) }
     ensures count { IfOk result (λ run. length run.steps ≡ count) }
 {
     let mut machine = Machine::new(alloc, code, 0x10000, 0x10000, registers);

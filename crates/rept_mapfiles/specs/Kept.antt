@@ -7,7 +7,7 @@ use Rattle.rept_elf.specs.Checks.{checks, first_failure}
 use Rattle.rept_elf.specs.declared.fault.Want.TheVariants.{Shared}
 use Rattle.rept_maps.specs.FileMap.{map_count, names}
 use Rattle.rept_ports.specs.Causes.{Rose, next_count}
-use Rattle.rept_ports.specs.Port.{Move}
+use Rattle.rept_ports.specs.Port.{PortMove}
 use Rattle.rept_ports.specs.Shelves.{Files, Shelved}
 use Rattle.rept_mapfiles.specs.declared.load.LoadStop.{LoadStop}
 use Rattle.rept_mapfiles.specs.declared.load.LoadStop.TheVariants as stops
@@ -84,6 +84,6 @@ loads_after (suc count) loads = next_count (loads_after count loads)
 
 -- Why the files of so many names aren't all loaded: the load of the one at this place failed, where a fault was counted, and no other was asked for after it; or memory
 -- ran out.
-abbrev pub StopsAt : ℕ → LoadStop → Move Shelved → Type 0
-StopsAt names (stops.Failed place) shelf = (place < names) × (shelf.after.loads ≡ loads_after (suc place) shelf.before.loads) × Rose shelf.before.faults shelf.after.faults
-StopsAt names stops.OutOfMemory shelf = (count : ℕ) × (count ≤ names) × (shelf.after.loads ≡ loads_after count shelf.before.loads)
+abbrev pub StopsAtFile : ℕ → LoadStop → PortMove Shelved → Type 0
+StopsAtFile names (stops.Failed place) shelf = (place < names) × (shelf.after.loads ≡ loads_after (suc place) shelf.before.loads) × Rose shelf.before.faults shelf.after.faults
+StopsAtFile names stops.OutOfMemory shelf = (count : ℕ) × (count ≤ names) × (shelf.after.loads ≡ loads_after count shelf.before.loads)

@@ -5,7 +5,7 @@ ghost use Rattle.std.specs.Option.{option_map};
 ghost use Rattle.rept_ports.specs.Causes.{Rose, next_count};
 ghost use Rattle.rept_ports.specs.Port.{move};
 ghost use Rattle.rept_ports.specs.declared.traits.LoadFault.TheVariants.{Failed, OutOfMemory};
-ghost use Rattle.rept_mapfiles.specs.Kept.{is_image, kept_all, kept_by, loads_after, most_in_all, taken, StopsAt};
+ghost use Rattle.rept_mapfiles.specs.Kept.{is_image, kept_all, kept_by, loads_after, most_in_all, taken, StopsAtFile};
 
 use rept_elf::{Image, Want};
 use rept_ports::{LoadFault, Shelf};
@@ -116,7 +116,7 @@ pub fn load_names<H: Shelf>(
     ensures later { (H.port shelf.old).faults ≤ (H.port shelf.new).faults }
     ensures calm { OnOk result (IfSome (H.port shelf.old).files (λ _. (H.port shelf.new).faults ≡ (H.port shelf.old).faults)) }
     ensures once { IfSome (H.port shelf.old).files (λ _. (H.port shelf.new).faults ≤ (H.port shelf.old).faults + 1) }
-    ensures failed { IfErr result (λ stop. StopsAt (length names.now) stop (move (H.port shelf.old) (H.port shelf.new))) }
+    ensures failed { IfErr result (λ stop. StopsAtFile (length names.now) stop (move (H.port shelf.old) (H.port shelf.new))) }
 {
     load_within(alloc, shelf, names, MOST_IN_ALL)
 }
@@ -134,7 +134,7 @@ pub fn load_within<H: Shelf>(
     ensures later { (H.port shelf.old).faults ≤ (H.port shelf.new).faults }
     ensures calm { OnOk result (IfSome (H.port shelf.old).files (λ _. (H.port shelf.new).faults ≡ (H.port shelf.old).faults)) }
     ensures once { IfSome (H.port shelf.old).files (λ _. (H.port shelf.new).faults ≤ (H.port shelf.old).faults + 1) }
-    ensures failed { IfErr result (λ stop. StopsAt (length names.now) stop (move (H.port shelf.old) (H.port shelf.new))) }
+    ensures failed { IfErr result (λ stop. StopsAtFile (length names.now) stop (move (H.port shelf.old) (H.port shelf.new))) }
 {
     let mut kept = Vec::new(alloc);
     let mut room = most;

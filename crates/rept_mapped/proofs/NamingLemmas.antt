@@ -13,7 +13,7 @@ use Rattle.rept_elf.specs.declared.image.Image.{Image}
 use Rattle.rept_elf.specs.declared.symbol.Symbol.{Symbol}
 use Rattle.rept_mapped.proofs.Searches.{slice_get-mappings}
 use Rattle.rept_mapped.specs.Mapped.{Mapping, mapped_symbol, mappings}
-use Rattle.rept_mapped.specs.Naming.{Asked, asked_in, file_at, found_of, in_the_end, is_in, named_at, named_in, or_named, own_of, so_far, some_in, with_file}
+use Rattle.rept_mapped.specs.Naming.{AskedMapped, asked_in, file_at, found_of, in_the_end, is_in, named_at, named_in, or_named, own_of, so_far, some_in, with_file}
 use Rattle.rept_mapped.specs.Views.{asked_of}
 use Rattle.rept_mapped.specs.declared.naming.Sought.{Sought}
 use Rattle.rept_mapped.specs.declared.naming.Home.{Home}
@@ -27,14 +27,14 @@ get_map f (y ∷ ys) zero x h = ap (λ z. Some (f z)) (some_same h)
 get_map f (y ∷ ys) (suc i) x h = get_map f ys i x h
 
 -- what one address is told by the answers to all
-pub by_answer : (file : List ℕ) (mapping : ℕ) (asked : List Asked) (named : List (Option FunctionSymbol)) (i : ℕ) (s : Asked) (n : Option FunctionSymbol)
+pub by_answer : (file : List ℕ) (mapping : ℕ) (asked : List AskedMapped) (named : List (Option FunctionSymbol)) (i : ℕ) (s : AskedMapped) (n : Option FunctionSymbol)
     → named ≡ map (symbol_at file) (map own_of asked) → slice_get asked i ≡ Some s → slice_get named i ≡ Some n → or_named mapping s n ≡ asked_in file mapping s
 by_answer file mapping asked named i s n are at there =
     let e : named ≡ map (λ s. symbol_at file (own_of s)) asked = are ∙ map_two (symbol_at file) own_of asked in
     ap (or_named mapping s) (some_same (sym there ∙ ap (λ ns. slice_get ns i) e ∙ get_map (λ s. symbol_at file (own_of s)) asked i s at))
 
 -- of which addresses nothing changes
-asked_unless : (ms : List Mapping) (i : ℕ) (s : Asked) → is_in i s ≡ false → with_file ms i s ≡ s
+asked_unless : (ms : List Mapping) (i : ℕ) (s : AskedMapped) → is_in i s ≡ false → with_file ms i s ≡ s
 asked_unless ms i s out = ap (λ b. cond b (record { home = s.home; found = option_or s.found (in_the_end ms s) }) s) out
 
 or_false : (a b : Bool) → (a || b) ≡ false → b ≡ false
@@ -45,13 +45,13 @@ or_false_first : (a b : Bool) → (a || b) ≡ false → a ≡ false
 or_false_first true b h = cc
 or_false_first false b h = refl
 
-pub none_in : (ms : List Mapping) (i : ℕ) (asked : List Asked) → some_in i asked ≡ false → asked ≡ map (with_file ms i) asked
+pub none_in : (ms : List Mapping) (i : ℕ) (asked : List AskedMapped) → some_in i asked ≡ false → asked ≡ map (with_file ms i) asked
 none_in ms i [] out = refl
 none_in ms i (s ∷ ss) out =
     ap (λ x. x ∷ ss) (sym (asked_unless ms i s (or_false_first (is_in i s) (some_in i ss) out))) ∙ ap (λ rest. with_file ms i s ∷ rest) (none_in ms i ss (or_false (is_in i s) (some_in i ss) out))
 
 -- where its file is asked, an address has what its mapping's file has
-abbrev sought : Option Home → Option FunctionSymbol → Asked
+abbrev sought : Option Home → Option FunctionSymbol → AskedMapped
 sought home found = record { home = home; found = found }
 
 in_file : (ms : List Mapping) (i : ℕ) (file : List ℕ) (h : Home) → file_at ms i ≡ Some file → (h.mapping == i) ≡ true → named_at ms h ≡ named_in file h
@@ -69,7 +69,7 @@ asked_file : (ms : List Mapping) (i : ℕ) (file : List ℕ) → file_at ms i �
 asked_file ms i file is None found = refl
 asked_file ms i file is (Some h) found = found_in (h.mapping == i) h found (named_in file h) (named_at ms h) (λ at. sym (in_file ms i file h is at))
 
-pub with_image : (ms : List Mapping) (i : ℕ) (file : List ℕ) (asked more : List Asked) → file_at ms i ≡ Some file → more ≡ map (asked_in file i) asked → more ≡ map (with_file ms i) asked
+pub with_image : (ms : List Mapping) (i : ℕ) (file : List ℕ) (asked more : List AskedMapped) → file_at ms i ≡ Some file → more ≡ map (asked_in file i) asked → more ≡ map (with_file ms i) asked
 with_image ms i file asked more is are = are ∙ map_same (asked_in file i) (with_file ms i) (λ s. asked_file ms i file is s.home s.found) asked
 
 no_file : (ms : List Mapping) (i : ℕ) → file_at ms i ≡ None → (h : Home) → (h.mapping == i) ≡ true → named_at ms h ≡ None
@@ -94,7 +94,7 @@ map_kept : {X : Type 0} (f : X → X) → ((x : X) → x ≡ f x) → (xs : List
 map_kept f same [] = refl
 map_kept f same (x ∷ xs) = ap (λ y. y ∷ xs) (same x) ∙ ap (λ rest. f x ∷ rest) (map_kept f same xs)
 
-pub without_image : (ms : List Mapping) (i : ℕ) (asked : List Asked) → file_at ms i ≡ None → asked ≡ map (with_file ms i) asked
+pub without_image : (ms : List Mapping) (i : ℕ) (asked : List AskedMapped) → file_at ms i ≡ None → asked ≡ map (with_file ms i) asked
 without_image ms i asked is = map_kept (with_file ms i) (λ s. without_file ms i is s.home s.found) asked
 
 -- one mapping more
@@ -106,7 +106,7 @@ home_kept ms i (Some h) found = both (h.mapping == i)
     both true = refl
     both false = refl
 
-pub ends_alike : (ms : List Mapping) (i : ℕ) (asked more : List Asked) → more ≡ map (with_file ms i) asked → map (in_the_end ms) more ≡ map (in_the_end ms) asked
+pub ends_alike : (ms : List Mapping) (i : ℕ) (asked more : List AskedMapped) → more ≡ map (with_file ms i) asked → map (in_the_end ms) more ≡ map (in_the_end ms) asked
 ends_alike ms i asked more are = ap (map (in_the_end ms)) are ∙ map_two (in_the_end ms) (with_file ms i) asked ∙ map_same (λ s. in_the_end ms (with_file ms i s)) (in_the_end ms) (λ s. home_kept ms i s.home s.found) asked
 
 farther : (hit below below_next : Bool) (h : Home) (ms : List Mapping) (found : Option FunctionSymbol) → (hit ≡ true → below ≡ false) → (hit ≡ true → below_next ≡ true) → (hit ≡ false → below_next ≡ below)
@@ -143,13 +143,13 @@ cons_first e = cc
 cons_rest : {X : Type 0} {x y : X} {xs ys : List X} → x ∷ xs ≡ y ∷ ys → xs ≡ ys
 cons_rest e = cc
 
-far_with : (ms : List Mapping) (i : ℕ) (asked : List Asked) → map found_of asked ≡ map (so_far ms i) asked → map found_of (map (with_file ms i) asked) ≡ map (so_far ms (i + 1)) (map (with_file ms i) asked)
+far_with : (ms : List Mapping) (i : ℕ) (asked : List AskedMapped) → map found_of asked ≡ map (so_far ms i) asked → map found_of (map (with_file ms i) asked) ≡ map (so_far ms (i + 1)) (map (with_file ms i) asked)
 far_with ms i [] is = refl
 far_with ms i (s ∷ ss) is =
     ap (λ x. x ∷ map found_of (map (with_file ms i) ss)) (one_farther ms i s.home s.found (cons_first is)) ∙ ap (λ rest. so_far ms (i + 1) (with_file ms i s) ∷ rest) (far_with ms i ss (cons_rest is))
 
-pub far_more : (ms : List Mapping) (i : ℕ) (asked more : List Asked) → more ≡ map (with_file ms i) asked → map found_of asked ≡ map (so_far ms i) asked → map found_of more ≡ map (so_far ms (i + 1)) more
-far_more ms i asked more are is = subst (λ (m : List Asked). map found_of m ≡ map (so_far ms (i + 1)) m) (sym are) (far_with ms i asked is)
+pub far_more : (ms : List Mapping) (i : ℕ) (asked more : List AskedMapped) → more ≡ map (with_file ms i) asked → map found_of asked ≡ map (so_far ms i) asked → map found_of more ≡ map (so_far ms (i + 1)) more
+far_more ms i asked more are is = subst (λ (m : List AskedMapped). map found_of m ≡ map (so_far ms (i + 1)) m) (sym are) (far_with ms i asked is)
 
 -- all mappings
 far_all : (ms : List Mapping) (n : ℕ) → length ms ≤ n → (home : Option Home) (found : Option FunctionSymbol) → so_far ms n (sought home found) ≡ in_the_end ms (sought home found)
@@ -163,7 +163,7 @@ far_all ms n enough (Some h) found = either (nat_lt h.mapping n) (λ e. not_belo
     either true past = refl
     either false past = sym (ap (λ m. option_and_then (λ f. named_in f h) (option_and_then (λ (m : Mapping). m.file) m)) (slice_get_past ms h.mapping (omega (arith, enough, past refl))))
 
-pub all_asked : (ms : List Mapping) (n : ℕ) (asked : List Asked) (addresses : List ℕ) (found : List (Option FunctionSymbol)) → length ms ≤ n → found ≡ map found_of asked
+pub all_asked : (ms : List Mapping) (n : ℕ) (asked : List AskedMapped) (addresses : List ℕ) (found : List (Option FunctionSymbol)) → length ms ≤ n → found ≡ map found_of asked
     → map found_of asked ≡ map (so_far ms n) asked → map (in_the_end ms) asked ≡ map (mapped_symbol ms) addresses → found ≡ map (mapped_symbol ms) addresses
 all_asked ms n asked addresses found enough are far ends = are ∙ far ∙ map_same (so_far ms n) (in_the_end ms) (λ s. far_all ms n enough s.home s.found) asked ∙ ends
 

@@ -6,7 +6,7 @@ use Rattle.rept_mapped.specs.Mapped.{Mapping, moved}
 use Rattle.rept_mapped.specs.declared.naming.Home.{Home}
 
 -- an address: where its function is sought, if a file has the address, and what is found
-pub record Asked : Type 0 where
+pub record AskedMapped : Type 0 where
   pub home : Option Home
   pub found : Option FunctionSymbol
 
@@ -27,14 +27,14 @@ abbrev pub named_at : List Mapping → Home → Option FunctionSymbol
 named_at ms h = option_and_then (λ file. named_in file h) (file_at ms h.mapping)
 
 -- what is found in the end
-abbrev pub in_the_end : List Mapping → Asked → Option FunctionSymbol
+abbrev pub in_the_end : List Mapping → AskedMapped → Option FunctionSymbol
 in_the_end ms s = option_and_then (named_at ms) s.home
 
 -- what is found by the files of the mappings below an index
-abbrev pub so_far : List Mapping → ℕ → Asked → Option FunctionSymbol
+abbrev pub so_far : List Mapping → ℕ → AskedMapped → Option FunctionSymbol
 so_far ms i s = option_and_then (λ h. if nat_lt h.mapping i then named_at ms h else None) s.home
 
-abbrev pub found_of : Asked → Option FunctionSymbol
+abbrev pub found_of : AskedMapped → Option FunctionSymbol
 found_of s = s.found
 
 -- whether an address is sought in the file of a mapping
@@ -42,10 +42,10 @@ abbrev pub is_in_home : ℕ → Option Home → Bool
 is_in_home i None = false
 is_in_home i (Some h) = h.mapping == i
 
-abbrev pub is_in : ℕ → Asked → Bool
+abbrev pub is_in : ℕ → AskedMapped → Bool
 is_in i s = is_in_home i s.home
 
-abbrev pub some_in : ℕ → List Asked → Bool
+abbrev pub some_in : ℕ → List AskedMapped → Bool
 some_in i [] = false
 some_in i (s ∷ ss) = is_in i s || some_in i ss
 
@@ -54,17 +54,17 @@ abbrev pub own_at : Option Home → ℕ
 own_at None = 0
 own_at (Some h) = h.own
 
-abbrev pub own_of : Asked → ℕ
+abbrev pub own_of : AskedMapped → ℕ
 own_of s = own_at s.home
 
 -- what is found with a function of the file of a mapping
-abbrev pub or_named : ℕ → Asked → Option FunctionSymbol → Asked
+abbrev pub or_named : ℕ → AskedMapped → Option FunctionSymbol → AskedMapped
 or_named i s symbol = if is_in i s then record { home = s.home; found = option_or s.found (option_and_then (λ h. option_map (moved_home h) symbol) s.home) } else s
 
 -- what is found with the file of a mapping
-abbrev pub asked_in : List ℕ → ℕ → Asked → Asked
+abbrev pub asked_in : List ℕ → ℕ → AskedMapped → AskedMapped
 asked_in file i s = or_named i s (symbol_at file (own_of s))
 
 -- what is found with the mapping of an index
-abbrev pub with_file : List Mapping → ℕ → Asked → Asked
+abbrev pub with_file : List Mapping → ℕ → AskedMapped → AskedMapped
 with_file ms i s = if is_in i s then record { home = s.home; found = option_or s.found (in_the_end ms s) } else s

@@ -3,7 +3,7 @@ use Rattle.std.specs.Option.{option_map}
 use Rattle.rept_elf.specs.Image.{file_of, segment_of}
 use Rattle.rept_mapped.specs.Mapped as mapped
 use Rattle.rept_elf.specs.Symbols.{symbol_of}
-use Rattle.rept_mapped.specs.Naming.{Asked}
+use Rattle.rept_mapped.specs.Naming.{AskedMapped}
 use Rattle.rept_mapped.specs.declared.find.Mapping.{Mapping}
 use Rattle.rept_mapped.specs.declared.find.Spot.{Spot}
 use Rattle.rept_mapped.specs.declared.naming.Sought.{Sought}
@@ -17,5 +17,5 @@ abbrev pub spot_of : Spot → mapped.FileSpot
 spot_of p = record { file = file_of p.image; segment = segment_of p.segment; place = p.place }
 
 -- an address whose function is sought
-abbrev pub asked_of : Sought → Asked
+abbrev pub asked_of : Sought → AskedMapped
 asked_of a = record { home = a.home; found = option_map symbol_of a.found }

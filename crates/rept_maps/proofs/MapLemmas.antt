@@ -4,7 +4,7 @@ use Rattle.std.specs.Prelude.{Option, Some, None, Result, Ok, Err}
 use Rattle.std.specs.List.{filter}
 use Rattle.rept_elf.specs.Segments.{ElfSegment}
 use Rattle.rept_notes.specs.Notes.{Note, note_segments}
-use Rattle.rept_notes.specs.Sought.{Says, Counted, is_sought, head}
+use Rattle.rept_notes.specs.Sought.{SaysOfType, CountedNotes, is_sought, head}
 use Rattle.rept_notes.proofs.NoteLemmas.{same_all, same_cuts, whole_or_cuts}
 use Rattle.rept_maps.specs.FileMap.{file_kind}
 use Rattle.rept_maps.specs.Told.{NoteSays, FirstSays, MapsSay}
@@ -20,17 +20,17 @@ err_same e = cc
 err_or_ok : {T E P : Type 0} {e : E} {t : T} → (let r : Result T E = Err e in r) ≡ Ok t → P
 err_or_ok h = cc
 
-abbrev first_in : Result Counted ℕ → Option Note
+abbrev first_in : Result CountedNotes ℕ → Option Note
 first_in (Ok c) = c.first
 first_in (Err e) = None
 
 -- the notes are cut
-pub cut_says : (size offset : ℕ) (ss : List ElfSegment) → Says file_kind size ss (Err offset) → MapsSay size ss (past_end offset)
+pub cut_says : (size offset : ℕ) (ss : List ElfSegment) → SaysOfType file_kind size ss (Err offset) → MapsSay size ss (past_end offset)
 cut_says size offset ss (inl (place, cut, e)) = inl (place, cut, ap past_end (err_same e))
 cut_says size offset ss (inr (notes, have, e)) = err_or_ok e
 
 -- the notes are whole
-pub first_says : (size count : ℕ) (ss : List ElfSegment) (first : Option Note) (said : Result (List ℕ) MapFault) → Says file_kind size ss (Ok (record { count = count; first = first })) → FirstSays first said → MapsSay size ss said
+pub first_says : (size count : ℕ) (ss : List ElfSegment) (first : Option Note) (said : Result (List ℕ) MapFault) → SaysOfType file_kind size ss (Ok (record { count = count; first = first })) → FirstSays first said → MapsSay size ss said
 first_says size count ss first said (inl (place, cut, e)) f = err_or_ok (sym e)
 first_says size count ss first said (inr (notes, have, e)) f = inr (notes, have, subst (λ o. FirstSays o said) (ap first_in e) f)
 

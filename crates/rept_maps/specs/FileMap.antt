@@ -58,7 +58,7 @@ pub record IsEntry (e : MapEntry) : Type 0 where
   pub text : IsTrue (is_utf8 e.name)
 
 -- the descriptor holds all entries and names, and each entry is one; bytes after the last name are not looked at
-pub record IsMap (desc : List ℕ) : Type 0 where
+pub record IsFileMap (desc : List ℕ) : Type 0 where
   pub header : 8 ≤ length desc
   pub entries : entry_offset (map_count desc) ≤ length desc
   pub ended : map_count desc < length (names desc)

@@ -4,15 +4,15 @@ use Rattle.std.specs.List.{filter}
 use Rattle.rept_elf.specs.Segments.{ElfSegment}
 use Rattle.rept_notes.specs.Notes.{Note, HaveNotes, AreCutAt, note_segments}
 use Rattle.rept_notes.specs.Sought.{is_sought, head}
-use Rattle.rept_maps.specs.FileMap.{IsMap, map_count, file_kind, most_entries}
+use Rattle.rept_maps.specs.FileMap.{IsFileMap, map_count, file_kind, most_entries}
 use Rattle.rept_maps.specs.declared.fault.MapFault.{MapFault}
 use Rattle.rept_maps.specs.declared.fault.MapFault.TheVariants as fault
 
 -- what one note says: its descriptor, or why it is refused
 abbrev pub NoteSays : Note → Result (List ℕ) MapFault → Type 0
 NoteSays note said =
-    ((IsMap note.desc → ⊥) × (said ≡ Err (fault.BadMap note.offset)))
-    ⊎ (IsMap note.desc × (((most_entries < map_count note.desc) × (said ≡ Err (fault.TooManyMaps (map_count note.desc))))
+    ((IsFileMap note.desc → ⊥) × (said ≡ Err (fault.BadMap note.offset)))
+    ⊎ (IsFileMap note.desc × (((most_entries < map_count note.desc) × (said ≡ Err (fault.TooManyMaps (map_count note.desc))))
     ⊎ ((map_count note.desc ≤ most_entries) × (said ≡ Ok note.desc))))
 
 -- what the first file note says

@@ -2,7 +2,7 @@
 
 ghost use Rattle.std.specs.Prelude.{◌≡◌, ◌≤◌, ◌<◌, ◌+◌, ◌*◌, ◌^◌, [], ◌∷◌, length, IsTrue, MatchBool, MatchOption, slice_index_or};
 ghost use Rattle.std.specs.Str.{is_utf8};
-ghost use Rattle.rept_maps.specs.FileMap.{IsEntry, IsMap, parts, names, map_count, entry_offset, entry_named, page_size};
+ghost use Rattle.rept_maps.specs.FileMap.{IsEntry, IsFileMap, parts, names, map_count, entry_offset, entry_named, page_size};
 ghost use Rattle.rept_elf.specs.Header.{word_at};
 
 use rept_elf::{after, first_zero, word};
@@ -84,7 +84,7 @@ fn is_entry(desc: &[u8], i: u32, name: &[u8]) -> bool
 fn are_entries(desc: &[u8]) -> bool
     requires header { 8 ≤ length desc.now }
     requires entries { entry_offset (map_count desc.now) ≤ length desc.now }
-    ensures { MatchBool result (IsMap desc.now) (IsMap desc.now → ⊥) }
+    ensures { MatchBool result (IsFileMap desc.now) (IsFileMap desc.now → ⊥) }
 {
     let count = word(desc, 0);
     let mut rest = after(desc, HEADER_SIZE + ENTRY_SIZE * count as usize);
@@ -103,7 +103,7 @@ fn are_entries(desc: &[u8]) -> bool
 
 /// Whether the descriptor of a file note holds all entries and names, each is ordered and each name text.
 pub fn is_map(desc: &[u8]) -> bool
-    ensures { MatchBool result (IsMap desc.now) (IsMap desc.now → ⊥) }
+    ensures { MatchBool result (IsFileMap desc.now) (IsFileMap desc.now → ⊥) }
 {
     if desc.len() < HEADER_SIZE {
         return false;
@@ -117,7 +117,7 @@ pub fn is_map(desc: &[u8]) -> bool
 
 /// The name of this index.
 pub fn name_at(desc: &[u8], i: u32) -> &str
-    requires map { IsMap desc.now }
+    requires map { IsFileMap desc.now }
     requires index { i < map_count desc.now }
     ensures { result.now ≡ slice_index_or (names desc.now) i [] }
 {

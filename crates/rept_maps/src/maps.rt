@@ -3,7 +3,7 @@
 ghost use Rattle.std.specs.Prelude.{◌≡◌, ◌≤◌, ◌<◌, ◌+◌, ◌^◌, ℕ, List, Result, length};
 ghost use Rattle.rept_elf.specs.Image.{file_of, segments_of};
 ghost use Rattle.rept_notes.specs.Found.{note_of};
-ghost use Rattle.rept_maps.specs.FileMap.{IsMap, map_count, most_entries};
+ghost use Rattle.rept_maps.specs.FileMap.{IsFileMap, map_count, most_entries};
 
 use crate::entry::{Entry, Place, is_map, name_at, place_at};
 use crate::fault::MapFault;
@@ -21,7 +21,7 @@ const MOST_ENTRIES: u32 = 4096;
 #[derive(Clone, Copy)]
 pub struct Maps<'a> {
     desc: &'a [u8],
-    ghost whole: { IsMap desc.now },
+    ghost whole: { IsFileMap desc.now },
     ghost few: { map_count desc.now ≤ most_entries },
 }
 

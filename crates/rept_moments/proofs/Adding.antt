@@ -14,15 +14,15 @@ use Rattle.rept_order.specs.Legs.{points_before, number_of, leg_row}
 use Rattle.rept_course.specs.Numbered.{row_on}
 use Rattle.rept_moments.specs.declared.side.Side.{Side}
 use Rattle.rept_moments.specs.Points.{points_in}
-use Rattle.rept_moments.specs.Ordering.{moment_at, event_at}
+use Rattle.rept_moments.specs.Ordering.{moment_at_side, event_at}
 use Rattle.rept_moments.specs.Writers.{not_past}
 use Rattle.rept_moments.specs.Merging.{merged_at}
 use Rattle.rept_moments.specs.Numbers.{numbers_of}
-use Rattle.rept_moments.specs.Nexts.{offers_at, is_first_later, first_offer, nexts_of, merged_nexts, point_nexts, side_nexts, last_nexts, ends_to, Member, Adds}
+use Rattle.rept_moments.specs.Nexts.{offers_at, is_first_later, first_offer, nexts_of, merged_nexts, point_nexts, side_nexts, last_nexts, ends_to, Member, AddsOthers}
 use Rattle.rept_moments.proofs.Places.{next_thread, points_most}
 use Rattle.rept_moments.proofs.Offers.{member_left, member_right, member_parts}
 
-pub adds_as : (own : ℕ) (P Q : ℕ → Type 0) (old new : List ℕ) → ((v : ℕ) → P v → Q v) → ((v : ℕ) → Q v → P v) → Adds own P old new → Adds own Q old new
+pub adds_as : (own : ℕ) (P Q : ℕ → Type 0) (old new : List ℕ) → ((v : ℕ) → P v → Q v) → ((v : ℕ) → Q v → P v) → AddsOthers own P old new → AddsOthers own Q old new
 adds_as own P Q old new to from its v = (forth, back)
   where
     forth : Contains new v → Contains old v ⊎ (Q v × (v ≢ own))
@@ -37,7 +37,7 @@ adds_as own P Q old new to from its v = (forth, back)
     back (inr k) = (its v).1 (inr (from v k.0, k.1))
 
 -- nothing was added
-pub adds_none : (own : ℕ) (Is : ℕ → Type 0) (old : List ℕ) → ((v : ℕ) → Is v → ⊥) → Adds own Is old old
+pub adds_none : (own : ℕ) (Is : ℕ → Type 0) (old : List ℕ) → ((v : ℕ) → Is v → ⊥) → AddsOthers own Is old old
 adds_none own Is old none v = (λ h. inl h, back)
   where
     back : Contains old v ⊎ (Is v × (v ≢ own)) → Contains old v
@@ -45,7 +45,7 @@ adds_none own Is old none v = (λ h. inl h, back)
     back (inr k) = absurd (none v k.0)
 
 -- first these and then those
-pub adds_both : (own : ℕ) (P Q R : ℕ → Type 0) (start old new : List ℕ) → ((v : ℕ) → P v ⊎ Q v → R v) → ((v : ℕ) → R v → P v ⊎ Q v) → Adds own P start old → Adds own Q old new → Adds own R start new
+pub adds_both : (own : ℕ) (P Q R : ℕ → Type 0) (start old new : List ℕ) → ((v : ℕ) → P v ⊎ Q v → R v) → ((v : ℕ) → R v → P v ⊎ Q v) → AddsOthers own P start old → AddsOthers own Q old new → AddsOthers own R start new
 adds_both own P Q R start old new to from first second v = (forth, back)
   where
     forth : Contains new v → Contains start v ⊎ (R v × (v ≢ own))
@@ -67,12 +67,12 @@ adds_both own P Q R start old new to from first second v = (forth, back)
           | inr j ↦ (second v).1 (inr (j, k.1))
         ]
 
-pub adds_lists : (own : ℕ) (xs ys start old new : List ℕ) → Adds own (Member xs) start old → Adds own (Member ys) old new → Adds own (Member (xs ++ ys)) start new
+pub adds_lists : (own : ℕ) (xs ys start old new : List ℕ) → AddsOthers own (Member xs) start old → AddsOthers own (Member ys) old new → AddsOthers own (Member (xs ++ ys)) start new
 adds_lists own xs ys start old new = adds_both own (Member xs) (Member ys) (Member (xs ++ ys)) start old new (λ v h. elim h [ inl k ↦ member_left xs ys v k | inr k ↦ member_right xs ys v k ]) (λ v h. member_parts xs ys v h)
 
 -- one number
-pub adds_one : (own n : ℕ) (old new : List ℕ) → n ≢ own → new ≡ old ++ n ∷ [] → Adds own (Member (n ∷ [])) old new
-adds_one own n old new other same = subst (λ (xs : List ℕ). Adds own (Member (n ∷ [])) old xs) (sym same) (λ v. (forth v, back v))
+pub adds_one : (own n : ℕ) (old new : List ℕ) → n ≢ own → new ≡ old ++ n ∷ [] → AddsOthers own (Member (n ∷ [])) old new
+adds_one own n old new other same = subst (λ (xs : List ℕ). AddsOthers own (Member (n ∷ [])) old xs) (sym same) (λ v. (forth v, back v))
   where
     forth : (v : ℕ) → Contains (old ++ n ∷ []) v → Contains old v ⊎ (Member (n ∷ []) v × (v ≢ own))
     forth v h =
@@ -86,7 +86,7 @@ adds_one own n old new other same = subst (λ (xs : List ℕ). Adds own (Member 
     back v (inr (inl e, out)) = subst (λ (k : ℕ). Contains (old ++ n ∷ []) k) e (Contains-push old n)
     back v (inr (inr k, out)) = absurd k
 
-pub adds_own : (own n : ℕ) (old : List ℕ) → n ≡ own → Adds own (Member (n ∷ [])) old old
+pub adds_own : (own n : ℕ) (old : List ℕ) → n ≡ own → AddsOthers own (Member (n ∷ [])) old old
 adds_own own n old same v = (λ h. inl h, back)
   where
     back : Contains old v ⊎ (Member (n ∷ []) v × (v ≢ own)) → Contains old v
@@ -95,29 +95,29 @@ adds_own own n old same v = (λ h. inl h, back)
     back (inr (inr k, out)) = absurd k
 
 -- the same list by another name
-pub adds_same : (own : ℕ) (xs ys old new : List ℕ) → xs ≡ ys → Adds own (Member xs) old new → Adds own (Member ys) old new
-adds_same own xs ys old new same its = subst (λ (zs : List ℕ). Adds own (Member zs) old new) same its
+pub adds_same : (own : ℕ) (xs ys old new : List ℕ) → xs ≡ ys → AddsOthers own (Member xs) old new → AddsOthers own (Member ys) old new
+adds_same own xs ys old new same its = subst (λ (zs : List ℕ). AddsOthers own (Member zs) old new) same its
 
-pub in_time_then : (C : Course) (last : Option ℕ) (x : Side) (b n : ℕ) (p : Bool) → b ≡ begin_of C (event_at C x) → n ≡ (numbers_of C).name (moment_at C x) → p ≡ not_past last b → p ≡ true → n ∷ [] ≡ offers_at C last (Some x)
+pub in_time_then : (C : Course) (last : Option ℕ) (x : Side) (b n : ℕ) (p : Bool) → b ≡ begin_of C (event_at C x) → n ≡ (numbers_of C).name (moment_at_side C x) → p ≡ not_past last b → p ≡ true → n ∷ [] ≡ offers_at C last (Some x)
 in_time_then C last x b n p begin name is holds =
     let test : not_past last (begin_of C (event_at C x)) ≡ true = sym (is ∙ ap (not_past last) begin) ∙ holds in
-    ap (λ (k : ℕ). k ∷ []) name ∙ sym (ap (λ (q : Bool). cond q ((numbers_of C).name (moment_at C x) ∷ []) []) test)
+    ap (λ (k : ℕ). k ∷ []) name ∙ sym (ap (λ (q : Bool). cond q ((numbers_of C).name (moment_at_side C x) ∷ []) []) test)
 
 pub in_time_else : (C : Course) (last : Option ℕ) (x : Side) (b : ℕ) (p : Bool) → b ≡ begin_of C (event_at C x) → p ≡ not_past last b → p ≡ false → [] ≡ offers_at C last (Some x)
 in_time_else C last x b p begin is fails =
     let test : not_past last (begin_of C (event_at C x)) ≡ false = sym (is ∙ ap (not_past last) begin) ∙ fails in
-    sym (ap (λ (q : Bool). cond q ((numbers_of C).name (moment_at C x) ∷ []) []) test)
+    sym (ap (λ (q : Bool). cond q ((numbers_of C).name (moment_at_side C x) ∷ []) []) test)
 
-pub later_then : (C : Course) (s x : Side) (n : ℕ) (p : Bool) → n ≡ (numbers_of C).name (moment_at C x) → p ≡ is_first_later C s x → p ≡ true → n ∷ [] ≡ first_offer C s x
-later_then C s x n p name is holds = ap (λ (k : ℕ). k ∷ []) name ∙ sym (ap (λ (q : Bool). cond q ((numbers_of C).name (moment_at C x) ∷ []) []) (sym is ∙ holds))
+pub later_then : (C : Course) (s x : Side) (n : ℕ) (p : Bool) → n ≡ (numbers_of C).name (moment_at_side C x) → p ≡ is_first_later C s x → p ≡ true → n ∷ [] ≡ first_offer C s x
+later_then C s x n p name is holds = ap (λ (k : ℕ). k ∷ []) name ∙ sym (ap (λ (q : Bool). cond q ((numbers_of C).name (moment_at_side C x) ∷ []) []) (sym is ∙ holds))
 
 pub later_else : (C : Course) (s x : Side) (p : Bool) → p ≡ is_first_later C s x → p ≡ false → [] ≡ first_offer C s x
-later_else C s x p is fails = sym (ap (λ (q : Bool). cond q ((numbers_of C).name (moment_at C x) ∷ []) []) (sym is ∙ fails))
+later_else C s x p is fails = sym (ap (λ (q : Bool). cond q ((numbers_of C).name (moment_at_side C x) ∷ []) []) (sym is ∙ fails))
 
-pub ends_more : (C : Course) (own : ℕ) (start old new : List ℕ) (t : ℕ) → Adds own (Member (ends_to C t)) start old → Adds own (Member (last_nexts C t (length (rows_of C t)))) old new → Adds own (Member (ends_to C (t + 1))) start new
+pub ends_more : (C : Course) (own : ℕ) (start old new : List ℕ) (t : ℕ) → AddsOthers own (Member (ends_to C t)) start old → AddsOthers own (Member (last_nexts C t (length (rows_of C t)))) old new → AddsOthers own (Member (ends_to C (t + 1))) start new
 ends_more C own start old new t was e =
     let one : suc t ≡ t + 1 = omega arith in
-    subst (λ (k : ℕ). Adds own (Member (ends_to C k)) start new) one (adds_lists own (ends_to C t) (last_nexts C t (length (rows_of C t))) start old new was e)
+    subst (λ (k : ℕ). AddsOthers own (Member (ends_to C k)) start new) one (adds_lists own (ends_to C t) (last_nexts C t (length (rows_of C t))) start old new was e)
 
 pub merged_then : (C : Course) (g : ℕ) (b : Bool) → b ≡ merged_at C g → b ≡ true → nexts_of C (after (row_on C g)) ≡ merged_nexts C g
 merged_then C g b is holds = sym (ap (λ (q : Bool). cond q (nexts_of C (after (row_on C g))) []) (sym is ∙ holds))
@@ -129,15 +129,15 @@ pub point_more : (C : Course) (p : ℕ) → p ≢ 0 → merged_nexts C (p - 1) �
 point_more C zero other = absurd (other refl)
 point_more C (suc p) other = ap (merged_nexts C) (omega arith)
 
-pub side_then : (C : Course) (own : ℕ) (x : Side) (start old : List ℕ) → x.is_after ≡ true → Adds own (Member (nexts_of C (moment_at C x))) start old → Adds own (Member (side_nexts C x)) start old
-side_then C own x start old is its = adds_lists own (nexts_of C (moment_at C x)) (cond x.is_after [] (point_nexts C x.point)) start old old its (adds_none own (Member (cond x.is_after [] (point_nexts C x.point))) old (λ v h. none x.is_after is v h))
+pub side_then : (C : Course) (own : ℕ) (x : Side) (start old : List ℕ) → x.is_after ≡ true → AddsOthers own (Member (nexts_of C (moment_at_side C x))) start old → AddsOthers own (Member (side_nexts C x)) start old
+side_then C own x start old is its = adds_lists own (nexts_of C (moment_at_side C x)) (cond x.is_after [] (point_nexts C x.point)) start old old its (adds_none own (Member (cond x.is_after [] (point_nexts C x.point))) old (λ v h. none x.is_after is v h))
   where
     none : (b : Bool) → b ≡ true → (v : ℕ) → Member (cond b [] (point_nexts C x.point)) v → ⊥
     none true e v h = h
     none false e v h = absurd (Rattle.std.proofs.lemmas.Bool.false≢true e)
 
-pub side_else : (C : Course) (own : ℕ) (x : Side) (start old new : List ℕ) → x.is_after ≡ false → Adds own (Member (nexts_of C (moment_at C x))) start old → Adds own (Member (point_nexts C x.point)) old new → Adds own (Member (side_nexts C x)) start new
-side_else C own x start old new is its more = adds_lists own (nexts_of C (moment_at C x)) (cond x.is_after [] (point_nexts C x.point)) start old new its (adds_same own (point_nexts C x.point) (cond x.is_after [] (point_nexts C x.point)) old new (sym (ap (λ (b : Bool). cond b [] (point_nexts C x.point)) is)) more)
+pub side_else : (C : Course) (own : ℕ) (x : Side) (start old new : List ℕ) → x.is_after ≡ false → AddsOthers own (Member (nexts_of C (moment_at_side C x))) start old → AddsOthers own (Member (point_nexts C x.point)) old new → AddsOthers own (Member (side_nexts C x)) start new
+side_else C own x start old new is its more = adds_lists own (nexts_of C (moment_at_side C x)) (cond x.is_after [] (point_nexts C x.point)) start old new its (adds_same own (point_nexts C x.point) (cond x.is_after [] (point_nexts C x.point)) old new (sym (ap (λ (b : Bool). cond b [] (point_nexts C x.point)) is)) more)
 
 pub rows_inside : (C : Course) (t n : ℕ) → t < length C.threads → n ≡ length (rows_of C t) → points_before C.threads t + n < points_in C
 rows_inside C t n below rows =
@@ -160,8 +160,8 @@ last_some C t n g rows some first =
 pub merged_leads : (C : Course) (g : ℕ) (b : Bool) → b ≡ merged_at C g → b ≡ true → IsSome (leg_row C g)
 merged_leads C g b is holds = (and_parts (is_some (leg_row C g)) (is_still C (stretch (after (row_on C g)) (next_point C (row_on C g)))) (sym is ∙ holds)).0
 
-pub name_then : (C : Course) (x : Side) (k : ℕ) → x.is_after ≡ true → k ≡ (numbers_of C).name (after (row_on C x.point)) → k ≡ (numbers_of C).name (moment_at C x)
+pub name_then : (C : Course) (x : Side) (k : ℕ) → x.is_after ≡ true → k ≡ (numbers_of C).name (after (row_on C x.point)) → k ≡ (numbers_of C).name (moment_at_side C x)
 name_then C x k is e = e ∙ sym (ap (λ (b : Bool). (numbers_of C).name (beside_by (row_on C x.point) b)) is)
 
-pub name_else : (C : Course) (x : Side) (k : ℕ) → x.is_after ≡ false → k ≡ (numbers_of C).name (before (row_on C x.point)) → k ≡ (numbers_of C).name (moment_at C x)
+pub name_else : (C : Course) (x : Side) (k : ℕ) → x.is_after ≡ false → k ≡ (numbers_of C).name (before (row_on C x.point)) → k ≡ (numbers_of C).name (moment_at_side C x)
 name_else C x k is e = e ∙ sym (ap (λ (b : Bool). (numbers_of C).name (beside_by (row_on C x.point) b)) is)

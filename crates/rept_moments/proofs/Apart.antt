@@ -2,14 +2,14 @@
 use Rattle.std.proofs.Common.{◌≡◌, ◌≢◌, ℕ, suc, eqb, Bool, true, false, List, Option, Some, None, inl, inr, refl, sym, ap, ◌∙◌, arith}
 use Rattle.std.proofs.lemmas.Bool.{ne_eqb}
 use Rattle.rept_isa.specs.declared.row.StepRow.{StepRow}
-use Rattle.rept_steps.specs.Course.{Course, Row, row_of, IsRow, IsSound}
+use Rattle.rept_steps.specs.Course.{Course, Row, row_of, IsRow, IsSoundCourse}
 use Rattle.rept_order.specs.Moments.{Moment, Stretch, stretch, ArePause}
 use Rattle.rept_order.specs.Moments.Moment.{before, after, at_end}
 use Rattle.rept_order.specs.Moments.ArePause.{between, last}
 use Rattle.rept_span.specs.Ranges.{AreLegs}
 use Rattle.rept_report.specs.Moments.{AreMoments}
 use Rattle.rept_report.proofs.OneThread.{rows_within, are_points}
-use Rattle.rept_course.specs.Names.{Names, AreNames}
+use Rattle.rept_course.specs.Names.{MomentNames, AreNames}
 use Rattle.rept_course.proofs.Naming.{are_legs, are_moments}
 use Rattle.rept_course.proofs.Making.{are_names_by}
 use Rattle.rept_moments.specs.Ordering.{in_order}
@@ -47,7 +47,7 @@ no_return C r x is (between t i less same) =
 no_return C r x is (last t i all same) = before_end (ap (λ (y : Stretch). y.to) (sym is ∙ same))
 
 -- the moments of one row have two names
-two_names : (C : Course) (N : Names) → AreNames C N → (r : Row) → IsRow C r → N.name (before r) ≢ N.name (after r)
+two_names : (C : Course) (N : MomentNames) → AreNames C N → (r : Row) → IsRow C r → N.name (before r) ≢ N.name (after r)
 two_names C N names r is same =
     elim (names.own (before r) is) [
       | inr one ↦ no_pause C r (N.last (N.name (before r))) (stretch (before r) (N.last (N.name (before r)))) refl one.pause
@@ -62,10 +62,10 @@ kept_link : (b : Bool) (o : Option Stretch) (x : Stretch) → unless b o ≡ Som
 kept_link true o x e = absurd (none_some e)
 kept_link false o x e = e
 
-other_link : (N : Names) (m w : ℕ) → m ≢ w → (apart N).link m w ≡ N.link m w
+other_link : (N : MomentNames) (m w : ℕ) → m ≢ w → (apart N).link m w ≡ N.link m w
 other_link N m w other = ap (λ (b : Bool). unless b (N.link m w)) (ne_eqb m w other)
 
-pub are_apart : (C : Course) (N : Names) → AreNames C N → AreNames C (apart N)
+pub are_apart : (C : Course) (N : MomentNames) → AreNames C N → AreNames C (apart N)
 are_apart C N names = record {
   one = names.one;
   own = names.own;
@@ -77,19 +77,19 @@ are_apart C N names = record {
   rows = λ r is plain. other_link N (N.name (before r)) (N.name (after r)) (two_names C N names r is) ∙ names.rows r is plain;
 }
 
-pub are_numbers : (C : Course) → IsSound C → AreNames C (numbers_of C)
+pub are_numbers : (C : Course) → IsSoundCourse C → AreNames C (numbers_of C)
 are_numbers C sound = are_apart C _ (are_names_by C sound (in_order C) (are_listed C))
 
 legs_by : (C : Course) (o : Option (List StepRow)) → AreLegs (seen_by C o).legs
 legs_by C (Some rows) = rows_within rows
 legs_by C None = are_legs C
 
-moments_by : (C : Course) → IsSound C → (o : Option (List StepRow)) → AreMoments (seen_by C o).legs (seen_by C o).moments
+moments_by : (C : Course) → IsSoundCourse C → (o : Option (List StepRow)) → AreMoments (seen_by C o).legs (seen_by C o).moments
 moments_by C sound (Some rows) = are_points rows
 moments_by C sound None = are_moments C sound (numbers_of C) (are_numbers C sound)
 
 pub legs_seen : (C : Course) → AreLegs (seen C).legs
 legs_seen C = legs_by C (alone_by C.threads C.dark)
 
-pub moments_seen : (C : Course) → IsSound C → AreMoments (seen C).legs (seen C).moments
+pub moments_seen : (C : Course) → IsSoundCourse C → AreMoments (seen C).legs (seen C).moments
 moments_seen C sound = moments_by C sound (alone_by C.threads C.dark)

@@ -231,19 +231,3 @@ lowering_step old items new place least next b some its read lower e =
 
 pub lowering_end : (old items : List Begun) (place : ℕ) (least : Option ℕ) → place ≤ 0 → IsLowering old items place least → items ≡ lowered old
 lowering_end old items place least none its = let zero_is : place ≡ 0 = omega arith in its.items ∙ ap (λ (k : ℕ). take k old ++ lowered (drop k old)) zero_is
-
--- halves of the list
-module _ (list : List Begun) (up : IsNonDecreasingBy (λ (b : Begun). b.begin) list) where
-  pub in_order : (i k : ℕ) (b d : Begun) → i ≤ k → slice_get list i ≡ Some b → slice_get list k ≡ Some d → b.begin ≤ d.begin
-  in_order i k b d order one other =
-      let less = slice_get_within list k d other in
-      let low = up i k b order less in
-      let first : (get_or list i b).begin ≡ b.begin = ap (λ (x : Begun). x.begin) (get_or_from_slice_get list i b b one) in
-      let second : (get_or list k b).begin ≡ d.begin = ap (λ (x : Begun). x.begin) (get_or_from_slice_get list k d b other) in
-      omega arith
-
-  pub halves_after : (m k time : ℕ) (x b : Begun) → x ≡ get_or list m x → m < length list → m ≤ k → time < x.begin → slice_get list k ≡ Some b → time < b.begin
-  halves_after m k time x b read less order late there = let low = in_order m k x b order (slice_get-get_or list m x less ∙ ap (λ (y : Begun). Some y) (sym read)) there in omega arith
-
-  pub halves_before : (m k time : ℕ) (x b : Begun) → x ≡ get_or list m x → m < length list → k ≤ m → x.begin ≤ time → slice_get list k ≡ Some b → b.begin ≤ time
-  halves_before m k time x b read less order early there = let low = in_order k m b x order there (slice_get-get_or list m x less ∙ ap (λ (y : Begun). Some y) (sym read)) in omega arith

@@ -2,7 +2,7 @@
 use Rattle.std.proofs.Common.{◌≡◌, ℕ, ◌<◌, ◌≤◌, ◌&&◌, ◌||◌, not, eqb, cond, Bool, true, false, List, [], ◌∷◌, length, Option, Some, None, inl, inr, refl, sym, ap, ◌∙◌, subst, arith}
 use Rattle.std.specs.Option.{is_some}
 use Rattle.std.proofs.lemmas.Bool.{false≢true, cases_eq, and_parts, and_from, eq-eqb, ne_eqb, eqb-true}
-use Rattle.rept_steps.specs.Course.{Course, Row, IsRow, calls, IsSound}
+use Rattle.rept_steps.specs.Course.{Course, Row, IsRow, calls, IsSoundCourse}
 use Rattle.rept_order.specs.Moments.{Moment, IsMoment, Stretch, stretch, Falls, stores}
 use Rattle.rept_order.specs.Moments.Moment.{before, after, at_end}
 use Rattle.rept_order.specs.Moments.Act.{row, dark}
@@ -19,11 +19,11 @@ use Rattle.rept_course.specs.Numbered.{row_on, falls_by, dark_by}
 use Rattle.rept_course.proofs.Naming.{stores_inside}
 use Rattle.rept_course.proofs.Ends.{else_falls, else_dark}
 use Rattle.rept_moments.specs.declared.side.Side.{Side}
-use Rattle.rept_moments.specs.Ordering.{moment_at, in_order}
+use Rattle.rept_moments.specs.Ordering.{moment_at_side, in_order}
 use Rattle.rept_moments.specs.Numbers.{numbers_of, numbered}
 use Rattle.rept_moments.specs.Numbering.{at_place, Numbered}
 use Rattle.rept_moments.specs.Tables.{moments_at}
-use Rattle.rept_moments.specs.Between.{own_to, IsOwn, IsBetween}
+use Rattle.rept_moments.specs.Between.{own_to, IsOwn, IsOwnBetween}
 use Rattle.rept_moments.specs.Seen.{seen_many, IsRowAt}
 use Rattle.rept_moments.proofs.Places.{row_there, there_row, point_of_row, row_point}
 use Rattle.rept_moments.proofs.Listing.{at_row}
@@ -66,7 +66,7 @@ place_few (x ∷ list) n s e =
       | inr other ↦ let less = place_few list n s (sym (ap (λ (b : Bool). cond b (Some x) (at_place list n)) (ne_eqb n (length list) other)) ∙ e) in omega arith
     ]
 
-module _ (C : Course) (sound : IsSound C) where
+module _ (C : Course) (sound : IsSoundCourse C) where
   names : AreNames C (numbers_of C)
   names = are_numbers C sound
 
@@ -88,8 +88,8 @@ module _ (C : Course) (sound : IsSound C) where
 
   module _ (n : Numbered) (kept : moments_at C n.list ≡ lasts C (in_order C)) (m : ℕ) where
     module _ (s : Side) (e : at_place n.list m ≡ Some s) where
-      placed : (numbers_of C).last m ≡ moment_at C s
-      placed = sym (told_is C C n m (Some s) (moment_at C s) refl kept (sym e) refl)
+      placed : (numbers_of C).last m ≡ moment_at_side C s
+      placed = sym (told_is C C n m (Some s) (moment_at_side C s) refl kept (sym e) refl)
 
       early : m ≤ (numbers_of C).end
       early =
@@ -100,19 +100,19 @@ module _ (C : Course) (sound : IsSound C) where
       pub row_placed : IsRow C (row_on C s.point)
       row_placed = at_row C s.is_after (row_on C s.point) (subst (λ (y : Moment). IsMoment C y) placed (names.named m early).0)
 
-      pub name_placed : (numbers_of C).name (moment_at C s) ≡ m
+      pub name_placed : (numbers_of C).name (moment_at_side C s) ≡ m
       name_placed = ap (numbers_of C).name (sym placed) ∙ (names.named m early).1
 
       pub leads_placed : is_some (leg_row C s.point) ≡ true
       leads_placed = row_there C (row_on C s.point) row_placed
 
-      pub between_own : (w : ℕ) → s.is_after ≡ false → IsBetween C m w (own_to C s.point w)
+      pub between_own : (w : ℕ) → s.is_after ≡ false → IsOwnBetween C m w (own_to C s.point w)
       between_own w is = go (not (calls C (row_on C s.point)) && eqb ((numbers_of C).name (after (row_on C s.point))) w) refl
         where
-          own_moment : moment_at C s ≡ before (row_on C s.point)
+          own_moment : moment_at_side C s ≡ before (row_on C s.point)
           own_moment = ap (beside_by (row_on C s.point)) is
 
-          go : (b : Bool) → (not (calls C (row_on C s.point)) && eqb ((numbers_of C).name (after (row_on C s.point))) w) ≡ b → IsBetween C m w (cond b (Some s.point) None)
+          go : (b : Bool) → (not (calls C (row_on C s.point)) && eqb ((numbers_of C).name (after (row_on C s.point))) w) ≡ b → IsOwnBetween C m w (cond b (Some s.point) None)
           go true t =
               let parts = and_parts (not (calls C (row_on C s.point))) (eqb ((numbers_of C).name (after (row_on C s.point))) w) t in
               record {
@@ -130,7 +130,7 @@ module _ (C : Course) (sound : IsSound C) where
       pub row_here : s.is_after ≡ false → IsRowAt (seen_many C) m (Some s.point)
       row_here is = (leads_placed, ap (numbers_of C).name (sym own_moment) ∙ name_placed, only)
         where
-          own_moment : moment_at C s ≡ before (row_on C s.point)
+          own_moment : moment_at_side C s ≡ before (row_on C s.point)
           own_moment = ap (beside_by (row_on C s.point)) is
 
           only : (j : ℕ) → is_some (leg_row C j) ≡ true → (numbers_of C).name (before (row_on C j)) ≡ m → j ≡ s.point
@@ -141,13 +141,13 @@ module _ (C : Course) (sound : IsSound C) where
       pub no_row_after : s.is_after ≡ true → IsRowAt (seen_many C) m None
       no_row_after is i there its = before_after (row_last m i there its ∙ placed ∙ ap (beside_by (row_on C s.point)) is)
 
-      pub between_after : (w : ℕ) → s.is_after ≡ true → IsBetween C m w None
+      pub between_after : (w : ℕ) → s.is_after ≡ true → IsOwnBetween C m w None
       between_after w is i own = before_after (own_last m w i own ∙ placed ∙ ap (beside_by (row_on C s.point)) is)
 
     pub no_row_end : at_place n.list m ≡ None → IsRowAt (seen_many C) m None
     no_row_end e i there its = before_end (row_last m i there its ∙ sym (told_is C C n m None at_end refl kept (sym e) refl))
 
-    pub between_end : (w : ℕ) → at_place n.list m ≡ None → IsBetween C m w None
+    pub between_end : (w : ℕ) → at_place n.list m ≡ None → IsOwnBetween C m w None
     between_end w e i own = before_end (own_last m w i own ∙ sym (told_is C C n m None at_end refl kept (sym e) refl))
 
   -- between the moments of a row that is no call
@@ -184,7 +184,7 @@ module _ (C : Course) (sound : IsSound C) where
         let alike : (same_row q q && not (calls C q)) ≡ true = and_from (same_row q q) (not (calls C q)) (row_self q q refl) (ap not own.plain) in
         sym (ap (dark_by C) own_link ∙ ap (λ (a : Bool). is_some C.dark && (not (wholly_before C dark (before q)) && (not false && (not a || false)))) alike ∙ ap (λ (a : Bool). is_some C.dark && a) (and_off (not (wholly_before C dark (before q)))) ∙ and_off (is_some C.dark))
 
-  none_own : (m w : ℕ) → IsBetween C m w None → NoOwn C (numbers_of C) m w
+  none_own : (m w : ℕ) → IsOwnBetween C m w None → NoOwn C (numbers_of C) m w
   none_own m w none r inside plain before_is after_is =
       let here : row_on C (point_of_row C r) ≡ r = row_point C r inside in
       none (point_of_row C r) (record {
@@ -194,9 +194,9 @@ module _ (C : Course) (sound : IsSound C) where
         after = subst (λ (p : Row). (numbers_of C).name (after p) ≡ w) (sym here) after_is;
       })
 
-  pub rest_falls : (m w i : ℕ) → (numbered C).next m w ≡ true → IsBetween C m w None → (stores C (row_on C i) && (not ((numbered C).past i m) && not ((numbered C).ahead i w))) ≡ falls_by C (row_on C i) ((numbers_of C).link m w)
+  pub rest_falls : (m w i : ℕ) → (numbered C).next m w ≡ true → IsOwnBetween C m w None → (stores C (row_on C i) && (not ((numbered C).past i m) && not ((numbered C).ahead i w))) ≡ falls_by C (row_on C i) ((numbers_of C).link m w)
   rest_falls m w i next none = else_falls C sound (numbers_of C) names m w i next (none_own m w none)
 
-  pub dark_is : (m w : ℕ) (o : Option ℕ) → (numbered C).next m w ≡ true → IsBetween C m w o → (not (is_some o) && not ((numbered C).dark_past m)) ≡ dark_by C ((numbers_of C).link m w)
+  pub dark_is : (m w : ℕ) (o : Option ℕ) → (numbered C).next m w ≡ true → IsOwnBetween C m w o → (not (is_some o) && not ((numbered C).dark_past m)) ≡ dark_by C ((numbers_of C).link m w)
   dark_is m w (Some j) next own = own_dark m w j own ((numbered C).dark_past m)
   dark_is m w None next none = else_dark C sound (numbers_of C) names m w next (none_own m w none)

@@ -2,7 +2,7 @@
 use Rattle.std.proofs.Common.{◌≡◌, ℕ, ◌+◌, ◌≤◌, nat_lt, cond, Bool, List, [], ◌∷◌, Option, Some, None, inl, inr, sym, ap, ◌∙◌, subst}
 use Rattle.std.proofs.lemmas.Bool.{cases_Bool}
 use Rattle.rept_steps.specs.declared.slice.Slice.{Slice}
-use Rattle.rept_steps.specs.Course.{Course, slices_of, slice_of, first_slice, slice_after, KeepTime, IsSound}
+use Rattle.rept_steps.specs.Course.{Course, slices_of, slice_of, first_slice, slice_after, KeepTime, IsSoundCourse}
 use Rattle.rept_order.specs.Events.{Event, Part, slice_by, event_slice}
 use Rattle.rept_order.specs.Events.Part.{whole, entry, return}
 use Rattle.rept_order.specs.Times.{begin_from, begin_of}
@@ -42,7 +42,7 @@ part_kept entry slices i s kept e = of_kept slices i s kept e
 part_kept return slices i s kept e = after_kept slices i s kept e
 
 -- the event isn't later than the end of its slice
-pub begins_in_time : (C : Course) → IsSound C → (e : Event) (s : Slice) → event_slice C e ≡ Some s → begin_of C e ≤ s.end
+pub begins_in_time : (C : Course) → IsSoundCourse C → (e : Event) (s : Slice) → event_slice C e ≡ Some s → begin_of C e ≤ s.end
 begins_in_time C sound e s is =
     let kept = part_kept e.part (slices_of C e.row.thread) e.row.step s (sound.in_time e.row.thread) is in
     let same : begin_of C e ≡ s.begin = ap (λ (o : Option Slice). begin_from o (slice_of (slices_of C e.row.thread) e.row.step)) is in

@@ -3,15 +3,13 @@ use Rattle.std.proofs.Common.{◌≡◌, ◌≢◌, ℕ, zero, suc, ◌+◌, ◌
 use Rattle.std.specs.List.{list_any}
 use Rattle.std.proofs.lemmas.Bool.{false≢true, cases_lt, cases_eq, cases_order, or_cases, or_left, and_parts, eq-eqb, ne_eqb, lt-ltb, le-ltb, leb-true, le-leb}
 use Rattle.std.proofs.lemmas.List.Folds.{list_any-append}
-use Rattle.std.specs.List.Sorted.{IsNonDecreasingBy}
-use Rattle.std.proofs.lemmas.List.{get_or_default}
 use Rattle.std.proofs.lemmas.Option.{slice_get_past, slice_get_read}
 use Rattle.rept_moments.proofs.Places.{get_end, get_before}
 use Rattle.rept_moments.specs.declared.writers.Writer.{Writer}
 use Rattle.rept_moments.specs.declared.writers.Rest.{Rest}
 use Rattle.rept_moments.specs.declared.writers.Latest.{Latest}
 use Rattle.rept_moments.specs.Writers.{no_writer, lasts_to, not_past, crosses}
-use Rattle.rept_moments.specs.Latest.{later_of, latest_none, latest_with, reaches_to, latest_reaches, IsLatest, AreLatest}
+use Rattle.rept_moments.specs.Latest.{later_of, latest_none, latest_with, reaches_to, latest_reaches, TellsLatest, AreLatest}
 
 or_false : (a : Bool) → (a || false) ≡ a
 or_false true = refl
@@ -118,14 +116,14 @@ fits_with a (Some e) o w f least =
     over : (m n : ℕ) → n < m → nat_le m n ≡ false
     over m n less = not_so (nat_le m n) (λ e. let k = leb-true m n e in omega arith)
 
-pub none_latest : IsLatest [] latest_none
+pub none_latest : TellsLatest [] latest_none
 none_latest = record { is = λ t f. sym (none (eqb t 0) f); least = λ f k. absurd (false≢true k) }
   where
     none : (b : Bool) (f : ℕ) → reaches_to (cond b None None) f ≡ false
     none true f = refl
     none false f = refl
 
-pub more_latest : (ws : List Writer) (x : Latest) (w : Writer) → IsLatest ws x → IsLatest (ws ++ w ∷ []) (latest_with x w)
+pub more_latest : (ws : List Writer) (x : Latest) (w : Writer) → TellsLatest ws x → TellsLatest (ws ++ w ∷ []) (latest_with x w)
 more_latest ws x w its = record {
   is = λ t f. list_any-append (lasts_to t f) ws (w ∷ []) ∙ ap (λ (b : Bool). b || (lasts_to t f w || false)) (its.is t f) ∙ ap (λ (b : Bool). latest_reaches x t f || b) (or_false (lasts_to t f w)) ∙ sym ((fits_with x.thread x.end x.other w f (its.least f)).adds t);
   least = λ f. (fits_with x.thread x.end x.other w f (its.least f)).least;
@@ -166,8 +164,8 @@ crossing rest (w ∷ ws) (suc k) before after =
 abbrev pub IsTable : List Writer → ℕ → List Latest → Latest → Type 0
 IsTable ws i xs x = record {
   count : length xs ≡ suc i;
-  each : (k : ℕ) (x : Latest) → slice_get xs k ≡ Some x → IsLatest (take k ws) x;
-  known : IsLatest (take i ws) x;
+  each : (k : ℕ) (x : Latest) → slice_get xs k ≡ Some x → TellsLatest (take k ws) x;
+  known : TellsLatest (take i ws) x;
 }
 
 one_more : (n : ℕ) → n + 1 ≡ suc n
@@ -184,7 +182,7 @@ table_more ws i xs ys x y less its step e =
     let count = its.count in
     let long : length ys ≡ suc (length xs) = ap (λ (zs : List Latest). length zs) e ∙ length-append xs (y ∷ []) ∙ one_more (length xs) in
     let one : i + 1 ≡ suc i = omega arith in
-    let known : IsLatest (take (suc i) ws) y = subst (λ (vs : List Writer). IsLatest vs y) (sym (take_more ws i no_writer less)) (subst (λ (z : Latest). IsLatest (take i ws ++ get_or ws i no_writer ∷ []) z) (sym step) (more_latest (take i ws) x (get_or ws i no_writer) its.known)) in
+    let known : TellsLatest (take (suc i) ws) y = subst (λ (vs : List Writer). TellsLatest vs y) (sym (take_more ws i no_writer less)) (subst (λ (z : Latest). TellsLatest (take i ws ++ get_or ws i no_writer ∷ []) z) (sym step) (more_latest (take i ws) x (get_or ws i no_writer) its.known)) in
     record {
       count = omega arith;
       each = λ k z found.
@@ -192,27 +190,12 @@ table_more ws i xs ys x y less its step e =
           elim (cases_order k (length xs)) [
             | inl same ↦
                 let at : slice_get (xs ++ y ∷ []) k ≡ Some y = ap (λ (j : ℕ). slice_get (xs ++ y ∷ []) j) same ∙ get_end xs y in
-                subst (λ (j : ℕ). IsLatest (take j ws) z) (sym (same ∙ count)) (subst (λ (v : Latest). IsLatest (take (suc i) ws) v) (some_same (sym at ∙ there)) known)
+                subst (λ (j : ℕ). TellsLatest (take j ws) z) (sym (same ∙ count)) (subst (λ (v : Latest). TellsLatest (take (suc i) ws) v) (some_same (sym at ∙ there)) known)
             | inr (inl below) ↦ its.each k z (sym (get_before xs y k below) ∙ there)
             | inr (inr over) ↦ absurd (none_some (sym (slice_get_past ys k (omega arith)) ∙ found))
           ];
-      known = subst (λ (j : ℕ). IsLatest (take j ws) y) (sym one) known;
+      known = subst (λ (j : ℕ). TellsLatest (take j ws) y) (sym one) known;
     }
-
--- halves of a list in order
-pub begun_after : (ws : List Writer) (m k time : ℕ) (x : Writer) → IsNonDecreasingBy (λ (w : Writer). w.begin) ws → x ≡ get_or ws m x → m ≤ k → k < length ws → time < x.begin → time < (get_or ws k no_writer).begin
-begun_after ws m k time x up read order less late =
-    let least : (get_or ws m x).begin ≤ (get_or ws k x).begin = up m k x order less in
-    let first : x.begin ≡ (get_or ws m x).begin = ap (λ (w : Writer). w.begin) read in
-    let other : (get_or ws k x).begin ≡ (get_or ws k no_writer).begin = ap (λ (w : Writer). w.begin) (get_or_default ws k x no_writer less) in
-    omega arith
-
-pub begun_before : (ws : List Writer) (m k time : ℕ) (x : Writer) → IsNonDecreasingBy (λ (w : Writer). w.begin) ws → x ≡ get_or ws m x → k ≤ m → m < length ws → x.begin ≤ time → (get_or ws k no_writer).begin ≤ time
-begun_before ws m k time x up read order less early =
-    let most : (get_or ws k x).begin ≤ (get_or ws m x).begin = up k m x order less in
-    let first : x.begin ≡ (get_or ws m x).begin = ap (λ (w : Writer). w.begin) read in
-    let other : (get_or ws k x).begin ≡ (get_or ws k no_writer).begin = ap (λ (w : Writer). w.begin) (get_or_default ws k x no_writer (omega arith)) in
-    omega arith
 
 pub crossed_is : (ws : List Writer) (xs : List Latest) (rest : Rest) (k : ℕ) (x : Latest) (r : Bool) → AreLatest ws xs → k ≤ length ws → ((i : ℕ) → i < k → not_past rest.to (get_or ws i no_writer).begin ≡ true) → ((i : ℕ) → k ≤ i → i < length ws → not_past rest.to (get_or ws i no_writer).begin ≡ false) → x ≡ get_or xs k x → r ≡ latest_reaches x rest.thread rest.from → r ≡ list_any (crosses rest) ws
 crossed_is ws xs rest k x r are few before after read e =

@@ -11,7 +11,7 @@ use Rattle.rept_course.specs.Making.{Has, IsListing}
 use Rattle.rept_course.specs.Numbered.{row_on}
 use Rattle.rept_moments.specs.declared.side.Timed.{Timed}
 use Rattle.rept_moments.specs.Points.{points_in}
-use Rattle.rept_moments.specs.Ordering.{side, moment_at, timed, timed_at, timed_to, put, by_time, in_time, back, in_order}
+use Rattle.rept_moments.specs.Ordering.{side, moment_at_side, timed, timed_at, timed_to, put, by_time, in_time, back, in_order}
 use Rattle.rept_moments.proofs.Places.{row_there, there_row, point_of_row, row_point, row_before}
 
 has_left : (xs ys : List Moment) (m : Moment) → Has xs m → Has (xs ++ ys) m
@@ -36,17 +36,17 @@ module _ (C : Course) where
   -- one of these has the moment
   abbrev pub Holds : List Timed → Moment → Type 0
   Holds [] m = ⊥
-  Holds (x ∷ xs) m = (moment_at C x.side ≡ m) ⊎ Holds xs m
+  Holds (x ∷ xs) m = (moment_at_side C x.side ≡ m) ⊎ Holds xs m
 
   back_from : (xs : List Timed) (m : Moment) → Holds xs m → Has (back C xs) m
   back_from [] m h = h
-  back_from (x ∷ xs) m (inl same) = has_right (back C xs) (moment_at C x.side ∷ []) m (inl same)
-  back_from (x ∷ xs) m (inr h) = has_left (back C xs) (moment_at C x.side ∷ []) m (back_from xs m h)
+  back_from (x ∷ xs) m (inl same) = has_right (back C xs) (moment_at_side C x.side ∷ []) m (inl same)
+  back_from (x ∷ xs) m (inr h) = has_left (back C xs) (moment_at_side C x.side ∷ []) m (back_from xs m h)
 
   back_to : (xs : List Timed) (m : Moment) → Has (back C xs) m → Holds xs m
   back_to [] m h = h
   back_to (x ∷ xs) m h =
-      elim (has_parts (back C xs) (moment_at C x.side ∷ []) m h) [
+      elim (has_parts (back C xs) (moment_at_side C x.side ∷ []) m h) [
         | inl k ↦ inr (back_to xs m k)
         | inr (inl same) ↦ inl same
         | inr (inr k) ↦ absurd k

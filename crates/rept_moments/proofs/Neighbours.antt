@@ -3,7 +3,7 @@ use Rattle.std.proofs.Common.{◌≡◌, ◌≢◌, ℕ, zero, suc, ◌+◌, ◌
 use Rattle.std.specs.List.{Contains}
 use Rattle.std.specs.Option.{is_some}
 use Rattle.std.proofs.lemmas.Bool.{false≢true, cases_Bool, cases_lt, cases_eq, and_from, eq-eqb, ne_eqb, lt-ltb, le-ltb, leb-true, le-leb}
-use Rattle.rept_steps.specs.Course.{Course, Row, row_of, rows_of, IsRow, row_at, IsSound}
+use Rattle.rept_steps.specs.Course.{Course, Row, row_of, rows_of, IsRow, row_at, IsSoundCourse}
 use Rattle.rept_order.specs.Moments.{Moment, IsMoment, IsNext, Stretch, stretch, ArePause}
 use Rattle.rept_order.specs.Moments.Moment.{before, after, at_end}
 use Rattle.rept_order.specs.Moments.ArePause.{between, last}
@@ -16,13 +16,13 @@ use Rattle.rept_course.specs.Numbered.{row_on}
 use Rattle.rept_course.proofs.Naming.{some_is}
 use Rattle.rept_course.proofs.Making.{next_last, last_named}
 use Rattle.rept_moments.specs.declared.side.Side.{Side}
-use Rattle.rept_moments.specs.Ordering.{moment_at, in_order}
+use Rattle.rept_moments.specs.Ordering.{moment_at_side, in_order}
 use Rattle.rept_moments.specs.Merging.{merged_at}
 use Rattle.rept_moments.specs.Numbers.{numbers_of, numbered, unless}
 use Rattle.rept_moments.specs.Numbering.{at_place, Numbered}
 use Rattle.rept_moments.specs.Seen.{AddsNexts}
 use Rattle.rept_moments.specs.Tables.{moments_at}
-use Rattle.rept_moments.specs.Nexts.{nexts_of, merged_nexts, point_nexts, side_nexts, last_nexts, ends_to, numbers_next, Member, Adds}
+use Rattle.rept_moments.specs.Nexts.{nexts_of, merged_nexts, point_nexts, side_nexts, last_nexts, ends_to, numbers_next, Member, AddsOthers}
 use Rattle.rept_moments.proofs.Places.{row_there, there_row, point_of_row, row_point, next_row}
 use Rattle.rept_moments.proofs.Listing.{are_listed, row_at_side}
 use Rattle.rept_moments.proofs.Numbering.{count_same, told}
@@ -59,7 +59,7 @@ before_end e = cc
 after_end : {q : Row} → after q ≡ at_end → ⊥
 after_end e = cc
 
-module _ (C : Course) (sound : IsSound C) where
+module _ (C : Course) (sound : IsSoundCourse C) where
   names : AreNames C (numbers_of C)
   names = are_numbers C sound
 
@@ -119,10 +119,10 @@ module _ (C : Course) (sound : IsSound C) where
   merged_step : (g n v : ℕ) → (merged_at C g ≡ true → (numbers_of C).name (after (row_on C g)) ≡ n) → Member (merged_nexts C g) v → IsStep n v
   merged_step g n v name h = merged_by (merged_at C g) g n v refl name h
 
-  own_step : (s : Side) (v : ℕ) → IsRow C (row_on C s.point) → Member (nexts_of C (moment_at C s)) v → IsStep ((numbers_of C).name (moment_at C s)) v
+  own_step : (s : Side) (v : ℕ) → IsRow C (row_on C s.point) → Member (nexts_of C (moment_at_side C s)) v → IsStep ((numbers_of C).name (moment_at_side C s)) v
   own_step s v is h =
-      let its = has_next C sound (moment_at C s) (row_at_side C s.is_after (row_on C s.point) is) v h in
-      record { from = moment_at C s; from_is = row_at_side C s.is_after (row_on C s.point) is; from_name = refl; to = its.moment; to_is = its.is_one; to_name = its.name; next = its.next }
+      let its = has_next C sound (moment_at_side C s) (row_at_side C s.is_after (row_on C s.point) is) v h in
+      record { from = moment_at_side C s; from_is = row_at_side C s.is_after (row_on C s.point) is; from_name = refl; to = its.moment; to_is = its.is_one; to_name = its.name; next = its.next }
 
   point_step : (p v : ℕ) → IsRow C (row_on C p) → Member (point_nexts C p) v → IsStep ((numbers_of C).name (before (row_on C p))) v
   point_step zero v is h = absurd h
@@ -132,9 +132,9 @@ module _ (C : Course) (sound : IsSound C) where
   rest_step true p v is h = absurd h
   rest_step false p v is h = point_step p v is h
 
-  pub side_step : (s : Side) (v : ℕ) → IsRow C (row_on C s.point) → Member (side_nexts C s) v → IsStep ((numbers_of C).name (moment_at C s)) v
+  pub side_step : (s : Side) (v : ℕ) → IsRow C (row_on C s.point) → Member (side_nexts C s) v → IsStep ((numbers_of C).name (moment_at_side C s)) v
   side_step s v is h =
-      elim (member_parts (nexts_of C (moment_at C s)) (cond s.is_after [] (point_nexts C s.point)) v h) [
+      elim (member_parts (nexts_of C (moment_at_side C s)) (cond s.is_after [] (point_nexts C s.point)) v h) [
         | inl k ↦ own_step s v is k
         | inr k ↦ rest_step s.is_after s.point v is k
       ]
@@ -194,7 +194,7 @@ module _ (C : Course) (sound : IsSound C) where
     -- by the last moment of the number itself
     by_itself : (o : Option Side) → st.from ≡ told C o → Member (numbers_next C o) v
     by_itself None same = absurd (end_last st.to (subst (λ (y : Moment). IsNext C y st.to) same st.next))
-    by_itself (Some s) same = member_left (nexts_of C (moment_at C s)) (cond s.is_after [] (point_nexts C s.point)) v (here (moment_at C s) same)
+    by_itself (Some s) same = member_left (nexts_of C (moment_at_side C s)) (cond s.is_after [] (point_nexts C s.point)) v (here (moment_at_side C s) same)
 
     -- by a moment that is one with it
     by_side : (b : Bool) (p t i : ℕ) (xs : List ℕ) → IsRow C (row_of t i) → st.from ≡ after (row_of t i) → merged_at C (point_of_row C (row_of t i)) ≡ true → beside_by (row_on C p) b ≡ before (row_of t (suc i)) → Member (xs ++ cond b [] (point_nexts C p)) v
@@ -209,7 +209,7 @@ module _ (C : Course) (sound : IsSound C) where
 
     by_between : (o : Option Side) (t i : ℕ) → suc i < length (rows_of C t) → told C o ≡ before (row_of t (suc i)) → st.from ≡ after (row_of t i) → merged_at C (point_of_row C (row_of t i)) ≡ true → Member (numbers_next C o) v
     by_between None t i less final same e = absurd (before_end (sym final))
-    by_between (Some s) t i less final same e = by_side s.is_after s.point t i (nexts_of C (moment_at C s)) (omega arith) same e final
+    by_between (Some s) t i less final same e = by_side s.is_after s.point t i (nexts_of C (moment_at_side C s)) (omega arith) same e final
 
     no_side : (b : Bool) (r : Row) → beside_by r b ≡ at_end → ⊥
     no_side false r e = before_end e
@@ -267,7 +267,7 @@ module _ (C : Course) (sound : IsSound C) where
         subst (λ (k : ℕ). IsStep k v) same (ends_step (length C.threads) v h)
     steps_by (Some s) v e h = subst (λ (k : ℕ). IsStep k v) (name_placed C sound num kept n s e) (side_step s v (row_placed C sound num kept n s e) h)
 
-    pub nexts_added : (old new : List ℕ) → Adds n (Member (numbers_next C (at_place num.list n))) old new → AddsNexts (numbered C) n old new
+    pub nexts_added : (old new : List ℕ) → AddsOthers n (Member (numbers_next C (at_place num.list n))) old new → AddsNexts (numbered C) n old new
     nexts_added old new its w = (forth, back)
       where
         forth : Contains new w → Contains old w ⊎ ((numbered C).next n w ≡ true)

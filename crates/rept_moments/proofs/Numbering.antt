@@ -18,7 +18,7 @@ use Rattle.rept_course.specs.Numbered.{row_on}
 use Rattle.rept_moments.specs.declared.side.Side.{Side}
 use Rattle.rept_moments.specs.declared.side.Timed.{Timed}
 use Rattle.rept_moments.specs.Points.{points_in, by_point}
-use Rattle.rept_moments.specs.Ordering.{side, moment_at, back, in_time}
+use Rattle.rept_moments.specs.Ordering.{side, moment_at_side, back, in_time}
 use Rattle.rept_moments.specs.Merging.{merged_at}
 use Rattle.rept_moments.specs.Numbering.{same_bool, same_side, find, at_place, Numbered, AreInside, AreNumbered, is_merged, kept_with}
 use Rattle.rept_moments.specs.Tables.{moments_at}
@@ -181,7 +181,7 @@ module _ (C : Course) where
   sides_by g k true false = sym (and_off (eqb g k))
   sides_by g k true true = point_same g k ∙ and_on (eqb g k)
 
-  pub sides_same : (s t : Side) → same_moment (moment_at C s) (moment_at C t) ≡ same_side s t
+  pub sides_same : (s t : Side) → same_moment (moment_at_side C s) (moment_at_side C t) ≡ same_side s t
   sides_same s t = sides_by s.point t.point s.is_after t.is_after
 
   pub count_same : (list : List Side) → length (moments_at C list) ≡ length list
@@ -192,35 +192,35 @@ module _ (C : Course) where
   holds_by true b n o e = refl
   holds_by false b n o e = e
 
-  pub holds_is : (list : List Side) (s : Side) → holds (moments_at C list) (moment_at C s) ≡ is_some (find list s)
+  pub holds_is : (list : List Side) (s : Side) → holds (moments_at C list) (moment_at_side C s) ≡ is_some (find list s)
   holds_is [] s = refl
-  holds_is (x ∷ list) s = ap (λ (b : Bool). b || holds (moments_at C list) (moment_at C s)) (sides_same x s) ∙ holds_by (same_side x s) (holds (moments_at C list) (moment_at C s)) (length list) (find list s) (holds_is list s)
+  holds_is (x ∷ list) s = ap (λ (b : Bool). b || holds (moments_at C list) (moment_at_side C s)) (sides_same x s) ∙ holds_by (same_side x s) (holds (moments_at C list) (moment_at_side C s)) (length list) (find list s) (holds_is list s)
 
   rank_by : (a : Bool) (m n : ℕ) (o : Option ℕ) → m ≡ n → cond a m (unwrap_or o 0) ≡ unwrap_or (cond a (Some n) o) 0
   rank_by true m n o e = e
   rank_by false m n o e = refl
 
-  pub rank_is : (list : List Side) (s : Side) → rank (moments_at C list) (moment_at C s) ≡ unwrap_or (find list s) 0
+  pub rank_is : (list : List Side) (s : Side) → rank (moments_at C list) (moment_at_side C s) ≡ unwrap_or (find list s) 0
   rank_is [] s = refl
   rank_is (x ∷ list) s =
-      ap (λ (b : Bool). cond b (length (moments_at C list)) (rank (moments_at C list) (moment_at C s))) (sides_same x s)
+      ap (λ (b : Bool). cond b (length (moments_at C list)) (rank (moments_at C list) (moment_at_side C s))) (sides_same x s)
       ∙ ap (λ (k : ℕ). cond (same_side x s) (length (moments_at C list)) k) (rank_is list s)
       ∙ rank_by (same_side x s) (length (moments_at C list)) (length list) (find list s) (count_same list)
 
   -- the moment of a place
   abbrev pub told : Option Side → Moment
   told None = at_end
-  told (Some s) = moment_at C s
+  told (Some s) = moment_at_side C s
 
-  told_by : (a : Bool) (s : Side) (o : Option Side) → cond a (moment_at C s) (told o) ≡ told (cond a (Some s) o)
+  told_by : (a : Bool) (s : Side) (o : Option Side) → cond a (moment_at_side C s) (told o) ≡ told (cond a (Some s) o)
   told_by true s o = refl
   told_by false s o = refl
 
   pub ranked_is : (list : List Side) (n : ℕ) → ranked (moments_at C list) n ≡ told (at_place list n)
   ranked_is [] n = refl
   ranked_is (x ∷ list) n =
-      ap (λ (k : ℕ). cond (eqb n k) (moment_at C x) (ranked (moments_at C list) n)) (count_same list)
-      ∙ ap (λ (m : Moment). cond (eqb n (length list)) (moment_at C x) m) (ranked_is list n)
+      ap (λ (k : ℕ). cond (eqb n k) (moment_at_side C x) (ranked (moments_at C list) n)) (count_same list)
+      ∙ ap (λ (m : Moment). cond (eqb n (length list)) (moment_at_side C x) m) (ranked_is list n)
       ∙ told_by (eqb n (length list)) x (at_place list n)
 
   none_past : (list : List Side) (n : ℕ) → length list ≤ n → at_place list n ≡ None
@@ -260,15 +260,15 @@ module _ (C : Course) where
       ap (λ (c : Bool). c && not (holds (moments_at C list) (after (row_on C g)))) (after_last (row_on C g) (unwrap_or (slice_get merged g) false) (sym (merged_is merged g are less is)))
       ∙ ap (λ (c : Bool). not (unwrap_or (slice_get merged g) false) && not c) (holds_is list (side g true))
 
-  kept_by : (b : Bool) (n : Numbered) (s : Side) → moments_at C (cond b (record { points = n.points; list = s ∷ n.list }) n).list ≡ cond b (moment_at C s ∷ moments_at C n.list) (moments_at C n.list)
+  kept_by : (b : Bool) (n : Numbered) (s : Side) → moments_at C (cond b (record { points = n.points; list = s ∷ n.list }) n).list ≡ cond b (moment_at_side C s ∷ moments_at C n.list) (moments_at C n.list)
   kept_by true n s = refl
   kept_by false n s = refl
 
-  pub kept_is : (merged : List Bool) (n : Numbered) (s : Side) (L : List Moment) → IsTable merged → s.point < points_in C → IsRow C (row_on C s.point) → moments_at C n.list ≡ lasts C L → moments_at C (kept_with n s merged).list ≡ lasts C (moment_at C s ∷ L)
+  pub kept_is : (merged : List Bool) (n : Numbered) (s : Side) (L : List Moment) → IsTable merged → s.point < points_in C → IsRow C (row_on C s.point) → moments_at C n.list ≡ lasts C L → moments_at C (kept_with n s merged).list ≡ lasts C (moment_at_side C s ∷ L)
   kept_is merged n s L are less is e =
       kept_by (not (is_merged merged s) && not (is_some (find n.list s))) n s
-      ∙ ap (λ (b : Bool). cond b (moment_at C s ∷ moments_at C n.list) (moments_at C n.list)) (sym (keeps_by merged n.list s.point s.is_after are less is))
-      ∙ ap (λ (xs : List Moment). cond (keeps C xs (moment_at C s)) (moment_at C s ∷ xs) xs) e
+      ∙ ap (λ (b : Bool). cond b (moment_at_side C s ∷ moments_at C n.list) (moments_at C n.list)) (sym (keeps_by merged n.list s.point s.is_after are less is))
+      ∙ ap (λ (xs : List Moment). cond (keeps C xs (moment_at_side C s)) (moment_at_side C s ∷ xs) xs) e
 
   kept_points_by : (b : Bool) (n : Numbered) (s : Side) → (cond b (record { points = n.points; list = s ∷ n.list }) n).points ≡ n.points
   kept_points_by true n s = refl
@@ -285,9 +285,9 @@ module _ (C : Course) where
   kept_count merged n s = kept_count_by (not (is_merged merged s) && not (is_some (find n.list s))) n s
 
   -- from the front, one by one
-  back_push : (xs : List Timed) (x : Timed) → back C (xs ++ x ∷ []) ≡ moment_at C x.side ∷ back C xs
+  back_push : (xs : List Timed) (x : Timed) → back C (xs ++ x ∷ []) ≡ moment_at_side C x.side ∷ back C xs
   back_push [] x = refl
-  back_push (y ∷ xs) x = ap (λ (ms : List Moment). ms ++ moment_at C y.side ∷ []) (back_push xs x)
+  back_push (y ∷ xs) x = ap (λ (ms : List Moment). ms ++ moment_at_side C y.side ∷ []) (back_push xs x)
 
   take_push : (xs : List Timed) (k : ℕ) (x : Timed) → slice_get xs k ≡ Some x → take (suc k) xs ≡ take k xs ++ x ∷ []
   take_push [] k x e = absurd (none_some e)
@@ -300,22 +300,22 @@ module _ (C : Course) where
       some_same e = cc
   take_push (y ∷ xs) (suc k) x e = ap (λ (zs : List Timed). y ∷ zs) (take_push xs k x e)
 
-  pub back_more : (xs : List Timed) (k : ℕ) (x : Timed) → slice_get xs k ≡ Some x → back C (take (suc k) xs) ≡ moment_at C x.side ∷ back C (take k xs)
+  pub back_more : (xs : List Timed) (k : ℕ) (x : Timed) → slice_get xs k ≡ Some x → back C (take (suc k) xs) ≡ moment_at_side C x.side ∷ back C (take k xs)
   back_more xs k x e = ap (back C) (take_push xs k x e) ∙ back_push (take k xs) x
 
-  held : (xs : List Timed) (k : ℕ) (x : Timed) → slice_get xs k ≡ Some x → Holds C xs (moment_at C x.side)
+  held : (xs : List Timed) (k : ℕ) (x : Timed) → slice_get xs k ≡ Some x → Holds C xs (moment_at_side C x.side)
   held [] k x e = none_some e
     where
       none_some : {y : Timed} → None ≡ Some y → ⊥
       none_some e = cc
-  held (y ∷ xs) zero x e = inl (ap (λ (z : Timed). moment_at C z.side) (some_same e))
+  held (y ∷ xs) zero x e = inl (ap (λ (z : Timed). moment_at_side C z.side) (some_same e))
     where
       some_same : {y z : Timed} → Some y ≡ Some z → y ≡ z
       some_same e = cc
   held (y ∷ xs) (suc k) x e = inr (held xs k x e)
 
   pub time_row : (k : ℕ) (x : Timed) → slice_get (in_time C) k ≡ Some x → IsRow C (row_on C x.side.point)
-  time_row k x e = at_row C x.side.is_after (row_on C x.side.point) (time_moment C (moment_at C x.side) (held (in_time C) k x e))
+  time_row k x e = at_row C x.side.is_after (row_on C x.side.point) (time_moment C (moment_at_side C x.side) (held (in_time C) k x e))
 
   time_there : (xs : List Timed) (k : ℕ) (d : Timed) → xs ≡ in_time C → k < length xs → IsRow C (row_on C (get_or xs k d).side.point)
   time_there xs k d same less = time_row k (get_or xs k d) (sym (ap (λ (ys : List Timed). slice_get ys k) same) ∙ slice_get-get_or xs k d less)

@@ -1,7 +1,7 @@
 -- The numbers of the moments next to one.
 use Rattle.std.proofs.Common.{◌≡◌, ℕ, ◌⊎◌, ◌&&◌, not, cond, Bool, true, false, List, [], ◌∷◌, ◌++◌, length, inl, inr, refl, sym, ap, subst}
 use Rattle.std.proofs.lemmas.Bool.{and_parts, and_from}
-use Rattle.rept_steps.specs.Course.{Course, IsSound}
+use Rattle.rept_steps.specs.Course.{Course, IsSoundCourse}
 use Rattle.rept_order.specs.Moments.{Moment, IsMoment, Earlier, Stretch, stretch, IsNext}
 use Rattle.rept_order.specs.Times.{is_earlier}
 use Rattle.rept_order.proofs.Decide.{earlier_true, earlier_from}
@@ -50,7 +50,7 @@ pub record IsNeighbour (C : Course) (m : Moment) (v : ℕ) : Type 0 where
   pub next : IsNext C m moment
   pub name : (numbers_of C).name moment ≡ v
 
-module _ (C : Course) (sound : IsSound C) where
+module _ (C : Course) (sound : IsSoundCourse C) where
   none_true : (x : Stretch) (ms : List Moment) → none_between C x ms ≡ true → (z : Moment) → In ms z → Earlier C x.from z → Earlier C z x.to → ⊥
   none_true x [] e z h one other = h
   none_true x (m ∷ ms) e z (inl same) one other = not_true (is_earlier C x.from m && is_earlier C m x.to) (and_parts (not (is_earlier C x.from m && is_earlier C m x.to)) (none_between C x ms) e).0 (and_from (is_earlier C x.from m) (is_earlier C m x.to) (earlier_from C sound x.from m (subst (λ (y : Moment). Earlier C x.from y) (sym same) one)) (earlier_from C sound m x.to (subst (λ (y : Moment). Earlier C y x.to) (sym same) other)))

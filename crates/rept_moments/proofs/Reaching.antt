@@ -3,7 +3,7 @@ use Rattle.std.proofs.Common.{◌≡◌, ◌≢◌, ℕ, zero, suc, ◌+◌, ◌
 use Rattle.std.specs.Option.{IsSome}
 use Rattle.std.proofs.lemmas.Bool.{false≢true, cases_Bool, cases_lt, cases_eq, and_parts, and_from, eqb-true, eq-eqb, ne_eqb, le-leb, leb-true}
 use Rattle.std.proofs.lemmas.Option.{slice_get_within, slice_get-get_or}
-use Rattle.rept_steps.specs.Course.{Course, Row, IsRow, IsSound}
+use Rattle.rept_steps.specs.Course.{Course, Row, IsRow, IsSoundCourse}
 use Rattle.rept_order.specs.Moments.{Moment, IsMoment, Earlier, IsNext}
 use Rattle.rept_order.specs.Moments.Moment.{before, after, at_end}
 use Rattle.rept_order.specs.Runs.{beside_by}
@@ -13,12 +13,12 @@ use Rattle.rept_course.specs.Numbered.{row_on}
 use Rattle.rept_moments.specs.declared.begins.Begun.{Begun}
 use Rattle.rept_moments.specs.declared.nexts.Later.{Later}
 use Rattle.rept_moments.specs.declared.side.Side.{Side}
-use Rattle.rept_moments.specs.Ordering.{moment_at}
+use Rattle.rept_moments.specs.Ordering.{moment_at_side}
 use Rattle.rept_moments.specs.Edges.{begin_at, end_at}
 use Rattle.rept_moments.specs.Begins.{former_at, following_at, same_end, is_alike, is_first_by, is_first_at, sooner_end, later_from, IsBy, AreBegins}
 use Rattle.rept_moments.specs.Writers.{not_past}
 use Rattle.rept_moments.specs.Numbers.{numbers_of}
-use Rattle.rept_moments.specs.Nexts.{nexts_of, Member, Adds, IsAfter, IsOther, end_with, IsLaterBy, offers_at, none_late, is_first_later, first_offer, IsOffer}
+use Rattle.rept_moments.specs.Nexts.{nexts_of, Member, AddsOthers, IsAfter, IsOther, end_with, IsLaterBy, offers_at, none_late, is_first_later, first_offer, IsOffer}
 use Rattle.rept_moments.proofs.Places.{row_there, there_row}
 use Rattle.rept_moments.proofs.Apart.{are_numbers}
 use Rattle.rept_moments.proofs.Turns.{turn, turn_same, past_parts, past_from, is_moment, in_turn, turn_order, late_earlier, earlier_late, side_from, following_is, following_none, former_is, former_row, former_none}
@@ -68,7 +68,7 @@ end_before k = cc
 end_after : {r : Row} → at_end ≡ after r → ⊥
 end_after k = cc
 
-module _ (C : Course) (sound : IsSound C) where
+module _ (C : Course) (sound : IsSoundCourse C) where
   leads : (s : Side) → IsSome (leg_row C s.point) → IsRow C (row_on C s.point)
   leads s e = there_row C (row_on C s.point) e
 
@@ -173,21 +173,21 @@ module _ (C : Course) (sound : IsSound C) where
 
     module _ (later : Later) (its : IsLaterBy C s (following_at C s) later) where
       -- what is later than a moment is later than those before it in its thread
-      up_to : (a b : Side) → IsRow C (row_on C a.point) → IsRow C (row_on C b.point) → (row_on C a.point).thread ≡ (row_on C b.point).thread → turn a ≤ turn b → (w : Moment) → Earlier C (moment_at C b) w → Earlier C (moment_at C a) w
+      up_to : (a b : Side) → IsRow C (row_on C a.point) → IsRow C (row_on C b.point) → (row_on C a.point).thread ≡ (row_on C b.point).thread → turn a ≤ turn b → (w : Moment) → Earlier C (moment_at_side C b) w → Earlier C (moment_at_side C a) w
       up_to a b ia ib same order w e =
           elim (cases_lt (turn a) (turn b)) [
-            | inl less ↦ earlier_trans C sound (moment_at C a) (moment_at C b) w (in_turn C sound a b ia ib same less) e
-            | inr past ↦ subst (λ (x : Side). Earlier C (moment_at C x) w) (sym (turn_same a b (omega arith))) e
+            | inl less ↦ earlier_trans C sound (moment_at_side C a) (moment_at_side C b) w (in_turn C sound a b ia ib same less) e
+            | inr past ↦ subst (λ (x : Side). Earlier C (moment_at_side C x) w) (sym (turn_same a b (omega arith))) e
           ]
 
-      end_not_earlier : (u : Side) → Earlier C at_end (moment_at C u) → ⊥
+      end_not_earlier : (u : Side) → Earlier C at_end (moment_at_side C u) → ⊥
       end_not_earlier u e = go u.is_after e
         where
           go : (b : Bool) → Earlier C at_end (beside_by (row_on C u.point) b) → ⊥
           go false k = k.0
           go true k = k.0
 
-      to_end : (u : Side) → Earlier C (moment_at C u) at_end
+      to_end : (u : Side) → Earlier C (moment_at_side C u) at_end
       to_end u = go u.is_after
         where
           before_end : {r : Row} → before r ≡ at_end → ⊥
@@ -201,16 +201,16 @@ module _ (C : Course) (sound : IsSound C) where
           go true = (tt, λ e. after_end e)
 
       -- a moment between one and a moment that may come in time would end the search sooner
-      ends_over : (w u : Side) → (row_on C w.point).thread ≢ (row_on C u.point).thread → Earlier C (moment_at C w) (moment_at C u) → IsOther C s w ⊎ (following_at C s ≡ Some w) → not_past later.last (begin_at C u) ≡ true → ⊥
+      ends_over : (w u : Side) → (row_on C w.point).thread ≢ (row_on C u.point).thread → Earlier C (moment_at_side C w) (moment_at_side C u) → IsOther C s w ⊎ (following_at C s ≡ Some w) → not_past later.last (begin_at C u) ≡ true → ⊥
       ends_over w u apart e h in_time =
           let ended = past_parts (end_at C w) (begin_at C u) (earlier_late C sound w u apart e) in
           over_by later.last (begin_at C u) ended.0 in_time (its.most w ended.0 h ended.1) ended.2
 
-      other_of : (w : Side) → IsRow C (row_on C w.point) → (row_on C s.point).thread ≢ (row_on C w.point).thread → Earlier C (moment_at C s) (moment_at C w) → IsOther C s w
+      other_of : (w : Side) → IsRow C (row_on C w.point) → (row_on C s.point).thread ≢ (row_on C w.point).thread → Earlier C (moment_at_side C s) (moment_at_side C w) → IsOther C s w
       other_of w iw apart e = record { row = has_leg w iw; apart = apart; later = e }
 
       -- the next moment of the thread
-      own_none : (f : Side) → following_at C s ≡ Some f → not_past later.last (begin_at C f) ≡ true → (w : Side) → IsRow C (row_on C w.point) → Earlier C (moment_at C s) (moment_at C w) → Earlier C (moment_at C w) (moment_at C f) → ⊥
+      own_none : (f : Side) → following_at C s ≡ Some f → not_past later.last (begin_at C f) ≡ true → (w : Side) → IsRow C (row_on C w.point) → Earlier C (moment_at_side C s) (moment_at_side C w) → Earlier C (moment_at_side C w) (moment_at_side C f) → ⊥
       own_none f e in_time w iw one other =
           let d = following_is C sound s f is e in
           let next = d.turn in
@@ -224,32 +224,32 @@ module _ (C : Course) (sound : IsSound C) where
 
       -- the first later moment of another thread
       module _ (u : Side) (iu : IsRow C (row_on C u.point)) (apart : (row_on C s.point).thread ≢ (row_on C u.point).thread) (in_time : not_past later.last (begin_at C u) ≡ true) where
-        same_none : (o : Option Side) → former_at C u ≡ o → none_late C s o ≡ true → (w : Side) → IsRow C (row_on C w.point) → (row_on C w.point).thread ≡ (row_on C u.point).thread → Earlier C (moment_at C s) (moment_at C w) → Earlier C (moment_at C w) (moment_at C u) → ⊥
+        same_none : (o : Option Side) → former_at C u ≡ o → none_late C s o ≡ true → (w : Side) → IsRow C (row_on C w.point) → (row_on C w.point).thread ≡ (row_on C u.point).thread → Earlier C (moment_at_side C s) (moment_at_side C w) → Earlier C (moment_at_side C w) (moment_at_side C u) → ⊥
         same_none None e none w iw same one other = former_none C sound u w iu e same (turn_order C sound w u iw iu same other)
         same_none (Some p) e none w iw same one other =
             let d = former_is C sound u p iu e in
             let next = d.turn in
             let ip = former_row C sound u p iu e in
             let low = turn_order C sound w u iw iu same other in
-            let here : Earlier C (moment_at C s) (moment_at C p) = after_to w p iw ip (same ∙ sym d.same) (omega arith) one in
+            let here : Earlier C (moment_at_side C s) (moment_at_side C p) = after_to w p iw ip (same ∙ sym d.same) (omega arith) one in
             false≢true (sym (earlier_late C sound s p (λ k. apart (k ∙ d.same)) here) ∙ none)
           where
-            after_to : (a b : Side) → IsRow C (row_on C a.point) → IsRow C (row_on C b.point) → (row_on C a.point).thread ≡ (row_on C b.point).thread → turn a ≤ turn b → Earlier C (moment_at C s) (moment_at C a) → Earlier C (moment_at C s) (moment_at C b)
+            after_to : (a b : Side) → IsRow C (row_on C a.point) → IsRow C (row_on C b.point) → (row_on C a.point).thread ≡ (row_on C b.point).thread → turn a ≤ turn b → Earlier C (moment_at_side C s) (moment_at_side C a) → Earlier C (moment_at_side C s) (moment_at_side C b)
             after_to a b ia ib one_thread order k =
                 elim (cases_lt (turn a) (turn b)) [
-                  | inl less ↦ earlier_trans C sound (moment_at C s) (moment_at C a) (moment_at C b) k (in_turn C sound a b ia ib one_thread less)
-                  | inr past ↦ subst (λ (x : Side). Earlier C (moment_at C s) (moment_at C x)) (turn_same a b (omega arith)) k
+                  | inl less ↦ earlier_trans C sound (moment_at_side C s) (moment_at_side C a) (moment_at_side C b) k (in_turn C sound a b ia ib one_thread less)
+                  | inr past ↦ subst (λ (x : Side). Earlier C (moment_at_side C s) (moment_at_side C x)) (turn_same a b (omega arith)) k
                 ]
 
-        own_between : (o : Option Side) → following_at C s ≡ o → (w : Side) → IsRow C (row_on C w.point) → (row_on C s.point).thread ≡ (row_on C w.point).thread → Earlier C (moment_at C s) (moment_at C w) → Earlier C (moment_at C w) (moment_at C u) → ⊥
+        own_between : (o : Option Side) → following_at C s ≡ o → (w : Side) → IsRow C (row_on C w.point) → (row_on C s.point).thread ≡ (row_on C w.point).thread → Earlier C (moment_at_side C s) (moment_at_side C w) → Earlier C (moment_at_side C w) (moment_at_side C u) → ⊥
         own_between None e w iw same one other = following_none C sound s w is e iw same (turn_order C sound s w is iw same one)
         own_between (Some f) e w iw same one other =
             let d = following_is C sound s f is e in
             let next = d.turn in
             let low = turn_order C sound s w is iw same one in
-            ends_over f u (λ k. apart (d.same ∙ k)) (up_to f w d.row iw (sym d.same ∙ same) (omega arith) (moment_at C u) other) (inr e) in_time
+            ends_over f u (λ k. apart (d.same ∙ k)) (up_to f w d.row iw (sym d.same ∙ same) (omega arith) (moment_at_side C u) other) (inr e) in_time
 
-        first_none : none_late C s (former_at C u) ≡ true → (w : Side) → IsRow C (row_on C w.point) → Earlier C (moment_at C s) (moment_at C w) → Earlier C (moment_at C w) (moment_at C u) → ⊥
+        first_none : none_late C s (former_at C u) ≡ true → (w : Side) → IsRow C (row_on C w.point) → Earlier C (moment_at_side C s) (moment_at_side C w) → Earlier C (moment_at_side C w) (moment_at_side C u) → ⊥
         first_none none w iw one other =
             elim (cases_eq (row_on C w.point).thread (row_on C u.point).thread) [
               | inl same ↦ same_none (former_at C u) refl none w iw same one other
@@ -261,34 +261,34 @@ module _ (C : Course) (sound : IsSound C) where
             ]
 
       -- a later moment of a row with none of a row between is next
-      next_by : (u : Side) → IsRow C (row_on C u.point) → Earlier C (moment_at C s) (moment_at C u) → ((w : Side) → IsRow C (row_on C w.point) → Earlier C (moment_at C s) (moment_at C w) → Earlier C (moment_at C w) (moment_at C u) → ⊥) → IsNext C (moment_at C s) (moment_at C u)
+      next_by : (u : Side) → IsRow C (row_on C u.point) → Earlier C (moment_at_side C s) (moment_at_side C u) → ((w : Side) → IsRow C (row_on C w.point) → Earlier C (moment_at_side C s) (moment_at_side C w) → Earlier C (moment_at_side C w) (moment_at_side C u) → ⊥) → IsNext C (moment_at_side C s) (moment_at_side C u)
       next_by u iu e none = record {
         later = e;
         none = λ x ix one other. between x ix one other;
       }
         where
-          row_between : (x : Moment) → (w : Side) × IsRow C (row_on C w.point) × (moment_at C w ≡ x) → Earlier C (moment_at C s) x → Earlier C x (moment_at C u) → ⊥
-          row_between x found one other = none found.0 found.1 (subst (λ (y : Moment). Earlier C (moment_at C s) y) (sym found.2) one) (subst (λ (y : Moment). Earlier C y (moment_at C u)) (sym found.2) other)
+          row_between : (x : Moment) → (w : Side) × IsRow C (row_on C w.point) × (moment_at_side C w ≡ x) → Earlier C (moment_at_side C s) x → Earlier C x (moment_at_side C u) → ⊥
+          row_between x found one other = none found.0 found.1 (subst (λ (y : Moment). Earlier C (moment_at_side C s) y) (sym found.2) one) (subst (λ (y : Moment). Earlier C y (moment_at_side C u)) (sym found.2) other)
 
-          between : (x : Moment) → IsMoment C x → Earlier C (moment_at C s) x → Earlier C x (moment_at C u) → ⊥
+          between : (x : Moment) → IsMoment C x → Earlier C (moment_at_side C s) x → Earlier C x (moment_at_side C u) → ⊥
           between (before r) ix one other = row_between (before r) (side_from C sound (before r) ix (λ k. end_before k)) one other
           between (after r) ix one other = row_between (after r) (side_from C sound (after r) ix (λ k. end_after k)) one other
           between at_end ix one other = end_not_earlier u other
 
-      neighbour : (u : Side) → IsRow C (row_on C u.point) → (v : ℕ) → (numbers_of C).name (moment_at C u) ≡ v → IsNext C (moment_at C s) (moment_at C u) → IsNeighbour C (moment_at C s) v
-      neighbour u iu v name next = record { moment = moment_at C u; is_one = is_moment C sound u iu; next = next; name = name }
+      neighbour : (u : Side) → IsRow C (row_on C u.point) → (v : ℕ) → (numbers_of C).name (moment_at_side C u) ≡ v → IsNext C (moment_at_side C s) (moment_at_side C u) → IsNeighbour C (moment_at_side C s) v
+      neighbour u iu v name next = record { moment = moment_at_side C u; is_one = is_moment C sound u iu; next = next; name = name }
 
-      own_offers : (o : Option Side) → following_at C s ≡ o → (v : ℕ) → Member (offers_at C later.last o) v → IsNeighbour C (moment_at C s) v
+      own_offers : (o : Option Side) → following_at C s ≡ o → (v : ℕ) → Member (offers_at C later.last o) v → IsNeighbour C (moment_at_side C s) v
       own_offers None e v h = absurd h
       own_offers (Some f) e v h =
-          let k = one_by (not_past later.last (begin_at C f)) ((numbers_of C).name (moment_at C f)) v h in
+          let k = one_by (not_past later.last (begin_at C f)) ((numbers_of C).name (moment_at_side C f)) v h in
           let d = following_is C sound s f is e in
           neighbour f d.row v k.1 (next_by f d.row (own_after f e).later (own_none f e k.0))
 
       apart_by : (a b : ℕ) → not (eqb a b) ≡ true → a ≢ b
       apart_by a b e same = false≢true (sym (not_true (eqb a b) e) ∙ eq-eqb a b same)
 
-      first_offers : (v : ℕ) → IsOffer C s later.last v → IsNeighbour C (moment_at C s) v
+      first_offers : (v : ℕ) → IsOffer C s later.last v → IsNeighbour C (moment_at_side C s) v
       first_offers v o =
           let iu = leads o.first o.row in
           let parts = and_parts (not (eqb (row_on C s.point).thread (row_on C o.first.point).thread)) (none_late C s (former_at C o.first)) o.is in
@@ -296,20 +296,20 @@ module _ (C : Course) (sound : IsSound C) where
           neighbour o.first iu v o.name (next_by o.first iu (late_earlier C sound s o.first is iu o.late) (first_none o.first iu apart o.in_time parts.1))
 
       -- each next moment is one of these
-      module _ (u : Side) (iu : IsRow C (row_on C u.point)) (next : IsNext C (moment_at C s) (moment_at C u)) where
+      module _ (u : Side) (iu : IsRow C (row_on C u.point)) (next : IsNext C (moment_at_side C s) (moment_at_side C u)) where
         time_by : (o : Option ℕ) → later.last ≡ o → not_past o (begin_at C u) ≡ true
         time_by None e = refl
         time_by (Some t) e =
             let found = its.one t e in
             elim (cases_lt t (begin_at C u)) [
               | inr past ↦ le-leb (begin_at C u) t past
-              | inl less ↦ absurd (next.none (moment_at C found.0) (is_moment C sound found.0 (leads found.0 found.1.row)) found.1.later (late_earlier C sound found.0 u (leads found.0 found.1.row) iu (past_from (end_at C found.0) (begin_at C u) t found.2 less)))
+              | inl less ↦ absurd (next.none (moment_at_side C found.0) (is_moment C sound found.0 (leads found.0 found.1.row)) found.1.later (late_earlier C sound found.0 u (leads found.0 found.1.row) iu (past_from (end_at C found.0) (begin_at C u) t found.2 less)))
             ]
 
         in_time_is : not_past later.last (begin_at C u) ≡ true
         in_time_is = time_by later.last refl
 
-        own_held : (o : Option Side) → following_at C s ≡ o → (row_on C s.point).thread ≡ (row_on C u.point).thread → Member (offers_at C later.last o) ((numbers_of C).name (moment_at C u))
+        own_held : (o : Option Side) → following_at C s ≡ o → (row_on C s.point).thread ≡ (row_on C u.point).thread → Member (offers_at C later.last o) ((numbers_of C).name (moment_at_side C u))
         own_held None e same = absurd (following_none C sound s u is e iu same (turn_order C sound s u is iu same next.later))
         own_held (Some f) e same =
             let d = following_is C sound s f is e in
@@ -317,10 +317,10 @@ module _ (C : Course) (sound : IsSound C) where
             let low = turn_order C sound s u is iu same next.later in
             let one : f ≡ u =
             elim (cases_lt (turn f) (turn u)) [
-              | inl less ↦ absurd (next.none (moment_at C f) (is_moment C sound f d.row) (own_after f e).later (in_turn C sound f u d.row iu (sym d.same ∙ same) less))
+              | inl less ↦ absurd (next.none (moment_at_side C f) (is_moment C sound f d.row) (own_after f e).later (in_turn C sound f u d.row iu (sym d.same ∙ same) less))
               | inr past ↦ turn_same f u (omega arith)
             ] in
-            subst (λ (x : Side). Member (offers_at C later.last (Some x)) ((numbers_of C).name (moment_at C u))) (sym one) (held_by (not_past later.last (begin_at C u)) ((numbers_of C).name (moment_at C u)) ((numbers_of C).name (moment_at C u)) in_time_is refl)
+            subst (λ (x : Side). Member (offers_at C later.last (Some x)) ((numbers_of C).name (moment_at_side C u))) (sym one) (held_by (not_past later.last (begin_at C u)) ((numbers_of C).name (moment_at_side C u)) ((numbers_of C).name (moment_at_side C u)) in_time_is refl)
 
         early_by : (row_on C s.point).thread ≢ (row_on C u.point).thread → (o : Option Side) → former_at C u ≡ o → none_late C s o ≡ true
         early_by apart None e = refl
@@ -330,10 +330,10 @@ module _ (C : Course) (sound : IsSound C) where
             let ip = former_row C sound u p iu e in
             elim (cases_Bool (not_past (end_at C s) (begin_at C p))) [
               | inl early ↦ early
-              | inr late ↦ absurd (next.none (moment_at C p) (is_moment C sound p ip) (late_earlier C sound s p is ip late) (in_turn C sound p u ip iu d.same (omega arith)))
+              | inr late ↦ absurd (next.none (moment_at_side C p) (is_moment C sound p ip) (late_earlier C sound s p is ip late) (in_turn C sound p u ip iu d.same (omega arith)))
             ]
 
-        first_held : (row_on C s.point).thread ≢ (row_on C u.point).thread → IsOffer C s later.last ((numbers_of C).name (moment_at C u))
+        first_held : (row_on C s.point).thread ≢ (row_on C u.point).thread → IsOffer C s later.last ((numbers_of C).name (moment_at_side C u))
         first_held apart = record {
           first = u;
           row = has_leg u iu;
@@ -343,7 +343,7 @@ module _ (C : Course) (sound : IsSound C) where
           name = refl;
         }
 
-        all_held : Member (offers_at C later.last (following_at C s)) ((numbers_of C).name (moment_at C u)) ⊎ IsOffer C s later.last ((numbers_of C).name (moment_at C u))
+        all_held : Member (offers_at C later.last (following_at C s)) ((numbers_of C).name (moment_at_side C u)) ⊎ IsOffer C s later.last ((numbers_of C).name (moment_at_side C u))
         all_held =
             elim (cases_eq (row_on C s.point).thread (row_on C u.point).thread) [
               | inl same ↦ inl (own_held (following_at C s) refl same)
@@ -354,58 +354,58 @@ module _ (C : Course) (sound : IsSound C) where
       abbrev IsFound : ℕ → Type 0
       IsFound v = Member (offers_at C later.last (following_at C s)) v ⊎ IsOffer C s later.last v
 
-      row_held : (q : Moment) → IsNext C (moment_at C s) q → (u : Side) × IsRow C (row_on C u.point) × (moment_at C u ≡ q) → IsFound ((numbers_of C).name q)
-      row_held q next found = subst (λ (y : Moment). IsFound ((numbers_of C).name y)) found.2 (all_held found.0 found.1 (subst (λ (y : Moment). IsNext C (moment_at C s) y) (sym found.2) next))
+      row_held : (q : Moment) → IsNext C (moment_at_side C s) q → (u : Side) × IsRow C (row_on C u.point) × (moment_at_side C u ≡ q) → IsFound ((numbers_of C).name q)
+      row_held q next found = subst (λ (y : Moment). IsFound ((numbers_of C).name y)) found.2 (all_held found.0 found.1 (subst (λ (y : Moment). IsNext C (moment_at_side C s) y) (sym found.2) next))
 
-      next_held : later.some ≡ true → (q : Moment) → IsMoment C q → IsNext C (moment_at C s) q → IsFound ((numbers_of C).name q)
+      next_held : later.some ≡ true → (q : Moment) → IsMoment C q → IsNext C (moment_at_side C s) q → IsFound ((numbers_of C).name q)
       next_held some (before r) iq next = row_held (before r) next (side_from C sound (before r) iq (λ k. end_before k))
       next_held some (after r) iq next = row_held (after r) next (side_from C sound (after r) iq (λ k. end_after k))
-      next_held some at_end iq next = let found = its.some some in absurd (next.none (moment_at C found.0) (is_moment C sound found.0 (leads found.0 found.1.row)) found.1.later (to_end found.0))
+      next_held some at_end iq next = let found = its.some some in absurd (next.none (moment_at_side C found.0) (is_moment C sound found.0 (leads found.0 found.1.row)) found.1.later (to_end found.0))
 
-      pub nexts_found : (own : ℕ) (start old new : List ℕ) → later.some ≡ true → Adds own (Member (offers_at C later.last (following_at C s))) start old → Adds own (IsOffer C s later.last) old new → Adds own (Member (nexts_of C (moment_at C s))) start new
+      pub nexts_found : (own : ℕ) (start old new : List ℕ) → later.some ≡ true → AddsOthers own (Member (offers_at C later.last (following_at C s))) start old → AddsOthers own (IsOffer C s later.last) old new → AddsOthers own (Member (nexts_of C (moment_at_side C s))) start new
       nexts_found own start old new some =
-          adds_both own (Member (offers_at C later.last (following_at C s))) (IsOffer C s later.last) (Member (nexts_of C (moment_at C s))) start old new
-          (λ v h. neighbour_has C sound (moment_at C s) (is_moment C sound s is) v (elim h [
+          adds_both own (Member (offers_at C later.last (following_at C s))) (IsOffer C s later.last) (Member (nexts_of C (moment_at_side C s))) start old new
+          (λ v h. neighbour_has C sound (moment_at_side C s) (is_moment C sound s is) v (elim h [
             | inl k ↦ own_offers (following_at C s) refl v k
             | inr k ↦ first_offers v k
           ]))
-          (λ v h. let nb = has_next C sound (moment_at C s) (is_moment C sound s is) v h in subst IsFound nb.name (next_held some nb.moment nb.is_one nb.next))
+          (λ v h. let nb = has_next C sound (moment_at_side C s) (is_moment C sound s is) v h in subst IsFound nb.name (next_held some nb.moment nb.is_one nb.next))
 
       -- where nothing is later only the end is next
-      own_nothing : later.some ≡ false → (o : Option Side) → following_at C s ≡ o → (w : Side) → IsRow C (row_on C w.point) → (row_on C s.point).thread ≡ (row_on C w.point).thread → Earlier C (moment_at C s) (moment_at C w) → ⊥
+      own_nothing : later.some ≡ false → (o : Option Side) → following_at C s ≡ o → (w : Side) → IsRow C (row_on C w.point) → (row_on C s.point).thread ≡ (row_on C w.point).thread → Earlier C (moment_at_side C s) (moment_at_side C w) → ⊥
       own_nothing none None e w iw same one = following_none C sound s w is e iw same (turn_order C sound s w is iw same one)
       own_nothing none (Some f) e w iw same one = false≢true (sym none ∙ its.each f (inr e))
 
-      nothing : later.some ≡ false → (w : Side) → IsRow C (row_on C w.point) → Earlier C (moment_at C s) (moment_at C w) → ⊥
+      nothing : later.some ≡ false → (w : Side) → IsRow C (row_on C w.point) → Earlier C (moment_at_side C s) (moment_at_side C w) → ⊥
       nothing none w iw one =
           elim (cases_eq (row_on C s.point).thread (row_on C w.point).thread) [
             | inl same ↦ own_nothing none (following_at C s) refl w iw same one
             | inr away ↦ false≢true (sym none ∙ its.each w (inl (other_of w iw away one)))
           ]
 
-      nothing_of : later.some ≡ false → (q : Moment) → Earlier C (moment_at C s) q → (u : Side) × IsRow C (row_on C u.point) × (moment_at C u ≡ q) → ⊥
-      nothing_of none q one found = nothing none found.0 found.1 (subst (λ (y : Moment). Earlier C (moment_at C s) y) (sym found.2) one)
+      nothing_of : later.some ≡ false → (q : Moment) → Earlier C (moment_at_side C s) q → (u : Side) × IsRow C (row_on C u.point) × (moment_at_side C u ≡ q) → ⊥
+      nothing_of none q one found = nothing none found.0 found.1 (subst (λ (y : Moment). Earlier C (moment_at_side C s) y) (sym found.2) one)
 
-      end_none : later.some ≡ false → (x : Moment) → IsMoment C x → Earlier C (moment_at C s) x → Earlier C x at_end → ⊥
+      end_none : later.some ≡ false → (x : Moment) → IsMoment C x → Earlier C (moment_at_side C s) x → Earlier C x at_end → ⊥
       end_none none (before r) ix one other = nothing_of none (before r) one (side_from C sound (before r) ix (λ k. end_before k))
       end_none none (after r) ix one other = nothing_of none (after r) one (side_from C sound (after r) ix (λ k. end_after k))
       end_none none at_end ix one other = other.1 refl
 
-      end_held : later.some ≡ false → (q : Moment) → IsMoment C q → IsNext C (moment_at C s) q → Member ((numbers_of C).end ∷ []) ((numbers_of C).name q)
+      end_held : later.some ≡ false → (q : Moment) → IsMoment C q → IsNext C (moment_at_side C s) q → Member ((numbers_of C).end ∷ []) ((numbers_of C).name q)
       end_held none (before r) iq next = absurd (nothing_of none (before r) next.later (side_from C sound (before r) iq (λ k. end_before k)))
       end_held none (after r) iq next = absurd (nothing_of none (after r) next.later (side_from C sound (after r) iq (λ k. end_after k)))
       end_held none at_end iq next = inl (sym (are_numbers C sound).end)
 
-      end_next : later.some ≡ false → (v : ℕ) → Member ((numbers_of C).end ∷ []) v → IsNeighbour C (moment_at C s) v
+      end_next : later.some ≡ false → (v : ℕ) → Member ((numbers_of C).end ∷ []) v → IsNeighbour C (moment_at_side C s) v
       end_next none v (inl same) = record { moment = at_end; is_one = tt; next = record { later = to_end s; none = end_none none }; name = (are_numbers C sound).end ∙ same }
       end_next none v (inr h) = absurd h
 
-      pub nexts_end : (own : ℕ) (old new : List ℕ) (n : ℕ) → later.some ≡ false → n ≡ (numbers_of C).end → Adds own (Member (n ∷ [])) old new → Adds own (Member (nexts_of C (moment_at C s))) old new
+      pub nexts_end : (own : ℕ) (old new : List ℕ) (n : ℕ) → later.some ≡ false → n ≡ (numbers_of C).end → AddsOthers own (Member (n ∷ [])) old new → AddsOthers own (Member (nexts_of C (moment_at_side C s))) old new
       nexts_end own old new n none end e =
-          adds_as own (Member ((numbers_of C).end ∷ [])) (Member (nexts_of C (moment_at C s))) old new
-          (λ v h. neighbour_has C sound (moment_at C s) (is_moment C sound s is) v (end_next none v h))
-          (λ v h. let nb = has_next C sound (moment_at C s) (is_moment C sound s is) v h in subst (λ (k : ℕ). Member ((numbers_of C).end ∷ []) k) nb.name (end_held none nb.moment nb.is_one nb.next))
-          (subst (λ (k : ℕ). Adds own (Member (k ∷ [])) old new) end e)
+          adds_as own (Member ((numbers_of C).end ∷ [])) (Member (nexts_of C (moment_at_side C s))) old new
+          (λ v h. neighbour_has C sound (moment_at_side C s) (is_moment C sound s is) v (end_next none v h))
+          (λ v h. let nb = has_next C sound (moment_at_side C s) (is_moment C sound s is) v h in subst (λ (k : ℕ). Member ((numbers_of C).end ∷ []) k) nb.name (end_held none nb.moment nb.is_one nb.next))
+          (subst (λ (k : ℕ). AddsOthers own (Member (k ∷ [])) old new) end e)
 
 -- the numbers that were added, of the slices from one place to another
 pub record IsTaken (C : Course) (s : Side) (last : Option ℕ) (list : List Begun) (low high v : ℕ) : Type 0 where
@@ -417,11 +417,11 @@ pub record IsTaken (C : Course) (s : Side) (last : Option ℕ) (list : List Begu
   pub from : low ≤ place
   pub below : place < high
 
-pub taken_none : (C : Course) (s : Side) (last : Option ℕ) (list : List Begun) (own : ℕ) (old : List ℕ) (low : ℕ) → Adds own (IsTaken C s last list low low) old old
+pub taken_none : (C : Course) (s : Side) (last : Option ℕ) (list : List Begun) (own : ℕ) (old : List ℕ) (low : ℕ) → AddsOthers own (IsTaken C s last list low low) old old
 taken_none C s last list own old low = adds_none own (IsTaken C s last list low low) old (λ v h. let from = h.from in let below = h.below in absurd (omega arith))
 
-module _ (C : Course) (sound : IsSound C) (s : Side) (last : Option ℕ) (list : List Begun) (are : AreBegins C list) (low high : ℕ) (late : (k : ℕ) (b : Begun) → low ≤ k → slice_get list k ≡ Some b → not_past (end_at C s) b.begin ≡ false) (in_time : (k : ℕ) (b : Begun) → k < high → slice_get list k ≡ Some b → not_past last b.begin ≡ true) where
-  pub taken_more : (own : ℕ) (start old new : List ℕ) (place : ℕ) (first : Side) → place < high → high ≤ length list → low ≤ place → ((b : Begun) → slice_get list place ≡ Some b → first ≡ b.side) → Adds own (IsTaken C s last list low place) start old → Adds own (Member (first_offer C s first)) old new → Adds own (IsTaken C s last list low (place + 1)) start new
+module _ (C : Course) (sound : IsSoundCourse C) (s : Side) (last : Option ℕ) (list : List Begun) (are : AreBegins C list) (low high : ℕ) (late : (k : ℕ) (b : Begun) → low ≤ k → slice_get list k ≡ Some b → not_past (end_at C s) b.begin ≡ false) (in_time : (k : ℕ) (b : Begun) → k < high → slice_get list k ≡ Some b → not_past last b.begin ≡ true) where
+  pub taken_more : (own : ℕ) (start old new : List ℕ) (place : ℕ) (first : Side) → place < high → high ≤ length list → low ≤ place → ((b : Begun) → slice_get list place ≡ Some b → first ≡ b.side) → AddsOthers own (IsTaken C s last list low place) start old → AddsOthers own (Member (first_offer C s first)) old new → AddsOthers own (IsTaken C s last list low (place + 1)) start new
   taken_more own start old new place first less few order is_side = adds_both own (IsTaken C s last list low place) (Member (first_offer C s first)) (IsTaken C s last list low (place + 1)) start old new taken parted
     where
       its_at : Begun
@@ -436,7 +436,7 @@ module _ (C : Course) (sound : IsSound C) (s : Side) (last : Option ℕ) (list :
       taken : (v : ℕ) → IsTaken C s last list low place v ⊎ Member (first_offer C s first) v → IsTaken C s last list low (place + 1) v
       taken v (inl t) = let below = t.below in record { offer = t.offer; place = t.place; at = t.at; there = t.there; side = t.side; from = t.from; below = omega arith }
       taken v (inr k) =
-          let one = one_by (is_first_later C s first) ((numbers_of C).name (moment_at C first)) v k in
+          let one = one_by (is_first_later C s first) ((numbers_of C).name (moment_at_side C first)) v k in
           record {
             offer = record {
               first = first;
@@ -462,7 +462,7 @@ module _ (C : Course) (sound : IsSound C) (s : Side) (last : Option ℕ) (list :
                 let below = t.below in
                 let one : t.place ≡ place = omega arith in
                 let here : first ≡ t.offer.first = is_side t.at (ap (slice_get list) (sym one) ∙ t.there) ∙ t.side in
-                inr (held_by (is_first_later C s first) ((numbers_of C).name (moment_at C first)) v (ap (is_first_later C s) here ∙ t.offer.is) (ap (λ (x : Side). (numbers_of C).name (moment_at C x)) here ∙ t.offer.name))
+                inr (held_by (is_first_later C s first) ((numbers_of C).name (moment_at_side C first)) v (ap (is_first_later C s) here ∙ t.offer.is) (ap (λ (x : Side). (numbers_of C).name (moment_at_side C x)) here ∙ t.offer.name))
           ]
 
   first_at : (u : Side) → IsRow C (row_on C u.point) → not_past (end_at C s) (begin_at C u) ≡ false → (o : Option Side) → former_at C u ≡ o → none_late C s o ≡ true → is_first_at C u ≡ true
@@ -472,7 +472,7 @@ module _ (C : Course) (sound : IsSound C) (s : Side) (last : Option ℕ) (list :
       false≢true (sym past ∙ ap (not_past (end_at C s)) (sym same) ∙ none)))
 
   -- all of them, where no slice before begins late, and none after in time
-  pub taken_all : ((k : ℕ) (b : Begun) → k < low → slice_get list k ≡ Some b → not_past (end_at C s) b.begin ≡ true) → ((k : ℕ) (b : Begun) → high ≤ k → slice_get list k ≡ Some b → not_past last b.begin ≡ false) → (own : ℕ) (start new : List ℕ) (place : ℕ) → high ≤ place → Adds own (IsTaken C s last list low place) start new → Adds own (IsOffer C s last) start new
+  pub taken_all : ((k : ℕ) (b : Begun) → k < low → slice_get list k ≡ Some b → not_past (end_at C s) b.begin ≡ true) → ((k : ℕ) (b : Begun) → high ≤ k → slice_get list k ≡ Some b → not_past last b.begin ≡ false) → (own : ℕ) (start new : List ℕ) (place : ℕ) → high ≤ place → AddsOthers own (IsTaken C s last list low place) start new → AddsOthers own (IsOffer C s last) start new
   taken_all early past own start new place over = adds_as own (IsTaken C s last list low place) (IsOffer C s last) start new (λ v t. t.offer) (λ v o.
       let is = there_row C (row_on C o.first.point) o.row in
       let parts = and_parts (not (eqb (row_on C s.point).thread (row_on C o.first.point).thread)) (none_late C s (former_at C o.first)) o.is in

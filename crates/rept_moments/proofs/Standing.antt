@@ -6,7 +6,7 @@ use Rattle.std.proofs.lemmas.Option.{slice_get_past, slice_get_cases}
 use Rattle.rept_isa.specs.declared.row.StepRow.{StepRow}
 use Rattle.rept_steps.specs.declared.threads.ThreadRows.{ThreadRows}
 use Rattle.rept_steps.specs.Course.{Course, row_of, rows_of, no_thread, row_at}
-use Rattle.rept_order.specs.Legs.{Point, point_of, points_before, point_in, point_at, row_from, leg_row}
+use Rattle.rept_order.specs.Legs.{Point, point_of_thread, points_before, point_in, point_at, row_from, leg_row}
 use Rattle.rept_order.proofs.Legs.{point_number, number_point}
 use Rattle.rept_course.specs.Numbered.{legs_on}
 use Rattle.rept_moments.specs.Points.{points_in}
@@ -35,7 +35,7 @@ module _ (C : Course) where
     abbrev n : ℕ
     n = length (rows_of C t)
 
-    inside : (k : ℕ) → k ≤ n → point_at C (points_before C.threads t + k) ≡ point_of t k
+    inside : (k : ℕ) → k ≤ n → point_at C (points_before C.threads t + k) ≡ point_of_thread t k
     inside k few = point_number C t k (thread_of g below) few
 
     seam : leg_row C (points_before C.threads t + n) ≡ None

@@ -14,7 +14,7 @@ use Rattle.rept_course.specs.Numbered.{row_on}
 use Rattle.rept_course.proofs.Naming.{some_is}
 use Rattle.rept_moments.specs.declared.side.Side.{Side}
 use Rattle.rept_moments.specs.Points.{points_in, by_point}
-use Rattle.rept_moments.specs.Ordering.{moment_at, in_order}
+use Rattle.rept_moments.specs.Ordering.{moment_at_side, in_order}
 use Rattle.rept_moments.specs.Numbers.{numbers_of, numbered}
 use Rattle.rept_moments.specs.Seen.{seen_many, moment_by, moment_in}
 use Rattle.rept_moments.specs.Merging.{merged_at}
@@ -23,8 +23,8 @@ use Rattle.rept_moments.specs.Tables.{moments_at}
 use Rattle.rept_moments.proofs.Places.{row_there, there_row, next_row, by_point_length, by_point_get}
 use Rattle.rept_moments.proofs.Numbering.{count_same, rank_is, told, last_is}
 
-pub number_is : (C V : Course) (n : Numbered) (s : Side) (o : Option ℕ) → C ≡ V → moments_at C n.list ≡ lasts C (in_order C) → o ≡ find n.list s → unwrap_or o 0 ≡ rank (lasts V (in_order V)) (moment_at V s)
-number_is C V n s o view kept e = ap (λ (x : Option ℕ). unwrap_or x 0) e ∙ sym (rank_is C n.list s) ∙ ap (λ (ms : List Moment). rank ms (moment_at C s)) kept ∙ ap (λ (D : Course). rank (lasts D (in_order D)) (moment_at D s)) view
+pub number_is : (C V : Course) (n : Numbered) (s : Side) (o : Option ℕ) → C ≡ V → moments_at C n.list ≡ lasts C (in_order C) → o ≡ find n.list s → unwrap_or o 0 ≡ rank (lasts V (in_order V)) (moment_at_side V s)
+number_is C V n s o view kept e = ap (λ (x : Option ℕ). unwrap_or x 0) e ∙ sym (rank_is C n.list s) ∙ ap (λ (ms : List Moment). rank ms (moment_at_side C s)) kept ∙ ap (λ (D : Course). rank (lasts D (in_order D)) (moment_at_side D s)) view
 
 pub end_is : (C V : Course) (n : Numbered) (k : ℕ) → C ≡ V → moments_at C n.list ≡ lasts C (in_order C) → k ≡ length n.list → k ≡ length (lasts V (in_order V))
 end_is C V n k view kept e = e ∙ sym (count_same C n.list) ∙ ap (λ (ms : List Moment). length ms) kept ∙ ap (λ (D : Course). length (lasts D (in_order D))) view

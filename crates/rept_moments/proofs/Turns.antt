@@ -3,7 +3,7 @@ use Rattle.std.proofs.Common.{◌≡◌, ◌≢◌, ℕ, zero, suc, ◌+◌, ◌
 use Rattle.std.specs.Option.{is_some}
 use Rattle.std.proofs.lemmas.Bool.{false≢true, cases_lt, cases_eq, cases_order, eq-eqb, ne_eqb, lt-ltb, le-ltb, leb-true, le-leb}
 use Rattle.rept_steps.specs.declared.slice.Slice.{Slice}
-use Rattle.rept_steps.specs.Course.{Course, Row, row_of, rows_of, IsRow, IsSound}
+use Rattle.rept_steps.specs.Course.{Course, Row, row_of, rows_of, IsRow, IsSoundCourse}
 use Rattle.rept_order.specs.Events.{event_slice}
 use Rattle.rept_order.specs.Moments.{Moment, IsMoment, NotLater, Earlier}
 use Rattle.rept_order.specs.Moments.Moment.{before, after, at_end}
@@ -15,7 +15,7 @@ use Rattle.rept_order.proofs.Legs.{number_point}
 use Rattle.rept_order.proofs.Nexts.{earlier_trans}
 use Rattle.rept_course.specs.Numbered.{row_on}
 use Rattle.rept_moments.specs.declared.side.Side.{Side}
-use Rattle.rept_moments.specs.Ordering.{side, moment_at, event_at}
+use Rattle.rept_moments.specs.Ordering.{side, moment_at_side, event_at}
 use Rattle.rept_moments.specs.Edges.{begin_at, end_at}
 use Rattle.rept_moments.specs.Begins.{stands_by, former_at, following_at}
 use Rattle.rept_moments.specs.Writers.{end_of, not_past}
@@ -118,8 +118,8 @@ thread_by : (r : Row) (b : Bool) → thread_in (beside_by r b) ≡ r.thread
 thread_by r false = refl
 thread_by r true = refl
 
-module _ (C : Course) (sound : IsSound C) where
-  pub is_moment : (s : Side) → IsRow C (row_on C s.point) → IsMoment C (moment_at C s)
+module _ (C : Course) (sound : IsSoundCourse C) where
+  pub is_moment : (s : Side) → IsRow C (row_on C s.point) → IsMoment C (moment_at_side C s)
   is_moment s is = row_at_side C s.is_after (row_on C s.point) is
 
   -- of two points of a thread
@@ -144,18 +144,18 @@ module _ (C : Course) (sound : IsSound C) where
       ]
 
   -- the moments of a thread are in the order of these numbers
-  pub in_turn : (a b : Side) → IsRow C (row_on C a.point) → IsRow C (row_on C b.point) → (row_on C a.point).thread ≡ (row_on C b.point).thread → turn a < turn b → Earlier C (moment_at C a) (moment_at C b)
+  pub in_turn : (a b : Side) → IsRow C (row_on C a.point) → IsRow C (row_on C b.point) → (row_on C a.point).thread ≡ (row_on C b.point).thread → turn a < turn b → Earlier C (moment_at_side C a) (moment_at_side C b)
   in_turn a b is its same less = in_turn_by a.point b.point a.is_after b.is_after is its same less
 
   pub never : (m w : Moment) → Earlier C m w → Earlier C w m → ⊥
   never m w one other = (earlier_trans C sound m w m one other).1 refl
 
-  pub turn_order : (a b : Side) → IsRow C (row_on C a.point) → IsRow C (row_on C b.point) → (row_on C a.point).thread ≡ (row_on C b.point).thread → Earlier C (moment_at C a) (moment_at C b) → turn a < turn b
+  pub turn_order : (a b : Side) → IsRow C (row_on C a.point) → IsRow C (row_on C b.point) → (row_on C a.point).thread ≡ (row_on C b.point).thread → Earlier C (moment_at_side C a) (moment_at_side C b) → turn a < turn b
   turn_order a b is its same e =
       elim (cases_order (turn a) (turn b)) [
-        | inl one ↦ absurd (e.1 (ap (moment_at C) (turn_same a b one)))
+        | inl one ↦ absurd (e.1 (ap (moment_at_side C) (turn_same a b one)))
         | inr (inl less) ↦ less
-        | inr (inr more) ↦ absurd (never (moment_at C a) (moment_at C b) e (in_turn b a its is (sym same) more))
+        | inr (inr more) ↦ absurd (never (moment_at_side C a) (moment_at_side C b) e (in_turn b a its is (sym same) more))
       ]
 
   not_later_self : (m : Moment) → NotLater C m m
@@ -164,22 +164,22 @@ module _ (C : Course) (sound : IsSound C) where
   not_later_self at_end = tt
 
   -- of one thread it is decided by places
-  pub own_decided : (a b : Side) → IsRow C (row_on C a.point) → IsRow C (row_on C b.point) → (row_on C a.point).thread ≡ (row_on C b.point).thread → stands_by a b ≡ not_later C (moment_at C a) (moment_at C b)
+  pub own_decided : (a b : Side) → IsRow C (row_on C a.point) → IsRow C (row_on C b.point) → (row_on C a.point).thread ≡ (row_on C b.point).thread → stands_by a b ≡ not_later C (moment_at_side C a) (moment_at_side C b)
   own_decided a b is its same =
       elim (cases_order (turn a) (turn b)) [
-        | inl one ↦ yes_by a.point b.point a.is_after b.is_after (omega arith) ∙ sym (subst (λ (s : Side). not_later C (moment_at C a) (moment_at C s) ≡ true) (turn_same a b one) (not_later_from C sound (moment_at C a) (moment_at C a) (not_later_self (moment_at C a))))
-        | inr (inl less) ↦ yes_by a.point b.point a.is_after b.is_after (omega arith) ∙ sym (not_later_from C sound (moment_at C a) (moment_at C b) (in_turn a b is its same less).0)
+        | inl one ↦ yes_by a.point b.point a.is_after b.is_after (omega arith) ∙ sym (subst (λ (s : Side). not_later C (moment_at_side C a) (moment_at_side C s) ≡ true) (turn_same a b one) (not_later_from C sound (moment_at_side C a) (moment_at_side C a) (not_later_self (moment_at_side C a))))
+        | inr (inl less) ↦ yes_by a.point b.point a.is_after b.is_after (omega arith) ∙ sym (not_later_from C sound (moment_at_side C a) (moment_at_side C b) (in_turn a b is its same less).0)
         | inr (inr more) ↦
             let back = in_turn b a its is (sym same) more in
-            no_by a.point b.point a.is_after b.is_after more ∙ sym (not_so (not_later C (moment_at C a) (moment_at C b)) (λ e.
-            let k = not_later_true C sound (moment_at C a) (moment_at C b) (is_moment a is) (is_moment b its) e in
-            never (moment_at C b) (moment_at C a) back (k, λ one. back.1 (sym one))))
+            no_by a.point b.point a.is_after b.is_after more ∙ sym (not_so (not_later C (moment_at_side C a) (moment_at_side C b)) (λ e.
+            let k = not_later_true C sound (moment_at_side C a) (moment_at_side C b) (is_moment a is) (is_moment b its) e in
+            never (moment_at_side C b) (moment_at_side C a) back (k, λ one. back.1 (sym one))))
       ]
 
   -- a moment whose slice begins after that of another one ends is later
-  pub late_earlier : (a b : Side) → IsRow C (row_on C a.point) → IsRow C (row_on C b.point) → not_past (end_at C a) (begin_at C b) ≡ false → Earlier C (moment_at C a) (moment_at C b)
+  pub late_earlier : (a b : Side) → IsRow C (row_on C a.point) → IsRow C (row_on C b.point) → not_past (end_at C a) (begin_at C b) ≡ false → Earlier C (moment_at_side C a) (moment_at_side C b)
   late_earlier a b is its late =
-      let k = not_later_true C sound (moment_at C a) (moment_at C b) (is_moment a is) (is_moment b its) (sides_ended C a b (ends_past (event_slice C (event_at C a)) (begin_at C b) late)) in
+      let k = not_later_true C sound (moment_at_side C a) (moment_at_side C b) (is_moment a is) (is_moment b its) (sides_ended C a b (ends_past (event_slice C (event_at C a)) (begin_at C b) late)) in
       elim (cases_eq (row_on C a.point).thread (row_on C b.point).thread) [
         | inr other ↦ (k, λ e. other (sym (thread_by (row_on C a.point) a.is_after) ∙ ap thread_in e ∙ thread_by (row_on C b.point) b.is_after))
         | inl same ↦
@@ -198,11 +198,11 @@ module _ (C : Course) (sound : IsSound C) where
       ]
 
   -- and of two threads no other one is
-  pub earlier_late : (a b : Side) → (row_on C a.point).thread ≢ (row_on C b.point).thread → Earlier C (moment_at C a) (moment_at C b) → not_past (end_at C a) (begin_at C b) ≡ false
-  earlier_late a b other e = past_ends (event_slice C (event_at C a)) (begin_at C b) (sym (sides_apart C a b other) ∙ not_later_from C sound (moment_at C a) (moment_at C b) e.0)
+  pub earlier_late : (a b : Side) → (row_on C a.point).thread ≢ (row_on C b.point).thread → Earlier C (moment_at_side C a) (moment_at_side C b) → not_past (end_at C a) (begin_at C b) ≡ false
+  earlier_late a b other e = past_ends (event_slice C (event_at C a)) (begin_at C b) (sym (sides_apart C a b other) ∙ not_later_from C sound (moment_at_side C a) (moment_at_side C b) e.0)
 
   -- each moment but the end is one of a row that leads from a point
-  pub side_from : (m : Moment) → IsMoment C m → at_end ≢ m → (s : Side) × IsRow C (row_on C s.point) × (moment_at C s ≡ m)
+  pub side_from : (m : Moment) → IsMoment C m → at_end ≢ m → (s : Side) × IsRow C (row_on C s.point) × (moment_at_side C s ≡ m)
   side_from (before r) is other = (side (point_of_row C r) false, subst (λ (q : Row). IsRow C q) (sym (row_point C r is)) is, ap before (row_point C r is))
   side_from (after r) is other = (side (point_of_row C r) true, subst (λ (q : Row). IsRow C q) (sym (row_point C r is)) is, ap after (row_point C r is))
   side_from at_end is other = absurd (other refl)

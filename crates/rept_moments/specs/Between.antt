@@ -16,6 +16,6 @@ pub record IsOwn (C : Course) (m w i : ℕ) : Type 0 where
   pub before : (numbers_of C).name (before (row_on C i)) ≡ m
   pub after : (numbers_of C).name (after (row_on C i)) ≡ w
 
-abbrev pub IsBetween : Course → ℕ → ℕ → Option ℕ → Type 0
-IsBetween C m w None = (i : ℕ) → IsOwn C m w i → ⊥
-IsBetween C m w (Some i) = IsOwn C m w i
+abbrev pub IsOwnBetween : Course → ℕ → ℕ → Option ℕ → Type 0
+IsOwnBetween C m w None = (i : ℕ) → IsOwn C m w i → ⊥
+IsOwnBetween C m w (Some i) = IsOwn C m w i

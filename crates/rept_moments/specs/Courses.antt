@@ -7,13 +7,13 @@ use Rattle.rept_order.specs.Moments.{Moment}
 use Rattle.rept_order.specs.Moments.Moment.{before, at_end}
 use Rattle.rept_moments.specs.declared.course.Course.{Course}
 use Rattle.rept_moments.specs.declared.course.Course as courses
-use Rattle.rept_moments.specs.Seen.{Seen, seen_alone, alone_by}
+use Rattle.rept_moments.specs.Seen.{SeenMoments, seen_alone, alone_by}
 use Rattle.rept_moments.specs.Several.{seen_of}
 use Rattle.rept_moments.specs.declared.side.Place.{Place}
 use Rattle.rept_moments.specs.Numbers.{numbers_of}
 use Rattle.rept_moments.specs.Points.{points_in, place_on}
 
-abbrev pub seen_in : Course → Seen
+abbrev pub seen_in : Course → SeenMoments
 seen_in (courses.TheVariants.One steps) = seen_alone steps.now
 seen_in (courses.TheVariants.Many many) = seen_of many
 

@@ -1,6 +1,6 @@
 -- The times of the moments of rows, and the tables of the points. This project's own.
 use Rattle.std.specs.Prelude.{◌≡◌, ◌≤◌, ℕ, Bool, true, false, List, length, Option}
-use Rattle.rept_steps.specs.Course.{Course, Row, row_of, calls, IsSound}
+use Rattle.rept_steps.specs.Course.{Course, Row, row_of, calls, IsSoundCourse}
 use Rattle.rept_order.specs.Events.{Event, event_slice}
 use Rattle.rept_order.specs.Legs.{points_before}
 use Rattle.rept_order.specs.Runs.{edge_part}
@@ -37,7 +37,7 @@ abbrev pub edges_at : Course → ℕ → Edges
 edges_at C g = edges_in C (place_on C g)
 
 pub record ArePoints (C : Course) (list : List Place) (firsts : List ℕ) (all : List Edges) : Type 0 where
-  pub sound : IsSound C
+  pub sound : IsSoundCourse C
   pub few : points_in C ≤ 66560
   pub places : list ≡ by_point (place_on C) (points_in C)
   pub starts : firsts ≡ by_point (points_before C.threads) (length C.threads)

@@ -35,11 +35,11 @@ abbrev pub latest_reaches : Latest → ℕ → ℕ → Bool
 latest_reaches x thread from = reaches_to (if thread == x.thread then x.other else x.end) from
 
 -- it tells of each thread whether a writer of another one lasts to a time
-pub record IsLatest (ws : List Writer) (x : Latest) : Type 0 where
+pub record TellsLatest (ws : List Writer) (x : Latest) : Type 0 where
   pub is : (thread from : ℕ) → list_any (lasts_to thread from) ws ≡ latest_reaches x thread from
   pub least : (from : ℕ) → reaches_to x.other from ≡ true → reaches_to x.end from ≡ true
 
 -- one for the first so many writers, from none on
 pub record AreLatest (ws : List Writer) (xs : List Latest) : Type 0 where
   pub count : length xs ≡ suc (length ws)
-  pub each : (k : ℕ) (x : Latest) → slice_get xs k ≡ Some x → IsLatest (take k ws) x
+  pub each : (k : ℕ) (x : Latest) → slice_get xs k ≡ Some x → TellsLatest (take k ws) x

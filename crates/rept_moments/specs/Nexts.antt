@@ -10,7 +10,7 @@ use Rattle.rept_course.specs.Making.{is_next, moments_in}
 use Rattle.rept_course.specs.Numbered.{row_on}
 use Rattle.rept_moments.specs.declared.side.Side.{Side}
 use Rattle.rept_moments.specs.declared.nexts.Later.{Later}
-use Rattle.rept_moments.specs.Ordering.{moment_at}
+use Rattle.rept_moments.specs.Ordering.{moment_at_side}
 use Rattle.rept_moments.specs.Edges.{begin_at, end_at}
 use Rattle.rept_moments.specs.Begins.{former_at, sooner_end, IsBy}
 use Rattle.rept_moments.specs.Writers.{not_past}
@@ -35,7 +35,7 @@ point_nexts C (suc g) = merged_nexts C g
 
 -- of the moments that go by the number of one of a row
 abbrev pub side_nexts : Course → Side → List ℕ
-side_nexts C s = nexts_of C (moment_at C s) ++ (if s.is_after then [] else point_nexts C s.point)
+side_nexts C s = nexts_of C (moment_at_side C s) ++ (if s.is_after then [] else point_nexts C s.point)
 
 -- of those that are one with the end, of so many threads
 abbrev pub last_nexts : Course → ℕ → ℕ → List ℕ
@@ -57,19 +57,19 @@ Member [] v = ⊥
 Member (n ∷ ns) v = (n ≡ v) ⊎ Member ns v
 
 -- numbers of which something is so, all of them but one that is left out, were added to a list
-abbrev pub Adds : ℕ → (ℕ → Type 0) → List ℕ → List ℕ → Type 0
-Adds own Is old new = (v : ℕ) → Contains new v ↔ (Contains old v ⊎ (Is v × (v ≢ own)))
+abbrev pub AddsOthers : ℕ → (ℕ → Type 0) → List ℕ → List ℕ → Type 0
+AddsOthers own Is old new = (v : ℕ) → Contains new v ↔ (Contains old v ⊎ (Is v × (v ≢ own)))
 
 -- a moment of a row that is later than one of a row
 pub record IsAfter (C : Course) (s u : Side) : Type 0 where
   pub row : IsSome (leg_row C u.point)
-  pub later : Earlier C (moment_at C s) (moment_at C u)
+  pub later : Earlier C (moment_at_side C s) (moment_at_side C u)
 
 -- the same in another thread
 pub record IsOther (C : Course) (s u : Side) : Type 0 where
   pub row : IsSome (leg_row C u.point)
   pub apart : (row_on C s.point).thread ≢ (row_on C u.point).thread
-  pub later : Earlier C (moment_at C s) (moment_at C u)
+  pub later : Earlier C (moment_at_side C s) (moment_at_side C u)
 
 -- with the end of one more moment, if there is one
 abbrev pub end_with : Course → Option Side → Later → Later
@@ -86,7 +86,7 @@ pub record IsLaterBy (C : Course) (s : Side) (own : Option Side) (later : Later)
 -- the number of a moment, if it may come by a time
 abbrev pub offers_at : Course → Option ℕ → Option Side → List ℕ
 offers_at C last None = []
-offers_at C last (Some s) = if not_past last (begin_at C s) then (numbers_of C).name (moment_at C s) ∷ [] else []
+offers_at C last (Some s) = if not_past last (begin_at C s) then (numbers_of C).name (moment_at_side C s) ∷ [] else []
 
 -- a moment of another thread, if there is one, doesn't begin after the slice of one of a row ends
 abbrev pub none_late : Course → Side → Option Side → Bool
@@ -98,7 +98,7 @@ abbrev pub is_first_later : Course → Side → Side → Bool
 is_first_later C s u = not ((row_on C s.point).thread == (row_on C u.point).thread) && none_late C s (former_at C u)
 
 abbrev pub first_offer : Course → Side → Side → List ℕ
-first_offer C s u = if is_first_later C s u then (numbers_of C).name (moment_at C u) ∷ [] else []
+first_offer C s u = if is_first_later C s u then (numbers_of C).name (moment_at_side C u) ∷ [] else []
 
 -- the number is that of the first moment of another thread that is later than one, and it may come by a time
 pub record IsOffer (C : Course) (s : Side) (last : Option ℕ) (v : ℕ) : Type 0 where
@@ -107,4 +107,4 @@ pub record IsOffer (C : Course) (s : Side) (last : Option ℕ) (v : ℕ) : Type 
   pub late : not_past (end_at C s) (begin_at C first) ≡ false
   pub is : is_first_later C s first ≡ true
   pub in_time : not_past last (begin_at C first) ≡ true
-  pub name : (numbers_of C).name (moment_at C first) ≡ v
+  pub name : (numbers_of C).name (moment_at_side C first) ≡ v

@@ -4,7 +4,7 @@ use Rattle.std.specs.Prelude.{◌==◌, Bool, true, false, Option, None}
 use Rattle.rept_steps.specs.Course.{Course}
 use Rattle.rept_order.specs.Moments.{Stretch}
 use Rattle.rept_report.specs.Moments.{Moments}
-use Rattle.rept_course.specs.Names.{Names}
+use Rattle.rept_course.specs.Names.{MomentNames}
 use Rattle.rept_course.specs.Making.{names_by}
 use Rattle.rept_course.specs.Numbered.{moments_of}
 use Rattle.rept_moments.specs.Ordering.{in_order}
@@ -14,11 +14,11 @@ unless true link = None
 unless false link = link
 
 -- the same names, of which none is next to itself
-abbrev pub apart : Names → Names
+abbrev pub apart : MomentNames → MomentNames
 apart N = record { name = N.name; end = N.end; last = N.last; link = λ m w. unless (m == w) (N.link m w) }
 
 -- the numbers as names
-abbrev pub numbers_of : Course → Names
+abbrev pub numbers_of : Course → MomentNames
 numbers_of C = apart (names_by C (in_order C))
 
 -- the moments by these numbers

@@ -17,8 +17,8 @@ abbrev pub side : ℕ → Bool → Side
 side g b = record { point = g; is_after = b }
 
 -- the moment, and the event of its row that it lies at
-abbrev pub moment_at : Course → Side → Moment
-moment_at C s = beside_by (row_on C s.point) s.is_after
+abbrev pub moment_at_side : Course → Side → Moment
+moment_at_side C s = beside_by (row_on C s.point) s.is_after
 
 abbrev pub event_at : Course → Side → Event
 event_at C s = record { row = row_on C s.point; part = edge_part s.is_after (calls C (row_on C s.point)) }
@@ -50,7 +50,7 @@ in_time C = by_time (timed_to C (points_in C))
 -- as moments, the last one first
 abbrev pub back : Course → List Timed → List Moment
 back C [] = []
-back C (x ∷ xs) = back C xs ++ moment_at C x.side ∷ []
+back C (x ∷ xs) = back C xs ++ moment_at_side C x.side ∷ []
 
 -- all moments of the course but the end, the last one first
 abbrev pub in_order : Course → List Moment

@@ -12,14 +12,14 @@ use Rattle.rept_report.specs.Moments.{Moments, points_of}
 use Rattle.rept_course.specs.Numbered.{legs_on}
 use Rattle.rept_moments.specs.Numbers.{numbered}
 
-pub record Seen : Type 0 where
+pub record SeenMoments : Type 0 where
   pub legs : Legs
   pub moments : Moments
 
-abbrev pub seen_alone : List StepRow → Seen
+abbrev pub seen_alone : List StepRow → SeenMoments
 seen_alone rows = record { legs = legs_of rows; moments = points_of (length rows) }
 
-abbrev pub seen_many : Course → Seen
+abbrev pub seen_many : Course → SeenMoments
 seen_many C = record { legs = legs_on C; moments = numbered C }
 
 -- the rows, if it is one thread in one slice, all of which is told
@@ -31,11 +31,11 @@ abbrev pub alone_by : List ThreadRows → Option ℕ → Option (List StepRow)
 alone_by (thread ∷ []) None = rows_in thread.slices thread.steps
 alone_by threads dark = None
 
-abbrev pub seen_by : Course → Option (List StepRow) → Seen
+abbrev pub seen_by : Course → Option (List StepRow) → SeenMoments
 seen_by C (Some rows) = seen_alone rows
 seen_by C None = seen_many C
 
-abbrev pub seen : Course → Seen
+abbrev pub seen : Course → SeenMoments
 seen C = seen_by C (alone_by C.threads C.dark)
 
 abbrev pub moment_by : Moments → Option StepRow → ℕ → ℕ
@@ -43,7 +43,7 @@ moment_by moments None p = moments.end
 moment_by moments (Some row) p = moments.before p
 
 -- the moment of a point: the one before its row, and where no row leads from it the end
-abbrev pub moment_in : Seen → ℕ → ℕ
+abbrev pub moment_in : SeenMoments → ℕ → ℕ
 moment_in x p = moment_by x.moments (x.legs.row p) p
 
 -- the numbers that are next to one were added to a list, all of them
@@ -51,7 +51,7 @@ abbrev pub AddsNexts : Moments → ℕ → List ℕ → List ℕ → Type 0
 AddsNexts moments m old new = (w : ℕ) → Contains new w ↔ (Contains old w ⊎ (moments.next m w ≡ true))
 
 -- the one row that has the moment of a number before it, or that no row has
-abbrev pub IsRowAt : Seen → ℕ → Option ℕ → Type 0
+abbrev pub IsRowAt : SeenMoments → ℕ → Option ℕ → Type 0
 IsRowAt x m None = (i : ℕ) → IsSome (x.legs.row i) → x.moments.before i ≢ m
 IsRowAt x m (Some i) = IsSome (x.legs.row i) × (x.moments.before i ≡ m) × ((j : ℕ) → IsSome (x.legs.row j) → x.moments.before j ≡ m → j ≡ i)
 

@@ -1,6 +1,6 @@
 -- The rows and moments that the numbers of several threads stand for.
 use Rattle.rept_steps.specs.Course.{Course}
-use Rattle.rept_moments.specs.Seen.{Seen, seen_many}
+use Rattle.rept_moments.specs.Seen.{SeenMoments, seen_many}
 
-abbrev pub seen_of : Course → Seen
+abbrev pub seen_of : Course → SeenMoments
 seen_of C = seen_many C

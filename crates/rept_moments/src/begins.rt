@@ -221,23 +221,14 @@ impl Begins {
         Ok(Begins { list })
     }
 
-    /// How many begin at this time or before, found by halves.
+    /// How many begin at this time or before.
     fn begun_by(&self, time: u64) -> usize
         ensures few { result ≤ length self.now }
         ensures before { (k : ℕ) (b : Begun) → k < result → slice_get self.now k ≡ Some b → b.begin ≤ time }
         ensures after { (k : ℕ) (b : Begun) → result ≤ k → slice_get self.now k ≡ Some b → time < b.begin }
     {
-        let mut low = 0;
-        let mut high = self.list.len();
-        while low < high {
-            let middle = low + (high - low) / 2;
-            if self.list[middle].begin > time {
-                high = middle;
-            } else {
-                low = middle + 1;
-            }
-        }
-        low
+        let list = self.list.as_slice();
+        list.partition_point(|begun| begun.begin <= time)
     }
 
     /// The place of the first slice that begins after an end; where that isn't known none does.

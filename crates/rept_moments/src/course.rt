@@ -1,7 +1,7 @@
 //! The rows and moments of any run, by numbers.
 
 ghost use Rattle.std.specs.Prelude.{◌≡◌, ◌≤◌, ◌<◌, ℕ, length, true, Some, None, IfOk, IsOk, OnOk, IsSome, MatchOption};
-ghost use Rattle.rept_steps.specs.Course.{IsSound};
+ghost use Rattle.rept_steps.specs.Course.{IsSoundCourse};
 ghost use Rattle.rept_steps.specs.Runs.{course_of};
 ghost use Rattle.rept_order.specs.Legs.{points_before};
 ghost use Rattle.rept_order.specs.Runs.{moment_named};
@@ -29,8 +29,8 @@ pub enum Course<'a> {
     Many(Many<'a>),
 }
 
-/// The rows of the run, if it is of one thread in one slice, all of which is told.
-fn alone<'a>(run: &'a Run) -> Option<&'a Steps>
+/// The rows of a run that is one path: of one thread in one slice, all of which is told. None of any other run.
+pub fn one_path<'a>(run: &'a Run) -> Option<&'a Steps>
     ensures { MatchOption result (alone_by run.now.threads run.now.dark ≡ None) (λ steps. alone_by run.now.threads run.now.dark ≡ Some steps.now) }
 {
     let threads = run.threads.all();
@@ -60,7 +60,7 @@ impl<'a> Course<'a> {
     /// The rows and moments of this run, which must be sound and have at most 66,560 points: those of 65,536 rows and 1,024 threads. Of one thread in one slice, all of which
     /// is told, it takes no memory; else memory for a few entries a point.
     pub fn new(alloc: Global, run: &'a Run) -> Result<Course<'a>, OutOfMemory>
-        requires sound { IsSound (course_of run.now) }
+        requires sound { IsSoundCourse (course_of run.now) }
         requires few { points_in (course_of run.now) ≤ 66560 }
         ensures ok { IfOk result (λ c. seen_in c ≡ seen (course_of run.now)) }
         ensures threads { IfOk result (λ c. threads_in c ≡ length run.now.threads) }
@@ -69,7 +69,7 @@ impl<'a> Course<'a> {
         ensures one { IsSome (alone_by run.now.threads run.now.dark) → IfOk result (λ c. is_one c ≡ true) }
         ensures course { IfOk result (IsCourseOf (course_of run.now)) }
     {
-        match alone(run) {
+        match one_path(run) {
             Some(steps) => Ok(Course::One { steps }),
             None => Ok(Course::Many(Many::new(alloc, run)?)),
         }

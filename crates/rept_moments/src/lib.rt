@@ -16,7 +16,7 @@ mod trail;
 mod writers;
 mod writing;
 
-pub use course::Course;
+pub use course::{Course, one_path};
 pub use laws::numbers_are_names;
 pub use many::Many;
 pub use room::has_room;

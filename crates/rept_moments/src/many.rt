@@ -1,7 +1,7 @@
 //! The numbers of the moments of several threads.
 
 ghost use Rattle.std.specs.Prelude.{◌≡◌, ◌≤◌, ◌<◌, ◌^◌, ◌+◌, Some, true, length, IfOk, IfSome, IsSome, OnOk};
-ghost use Rattle.rept_steps.specs.Course.{rows_of, IsSound};
+ghost use Rattle.rept_steps.specs.Course.{rows_of, IsSoundCourse};
 ghost use Rattle.rept_steps.specs.Runs.{course_of};
 ghost use Rattle.rept_order.specs.Legs.{points_before};
 ghost use Rattle.rept_order.specs.Moments.{stores};
@@ -10,14 +10,14 @@ ghost use Rattle.rept_order.specs.Times.{begin_of};
 ghost use Rattle.rept_course.specs.Numbered.{row_on};
 ghost use Rattle.rept_course.specs.Making.{lasts, rank};
 ghost use Rattle.rept_moments.specs.Points.{by_point, place_on, points_in};
-ghost use Rattle.rept_moments.specs.Ordering.{in_order, in_time, moment_at, event_at};
+ghost use Rattle.rept_moments.specs.Ordering.{in_order, in_time, moment_at_side, event_at};
 ghost use Rattle.rept_moments.specs.Merging.{merged_at};
 ghost use Rattle.rept_moments.specs.Numbers.{numbers_of};
 ghost use Rattle.rept_moments.specs.Numbering.{kept_with};
-ghost use Rattle.rept_moments.specs.Between.{own_to, IsBetween};
+ghost use Rattle.rept_moments.specs.Between.{own_to, IsOwnBetween};
 ghost use Rattle.rept_moments.specs.Seen.{moment_in, AddsNexts, IsRowAt, IsLastFrom};
 ghost use Rattle.rept_moments.specs.Begins.{following_at, AreBegins};
-ghost use Rattle.rept_moments.specs.Nexts.{is_first_later, none_late, first_offer, offers_at, nexts_of, merged_nexts, point_nexts, side_nexts, last_nexts, ends_to, Adds, Member, IsLaterBy, IsOffer};
+ghost use Rattle.rept_moments.specs.Nexts.{is_first_later, none_late, first_offer, offers_at, nexts_of, merged_nexts, point_nexts, side_nexts, last_nexts, ends_to, AddsOthers, Member, IsLaterBy, IsOffer};
 ghost use Rattle.rept_moments.specs.Tables.{moments_at};
 
 use crate::begins::{Begins, following, former};
@@ -98,7 +98,7 @@ impl<'a> Many<'a> {
 
     /// The numbers of the run's moments. The run must be sound, and have at most 65,536 rows and 1,024 threads. It takes memory for a few entries a row.
     pub fn new(alloc: Global, run: &'a Run) -> Result<Many<'a>, OutOfMemory>
-        requires sound { IsSound (course_of run.now) }
+        requires sound { IsSoundCourse (course_of run.now) }
         requires few { points_in (course_of run.now) ≤ 66560 }
         ensures { IfOk result (λ m. m ≡ course_of run.now) }
     {
@@ -173,7 +173,7 @@ impl<'a> Many<'a> {
     /// The number of a moment of a row that is the last of those that are one with it.
     fn number(&self, side: Side) -> u32
         requires { side.point < points_in self.now }
-        ensures { result ≡ rank (lasts self.now (in_order self.now)) (moment_at self.now side) }
+        ensures { result ≡ rank (lasts self.now (in_order self.now)) (moment_at_side self.now side) }
     {
         match self.numbers.find(side) {
             Some(number) => number,
@@ -372,7 +372,7 @@ impl<'a> Many<'a> {
 
     /// The row that is no call and has these moments before and after it.
     pub fn row_between(&self, m: u32, w: u32) -> Option<u32>
-        ensures { IsBetween self.now m w result }
+        ensures { IsOwnBetween self.now m w result }
     {
         match self.numbers.at(m) {
             Some(side) if !side.is_after => self.own_between(side.point, w),
@@ -398,7 +398,7 @@ impl<'a> Many<'a> {
     /// The number of a moment of a row.
     fn name(&self, side: Side) -> u32
         requires { IsSome ((seen_of self.now).legs.row side.point) }
-        ensures { result ≡ (numbers_of self.now).name (moment_at self.now side) }
+        ensures { result ≡ (numbers_of self.now).name (moment_at_side self.now side) }
     {
         if side.is_after {
             self.after(side.point)
@@ -442,7 +442,7 @@ impl<'a> Many<'a> {
         first: Option<Side>,
     ) -> Result<(), OutOfMemory>
         requires { IfSome first (λ s. IsSome ((seen_of self.now).legs.row s.point)) }
-        ensures { OnOk result (Adds own (Member (offers_at self.now last first)) list.old.items list.new.items) }
+        ensures { OnOk result (AddsOthers own (Member (offers_at self.now last first)) list.old.items list.new.items) }
     {
         match first {
             Some(side) => self.add_in_time(list, own, last, side),
@@ -459,7 +459,7 @@ impl<'a> Many<'a> {
         side: Side,
     ) -> Result<(), OutOfMemory>
         requires { IsSome ((seen_of self.now).legs.row side.point) }
-        ensures { OnOk result (Adds own (Member (offers_at self.now last (Some side))) list.old.items list.new.items) }
+        ensures { OnOk result (AddsOthers own (Member (offers_at self.now last (Some side))) list.old.items list.new.items) }
     {
         let begin = self.begin(side);
         if is_not_past(last, begin) {
@@ -472,7 +472,7 @@ impl<'a> Many<'a> {
     /// Adds the numbers of the moments that are next to one of a row.
     fn add_after(&self, list: &mut Vec<u32>, own: u32, side: Side) -> Result<(), OutOfMemory>
         requires { IsSome ((seen_of self.now).legs.row side.point) }
-        ensures { OnOk result (Adds own (Member (nexts_of self.now (moment_at self.now side))) list.old.items list.new.items) }
+        ensures { OnOk result (AddsOthers own (Member (nexts_of self.now (moment_at_side self.now side))) list.old.items list.new.items) }
     {
         let _ = &self.points;
         let later = self.later(side);
@@ -517,7 +517,7 @@ impl<'a> Many<'a> {
     ) -> Result<(), OutOfMemory>
         requires side { IsSome ((seen_of self.now).legs.row side.point) }
         requires first { IsSome ((seen_of self.now).legs.row first.point) }
-        ensures { OnOk result (Adds own (Member (first_offer self.now side first)) list.old.items list.new.items) }
+        ensures { OnOk result (AddsOthers own (Member (first_offer self.now side first)) list.old.items list.new.items) }
     {
         if self.is_first_later(side, first) {
             add_other(list, own, self.name(first))
@@ -537,7 +537,7 @@ impl<'a> Many<'a> {
     ) -> Result<(), OutOfMemory>
         requires row { IsSome ((seen_of self.now).legs.row side.point) }
         requires begins { AreBegins self.now begins.now }
-        ensures { OnOk result (Adds own (IsOffer self.now side last) list.old.items list.new.items) }
+        ensures { OnOk result (AddsOthers own (IsOffer self.now side last) list.old.items list.new.items) }
     {
         let start = begins.after(self.points.end(side));
         let end = begins.after(last);
@@ -550,7 +550,7 @@ impl<'a> Many<'a> {
     /// The same of the moment after the row that leads from a point, if it is one with the thread's next one.
     fn add_merged(&self, list: &mut Vec<u32>, own: u32, point: u32) -> Result<(), OutOfMemory>
         requires { point < points_in self.now }
-        ensures { OnOk result (Adds own (Member (merged_nexts self.now point)) list.old.items list.new.items) }
+        ensures { OnOk result (AddsOthers own (Member (merged_nexts self.now point)) list.old.items list.new.items) }
     {
         if self.is_merged(point) {
             self.add_after(
@@ -569,7 +569,7 @@ impl<'a> Many<'a> {
     /// The same of the moment after the row that leads to a point, if it is one with the thread's next one.
     fn add_point(&self, list: &mut Vec<u32>, own: u32, point: u32) -> Result<(), OutOfMemory>
         requires { point < points_in self.now }
-        ensures { OnOk result (Adds own (Member (point_nexts self.now point)) list.old.items list.new.items) }
+        ensures { OnOk result (AddsOthers own (Member (point_nexts self.now point)) list.old.items list.new.items) }
     {
         if point == 0 {
             Ok(())
@@ -581,7 +581,7 @@ impl<'a> Many<'a> {
     /// The same of all moments that go by the number of a row's moment.
     fn add_side(&self, list: &mut Vec<u32>, own: u32, side: Side) -> Result<(), OutOfMemory>
         requires { IsSome ((seen_of self.now).legs.row side.point) }
-        ensures { OnOk result (Adds own (Member (side_nexts self.now side)) list.old.items list.new.items) }
+        ensures { OnOk result (AddsOthers own (Member (side_nexts self.now side)) list.old.items list.new.items) }
     {
         self.add_after(list, own, side)?;
         if !side.is_after {
@@ -592,7 +592,7 @@ impl<'a> Many<'a> {
 
     /// The same of all moments that are one with the end.
     fn add_ends(&self, list: &mut Vec<u32>, own: u32) -> Result<(), OutOfMemory>
-        ensures { OnOk result (Adds own (Member (ends_to self.now (length self.now.threads))) list.old.items list.new.items) }
+        ensures { OnOk result (AddsOthers own (Member (ends_to self.now (length self.now.threads))) list.old.items list.new.items) }
     {
         for thread in 0..self.threads() {
             self.add_last(list, own, thread)?;
@@ -603,7 +603,7 @@ impl<'a> Many<'a> {
     /// The same of the moment after a thread's last row.
     fn add_last(&self, list: &mut Vec<u32>, own: u32, thread: u32) -> Result<(), OutOfMemory>
         requires { thread < length self.now.threads }
-        ensures { OnOk result (Adds own (Member (last_nexts self.now thread (length (rows_of self.now thread)))) list.old.items list.new.items) }
+        ensures { OnOk result (AddsOthers own (Member (last_nexts self.now thread (length (rows_of self.now thread)))) list.old.items list.new.items) }
     {
         let first = self.first(thread);
         let rows = self.rows(thread);

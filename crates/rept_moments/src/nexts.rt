@@ -4,7 +4,7 @@ ghost use Rattle.std.specs.Prelude.{◌≡◌, [], ◌∷◌, IfSome, IsSome, On
 ghost use Rattle.rept_order.specs.Legs.{leg_row};
 ghost use Rattle.rept_moments.specs.Begins.{sooner_end};
 ghost use Rattle.rept_moments.specs.Writers.{not_past};
-ghost use Rattle.rept_moments.specs.Nexts.{end_with, Adds, Member};
+ghost use Rattle.rept_moments.specs.Nexts.{end_with, AddsOthers, Member};
 
 use crate::points::Points;
 use crate::side::Side;
@@ -59,7 +59,7 @@ pub fn with_end(points: &Points<'_>, first: Option<Side>, later: Later) -> Later
 
 /// Adds a number, if it isn't the one that is left out.
 pub fn add_other(list: &mut Vec<u32>, own: u32, number: u32) -> Result<(), OutOfMemory>
-    ensures { OnOk result (Adds own (Member (number ∷ [])) list.old.items list.new.items) }
+    ensures { OnOk result (AddsOthers own (Member (number ∷ [])) list.old.items list.new.items) }
 {
     if number != own {
         list.push(number)?;

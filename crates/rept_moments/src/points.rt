@@ -2,7 +2,7 @@
 
 ghost use Rattle.std.specs.Prelude.{◌≡◌, ◌+◌, ◌<◌, ◌≤◌, length, IfOk, OnOk};
 ghost use Rattle.std.specs.Option.{is_some, IsSome};
-ghost use Rattle.rept_steps.specs.Course.{row_at, row_of, rows_of, IsSound};
+ghost use Rattle.rept_steps.specs.Course.{row_at, row_of, rows_of, IsSoundCourse};
 ghost use Rattle.rept_steps.specs.Runs.{course_of};
 ghost use Rattle.rept_order.specs.Events.{event_slice};
 ghost use Rattle.rept_order.specs.Legs.{points_before, leg_row};
@@ -14,7 +14,7 @@ ghost use Rattle.rept_course.specs.Numbered.{row_on};
 ghost use Rattle.rept_moments.specs.Begins.{stands_by};
 ghost use Rattle.rept_moments.specs.Edges.{edges_at, edges_in, times_at};
 ghost use Rattle.rept_moments.specs.Merging.{dark_from};
-ghost use Rattle.rept_moments.specs.Ordering.{event_at, moment_at};
+ghost use Rattle.rept_moments.specs.Ordering.{event_at, moment_at_side};
 ghost use Rattle.rept_moments.specs.Points.{by_point, place_on, points_in};
 ghost use Rattle.rept_moments.specs.Writers.{end_of};
 
@@ -131,7 +131,7 @@ fn row_from(run: &Run, place: Place) -> Option<StepRow>
 
 /// The times of a row's first event, or of its last one.
 fn times_of(order: Order<'_>, edge: Edge) -> Times
-    requires { IsSound (course_in order) }
+    requires { IsSoundCourse (course_in order) }
     ensures begin { result.begin ≡ begin_of (course_in order.entry) (edge_event (course_in order.entry) edge) }
     ensures end { result.end ≡ end_of (event_slice (course_in order.entry) (edge_event (course_in order.entry) edge)) }
 {
@@ -146,7 +146,7 @@ fn times_of(order: Order<'_>, edge: Edge) -> Times
 
 /// The times of both moments of the row that leads from a point.
 fn edges_of(order: Order<'_>, place: Place) -> Edges
-    requires { IsSound (course_in order) }
+    requires { IsSoundCourse (course_in order) }
     ensures { result ≡ edges_in (course_in order.entry) place }
 {
     let Place { thread, step } = place;
@@ -172,7 +172,7 @@ fn edges_of(order: Order<'_>, place: Place) -> Edges
 
 /// The times of all moments of rows, by points.
 fn edge_times(alloc: Global, order: Order<'_>, places: &[Place]) -> Result<Vec<Edges>, OutOfMemory>
-    requires sound { IsSound (course_in order) }
+    requires sound { IsSoundCourse (course_in order) }
     requires places { places.now ≡ by_point (place_on (course_in order)) (points_in (course_in order)) }
     ensures { IfOk result (λ v. v.items ≡ by_point (edges_at (course_in order.entry)) (points_in (course_in order.entry))) }
 {
@@ -197,7 +197,7 @@ fn stands_by(one: Side, other: Side) -> bool
 impl<'a> Points<'a> {
     /// The points of a sound run that has at most 65,536 rows and 1,024 threads. It takes memory for one entry a point.
     pub fn new(alloc: Global, run: &'a Run) -> Result<Points<'a>, OutOfMemory>
-        requires sound { IsSound (course_of run.now) }
+        requires sound { IsSoundCourse (course_of run.now) }
         requires few { points_in (course_of run.now) ≤ 66560 }
         ensures { IfOk result (λ p. p ≡ course_of run.now) }
     {
@@ -216,7 +216,7 @@ impl<'a> Points<'a> {
     pub fn count(&self) -> u32
         ensures value { result ≡ points_in self.now }
         ensures few { result ≤ 66560 }
-        ensures sound { IsSound self.now }
+        ensures sound { IsSoundCourse self.now }
     {
         self.places.as_slice().len() as u32
     }
@@ -224,7 +224,7 @@ impl<'a> Points<'a> {
     /// The order of the run.
     pub fn order(&self) -> Order<'a>
         ensures course { course_in result ≡ self.now }
-        ensures sound { IsSound (course_in result) }
+        ensures sound { IsSoundCourse (course_in result) }
     {
         Order::new(self.run)
     }
@@ -242,7 +242,7 @@ impl<'a> Points<'a> {
     /// How many threads there are.
     pub fn threads(&self) -> u32
         ensures value { result ≡ length self.now.threads }
-        ensures sound { IsSound self.now }
+        ensures sound { IsSoundCourse self.now }
     {
         let starts = self.starts.as_slice();
         starts.len() as u32
@@ -263,7 +263,7 @@ impl<'a> Points<'a> {
         ensures value { result ≡ length (rows_of self.now thread) }
         ensures inside { points_before self.now.threads thread + result < points_in self.now }
         ensures few { points_in self.now ≤ 66560 }
-        ensures sound { IsSound self.now }
+        ensures sound { IsSoundCourse self.now }
     {
         row_count(self.run, thread as usize)
     }
@@ -315,7 +315,7 @@ impl<'a> Points<'a> {
     /// The moment before or after a row.
     pub fn moment(&self, side: Side) -> Moment
         requires { side.point < points_in self.now }
-        ensures { moment_named result ≡ moment_at self.now side }
+        ensures { moment_named result ≡ moment_at_side self.now side }
     {
         let Place { thread, step } = self.place(side.point);
         if side.is_after {
@@ -355,7 +355,7 @@ impl<'a> Points<'a> {
     pub fn is_not_later(&self, one: Side, other: Side) -> bool
         requires one { IsSome (leg_row self.now one.point) }
         requires other { IsSome (leg_row self.now other.point) }
-        ensures { result ≡ not_later self.now (moment_at self.now one) (moment_at self.now other) }
+        ensures { result ≡ not_later self.now (moment_at_side self.now one) (moment_at_side self.now other) }
     {
         let _ = &self.edges;
         if self.thread(one.point) == self.thread(other.point) {

@@ -219,17 +219,8 @@ impl Writers {
         ensures before { (k : ℕ) → k < result → (slice_index_or self.now k no_writer).begin ≤ time }
         ensures after { (k : ℕ) → result ≤ k → k < length self.now → time < (slice_index_or self.now k no_writer).begin }
     {
-        let mut low = 0;
-        let mut high = self.list.len();
-        while low < high {
-            let middle = low + (high - low) / 2;
-            if self.list[middle].begin > time {
-                high = middle;
-            } else {
-                low = middle + 1;
-            }
-        }
-        low
+        let list = self.list.as_slice();
+        list.partition_point(|writer| writer.begin <= time)
     }
 
     /// The same up to no time in particular.

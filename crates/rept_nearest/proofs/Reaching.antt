@@ -5,7 +5,7 @@ use Rattle.std.proofs.lemmas.Option.{slice_get-get_or, slice_get_within}
 use Rattle.std.proofs.lemmas.List.{length_push, length-replicate, length-set, get_or_append_left, get_or_push, get_or_past, get_or-replicate, get_or-set_same, get_or-set_other}
 use Rattle.std.proofs.lemmas.List.Folds.{sum_by-replicate}
 use Rattle.std.proofs.lemmas.List.Sums.{sum_by-set}
-use Rattle.rept_nearest.specs.Reached.{Reached, IsAmong, one_if_clear, AreClear, AreMarked, Adds, Grows}
+use Rattle.rept_nearest.specs.Reached.{Reached, IsAmong, one_if_clear, AreClear, AreMarked, AddsNumber, ReachesMore}
 
 pub same_number : {m w : ℕ} → Some m ≡ Some w → m ≡ w
 same_number e = cc
@@ -85,29 +85,29 @@ added marks list capacity m lt free h = record {
 }
 
 -- what was reached stays
-pub grows_itself : (a : Reached) → Grows a a
+pub grows_itself : (a : Reached) → ReachesMore a a
 grows_itself a = record { bound = refl; longer = omega arith; kept = λ k m at. at }
 
-pub grows_then : (a b c : Reached) → Grows a b → Grows b c → Grows a c
+pub grows_then : (a b c : Reached) → ReachesMore a b → ReachesMore b c → ReachesMore a c
 grows_then a b c g h = record { bound = h.bound ∙ g.bound; longer = let i = g.longer in let j = h.longer in omega (arith, i, j); kept = λ k m at. h.kept k m (g.kept k m at) }
 
-pub grows_among : (a b : Reached) → Grows a b → (m : ℕ) → IsAmong a.list m → IsAmong b.list m
+pub grows_among : (a b : Reached) → ReachesMore a b → (m : ℕ) → IsAmong a.list m → IsAmong b.list m
 grows_among a b g m h = (h.0, g.kept h.0 m h.1)
 
-pub added_grows : (a b : Reached) (m : ℕ) → Adds a b m → Grows a b
+pub added_grows : (a b : Reached) (m : ℕ) → AddsNumber a b m → ReachesMore a b
 added_grows a b m (inl (there, same)) = rw same (grows_itself a)
 added_grows a b m (inr same) = rw same (record { bound = refl; longer = let long = length_push a.list m in omega (arith, long); kept = λ k w at. kept_push a.list m k w at })
 
-pub added_there : (a b : Reached) (m : ℕ) → Adds a b m → IsAmong b.list m
+pub added_there : (a b : Reached) (m : ℕ) → AddsNumber a b m → IsAmong b.list m
 added_there a b m (inl (there, same)) = rw same there
 added_there a b m (inr same) = rw same (length a.list, at_push a.list m)
 
-pub added_only : (a b : Reached) (m w : ℕ) → Adds a b m → IsAmong b.list w → IsAmong a.list w ⊎ (w ≡ m)
+pub added_only : (a b : Reached) (m w : ℕ) → AddsNumber a b m → IsAmong b.list w → IsAmong a.list w ⊎ (w ≡ m)
 added_only a b m w (inl (there, same)) h = inl (rw same at h)
 added_only a b m w (inr same) h = let h' : IsAmong (a.list ++ m ∷ []) w = rw same at h in elim (in_push a.list m h'.0 w h'.1) [ inl old ↦ inl (h'.0, old) | inr is ↦ inr is ]
 
 -- a place among the former ones has what it had
-pub still_there : (a b : Reached) → Grows a b → (k m : ℕ) → k < length a.list → slice_get b.list k ≡ Some m → slice_get a.list k ≡ Some m
+pub still_there : (a b : Reached) → ReachesMore a b → (k m : ℕ) → k < length a.list → slice_get b.list k ≡ Some m → slice_get a.list k ≡ Some m
 still_there a b g k m lt at =
     let was = slice_get-get_or a.list k 0 lt in
     was ∙ sym (g.kept k (get_or a.list k 0) was) ∙ at

@@ -3,26 +3,26 @@ use Rattle.std.proofs.Common.{◌≡◌, ℕ, zero, suc, ◌+◌, ◌-◌, ◌<�
 use Rattle.std.proofs.lemmas.Bool.{cases_lt, cases_eq, false≢true}
 use Rattle.std.proofs.lemmas.Option.{slice_get-get_or, slice_get_within}
 use Rattle.rept_nearest.specs.declared.found.Found.{Found}
-use Rattle.rept_nearest.specs.Nets.{Links, IsNextLinked, IsWithin, IsNearest}
-use Rattle.rept_nearest.specs.Nets.IsWithin.{here, onward}
-use Rattle.rept_nearest.specs.Reached.{Reached, IsAmong, HasValue, Adds, Grows, GrowsFrom, IsBeside, GrowsBeside, IsBall}
+use Rattle.rept_nearest.specs.Nets.{Links, IsNextLinked, IsWithinLinks, IsNearest}
+use Rattle.rept_nearest.specs.Nets.IsWithinLinks.{here, onward}
+use Rattle.rept_nearest.specs.Reached.{Reached, IsAmong, HasValue, AddsNumber, ReachesMore, GrowsFrom, IsBeside, GrowsBeside, IsBall}
 use Rattle.rept_nearest.proofs.Reaching.{same_number, grows_itself, grows_then, grows_among, added_grows, added_there, added_only}
 
 module _ (L : Links) (from : ℕ) where
   -- more links lead no less far
-  within_next : (k m : ℕ) → IsWithin L from k m → IsWithin L from (suc k) m
+  within_next : (k m : ℕ) → IsWithinLinks L from k m → IsWithinLinks L from (suc k) m
   within_next _ _ (here k) = here (suc k)
   within_next _ _ (onward k m w h link) = onward (suc k) m w (within_next k m h) link
 
-  within_by : (n k m : ℕ) → IsWithin L from k m → IsWithin L from (n + k) m
-  within_by zero k m h = let same : k ≡ zero + k = omega arith in subst (λ (j : ℕ). IsWithin L from j m) same h
-  within_by (suc n) k m h = let same : suc (n + k) ≡ suc n + k = omega arith in subst (λ (j : ℕ). IsWithin L from j m) same (within_next (n + k) m (within_by n k m h))
+  within_by : (n k m : ℕ) → IsWithinLinks L from k m → IsWithinLinks L from (n + k) m
+  within_by zero k m h = let same : k ≡ zero + k = omega arith in subst (λ (j : ℕ). IsWithinLinks L from j m) same h
+  within_by (suc n) k m h = let same : suc (n + k) ≡ suc n + k = omega arith in subst (λ (j : ℕ). IsWithinLinks L from j m) same (within_next (n + k) m (within_by n k m h))
 
-  within_up : (k j m : ℕ) → k ≤ j → IsWithin L from k m → IsWithin L from j m
-  within_up k j m le h = let same : j - k + k ≡ j = omega arith in subst (λ (i : ℕ). IsWithin L from i m) same (within_by (j - k) k m h)
+  within_up : (k j m : ℕ) → k ≤ j → IsWithinLinks L from k m → IsWithinLinks L from j m
+  within_up k j m le h = let same : j - k + k ≡ j = omega arith in subst (λ (i : ℕ). IsWithinLinks L from i m) same (within_by (j - k) k m h)
 
   -- at first it has one number
-  only_here : (k m : ℕ) → IsWithin L from k m → k ≡ 0 → m ≡ from
+  only_here : (k m : ℕ) → IsWithinLinks L from k m → k ≡ 0 → m ≡ from
   only_here _ _ (here k) e = refl
   only_here _ _ (onward k m w h link) e = absurd (omega (arith, e))
 
@@ -47,7 +47,7 @@ module _ (L : Links) (from : ℕ) where
     ball_found found (among, value, is) = (value, rw is (ball.within among.0 found.number among.1), rw is ball.earlier)
 
     -- where nothing was added, that is all
-    all_reached : length list ≤ start → (k m : ℕ) → IsWithin L from k m → IsAmong list m
+    all_reached : length list ≤ start → (k m : ℕ) → IsWithinLinks L from k m → IsAmong list m
     all_reached done _ _ (here k) = ball.whole from (here links)
     all_reached done _ _ (onward k m w h link) =
         let there = all_reached done k m h in
@@ -71,11 +71,11 @@ module _ (L : Links) (from : ℕ) where
       linked_from : (k m w : ℕ) → slice_get list k ≡ Some m → L.linked m w ≡ true → IsAmong new.list w
       linked_from k m w at link = elim (cases_lt k start) [ inl lt ↦ kept_among w (ball.closed k m w lt at link) | inr ge ↦ grown.all k m w ge at link ]
 
-      whole_next : (n m : ℕ) → IsWithin L from n m → n ≡ links + 1 → IsAmong new.list m
+      whole_next : (n m : ℕ) → IsWithinLinks L from n m → n ≡ links + 1 → IsAmong new.list m
       whole_next _ _ (here k) e = kept_among from (ball.whole from (here links))
       whole_next _ _ (onward k m w h link) e =
           let same : k ≡ links = omega (arith, e) in
-          let there = ball.whole m (subst (λ (j : ℕ). IsWithin L from j m) same h) in
+          let there = ball.whole m (subst (λ (j : ℕ). IsWithinLinks L from j m) same h) in
           linked_from there.0 m w there.1 link
 
       -- the numbers of the former list stand at their places
@@ -87,9 +87,9 @@ module _ (L : Links) (from : ℕ) where
       next : suc links ≡ links + 1
       next = omega arith
 
-      within_new : (m : ℕ) → IsAmong list m ⊎ IsBeside L list m → IsWithin L from (links + 1) m
-      within_new m (inl h) = subst (λ (j : ℕ). IsWithin L from j m) next (within_next links m (ball.within h.0 m h.1))
-      within_new m (inr h) = subst (λ (j : ℕ). IsWithin L from j m) next (onward links h.number m (ball.within h.index h.number h.there) h.link)
+      within_new : (m : ℕ) → IsAmong list m ⊎ IsBeside L list m → IsWithinLinks L from (links + 1) m
+      within_new m (inl h) = subst (λ (j : ℕ). IsWithinLinks L from j m) next (within_next links m (ball.within h.0 m h.1))
+      within_new m (inr h) = subst (λ (j : ℕ). IsWithinLinks L from j m) next (onward links h.number m (ball.within h.index h.number h.there) h.link)
 
       inside_new : (m : ℕ) → IsAmong list m ⊎ IsBeside L list m → m ≤ L.last
       inside_new m (inl h) = ball.inside h.0 m h.1
@@ -108,13 +108,13 @@ module _ (L : Links) (from : ℕ) where
 
 -- the numbers below one to which a number is linked were added
 pub record GrowsBelow (L : Links) (old new : Reached) (m least : ℕ) : Type 0 where
-  pub grows : Grows old new
+  pub grows : ReachesMore old new
   pub all : (w : ℕ) → w < least → L.linked m w ≡ true → IsAmong new.list w
   pub only : (w : ℕ) → IsAmong new.list w → IsAmong old.list w ⊎ (L.linked m w ≡ true)
 
 -- those of the numbers from one index to before another one were
 pub record GrowsUpTo (L : Links) (old new : Reached) (start k : ℕ) : Type 0 where
-  pub grows : Grows old new
+  pub grows : ReachesMore old new
   pub all : (j m w : ℕ) → start ≤ j → j < k → slice_get old.list j ≡ Some m → L.linked m w ≡ true → IsAmong new.list w
   pub only : (w : ℕ) → IsAmong new.list w → IsAmong old.list w ⊎ IsBeside L old.list w
 
@@ -135,7 +135,7 @@ pub below_first : (L : Links) (a : Reached) (m : ℕ) → GrowsBelow L a a m 0
 below_first L a m = record { grows = grows_itself a; all = λ w lt link. absurd (omega (arith, lt)); only = λ w among. inl among }
 
 -- the next one was added
-pub below_more : (L : Links) (old a b : Reached) (m least w : ℕ) → IsNextLinked L m least (Some w) → Adds a b w → GrowsBelow L old a m least → GrowsBelow L old b m (w + 1)
+pub below_more : (L : Links) (old a b : Reached) (m least w : ℕ) → IsNextLinked L m least (Some w) → AddsNumber a b w → GrowsBelow L old a m least → GrowsBelow L old b m (w + 1)
 below_more L old a b m least w (link, low, first) adds h = record {
   grows = grows_then old a b h.grows (added_grows a b w adds);
   all = λ v lt linked. elim (cases_lt v least) [
@@ -166,7 +166,7 @@ pub up_to_all : (L : Links) (old new : Reached) (start k : ℕ) → length old.l
 up_to_all L old new start k done h = record { grows = h.grows; all = λ j m w low at link. let lt = slice_get_within old.list j m at in h.all j m w low (omega (arith, lt, done)) at link; only = h.only }
 
 -- the first number alone
-pub added_ball : (L : Links) (from : ℕ) (a b : Reached) → from ≤ L.last → a.list ≡ [] → Adds a b from → IsBall L from b.list 0 0
+pub added_ball : (L : Links) (from : ℕ) (a b : Reached) → from ≤ L.last → a.list ≡ [] → AddsNumber a b from → IsBall L from b.list 0 0
 added_ball L from a b early none (inl (there, same)) = let lt = slice_get_within a.list there.0 from there.1 in let short : length a.list ≡ 0 = ap length none in absurd (omega (arith, lt, short))
 added_ball L from a b early none (inr same) = rw (same, none) (first_ball L from early)
 

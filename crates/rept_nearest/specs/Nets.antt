@@ -14,15 +14,15 @@ IsNextLinked L m least None = (w : ℕ) → least ≤ w → L.linked m w ≡ fal
 IsNextLinked L m least (Some w) = (L.linked m w ≡ true) × (least ≤ w) × ((v : ℕ) → least ≤ v → v < w → L.linked m v ≡ false)
 
 -- so many links lead from one number to another one, or fewer
-pub data IsWithin (L : Links) (from : ℕ) : ℕ → ℕ → Type 0 where
-  here : (k : ℕ) → IsWithin L from k from
-  onward : (k m w : ℕ) → IsWithin L from k m → L.linked m w ≡ true → IsWithin L from (suc k) w
+pub data IsWithinLinks (L : Links) (from : ℕ) : ℕ → ℕ → Type 0 where
+  here : (k : ℕ) → IsWithinLinks L from k from
+  onward : (k m w : ℕ) → IsWithinLinks L from k m → L.linked m w ≡ true → IsWithinLinks L from (suc k) w
 
 -- none that so many links lead to has a value
 abbrev pub IsEmptyBelow : Links → ℕ → ℕ → Type 0
-IsEmptyBelow L from n = (k m : ℕ) → k < n → IsWithin L from k m → L.value m ≡ None
+IsEmptyBelow L from n = (k m : ℕ) → k < n → IsWithinLinks L from k m → L.value m ≡ None
 
 -- a number with a value, to which as few links lead as to any; or no links lead to one
 abbrev pub IsNearest : Links → ℕ → Option Found → Type 0
-IsNearest L from None = (k m : ℕ) → IsWithin L from k m → L.value m ≡ None
-IsNearest L from (Some found) = (L.value found.number ≡ Some found.value) × IsWithin L from found.links found.number × IsEmptyBelow L from found.links
+IsNearest L from None = (k m : ℕ) → IsWithinLinks L from k m → L.value m ≡ None
+IsNearest L from (Some found) = (L.value found.number ≡ Some found.value) × IsWithinLinks L from found.links found.number × IsEmptyBelow L from found.links

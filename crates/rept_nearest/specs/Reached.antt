@@ -1,7 +1,7 @@
 -- The numbers that a search has reached, in their order. This project's own.
 use Rattle.std.specs.Prelude.{◌≡◌, ℕ, ◌+◌, ◌<◌, ◌≤◌, ◌⊎◌, Bool, true, false, List, [], ◌∷◌, ◌++◌, length, Option, Some, None, slice_get, slice_index_or, sum_by}
 use Rattle.rept_nearest.specs.declared.found.Found.{Found}
-use Rattle.rept_nearest.specs.Nets.{Links, IsWithin, IsEmptyBelow}
+use Rattle.rept_nearest.specs.Nets.{Links, IsWithinLinks, IsEmptyBelow}
 
 -- numbers below a bound
 pub record Reached : Type 0 where
@@ -27,8 +27,8 @@ pub record AreMarked (marks : List Bool) (list : List ℕ) (capacity : ℕ) : Ty
   pub fits : length marks ≤ capacity
 
 -- one number more, or it was among them
-abbrev pub Adds : Reached → Reached → ℕ → Type 0
-Adds old new m = (IsAmong old.list m × (new ≡ old)) ⊎ (new ≡ record { bound = old.bound; list = old.list ++ m ∷ [] })
+abbrev pub AddsNumber : Reached → Reached → ℕ → Type 0
+AddsNumber old new m = (IsAmong old.list m × (new ≡ old)) ⊎ (new ≡ record { bound = old.bound; list = old.list ++ m ∷ [] })
 
 -- they are numbers of the net
 abbrev pub AreWithin : Links → List ℕ → Type 0
@@ -40,14 +40,14 @@ HasValue L list start links None = (k m : ℕ) → start ≤ k → slice_get lis
 HasValue L list start links (Some found) = IsAmong list found.number × (L.value found.number ≡ Some found.value) × (found.links ≡ links)
 
 -- what was reached still is, at the same places
-pub record Grows (old new : Reached) : Type 0 where
+pub record ReachesMore (old new : Reached) : Type 0 where
   pub bound : new.bound ≡ old.bound
   pub longer : length old.list ≤ length new.list
   pub kept : (k m : ℕ) → slice_get old.list k ≡ Some m → slice_get new.list k ≡ Some m
 
 -- all that the number is linked to was reached, and else nothing new
 pub record GrowsFrom (L : Links) (old new : Reached) (m : ℕ) : Type 0 where
-  pub grows : Grows old new
+  pub grows : ReachesMore old new
   pub all : (w : ℕ) → L.linked m w ≡ true → IsAmong new.list w
   pub only : (w : ℕ) → IsAmong new.list w → IsAmong old.list w ⊎ (L.linked m w ≡ true)
 
@@ -60,15 +60,15 @@ pub record IsBeside (L : Links) (list : List ℕ) (w : ℕ) : Type 0 where
 
 -- the same of all numbers from an index on
 pub record GrowsBeside (L : Links) (old new : Reached) (start : ℕ) : Type 0 where
-  pub grows : Grows old new
+  pub grows : ReachesMore old new
   pub all : (k m w : ℕ) → start ≤ k → slice_get old.list k ≡ Some m → L.linked m w ≡ true → IsAmong new.list w
   pub only : (w : ℕ) → IsAmong new.list w → IsAmong old.list w ⊎ IsBeside L old.list w
 
 -- They are all that so many links lead to, and none that fewer links lead to has a value. Those below an index have no value, and all that they are
 -- linked to was reached.
 pub record IsBall (L : Links) (from : ℕ) (list : List ℕ) (start links : ℕ) : Type 0 where
-  pub within : (k m : ℕ) → slice_get list k ≡ Some m → IsWithin L from links m
-  pub whole : (m : ℕ) → IsWithin L from links m → IsAmong list m
+  pub within : (k m : ℕ) → slice_get list k ≡ Some m → IsWithinLinks L from links m
+  pub whole : (m : ℕ) → IsWithinLinks L from links m → IsAmong list m
   pub closed : (k m w : ℕ) → k < start → slice_get list k ≡ Some m → L.linked m w ≡ true → IsAmong list w
   pub empty : (k m : ℕ) → k < start → slice_get list k ≡ Some m → L.value m ≡ None
   pub inside : AreWithin L list

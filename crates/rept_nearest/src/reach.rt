@@ -1,7 +1,7 @@
 //! The numbers that a search has reached.
 
 ghost use Rattle.std.specs.Prelude.{◌≡◌, [], ◌+◌, ◌<◌, ◌≤◌, IfOk, Some, length, slice_get};
-ghost use Rattle.rept_nearest.specs.Reached.{Adds, AreClear};
+ghost use Rattle.rept_nearest.specs.Reached.{AddsNumber, AreClear};
 
 use std::alloc::{AllocError as OutOfMemory, Global};
 use std::marker::Model;
@@ -63,7 +63,7 @@ impl Reach {
     /// Adds a number, unless it was reached already. It takes no memory.
     pub fn add(&mut self, number: u32)
         requires { number < self.old.bound }
-        ensures { Adds self.old self.new number }
+        ensures { AddsNumber self.old self.new number }
     {
         let index = number as usize;
         if self.marks[index] {

@@ -2,7 +2,7 @@
 
 ghost use Rattle.std.specs.Prelude.{◌≡◌, ◌+◌, ◌<◌, ◌≤◌, IfOk};
 ghost use Rattle.rept_nearest.specs.Nets.{IsNearest};
-ghost use Rattle.rept_nearest.specs.Reached.{AreWithin, IsBall, IsAmong, HasValue, Grows, GrowsBeside, GrowsFrom};
+ghost use Rattle.rept_nearest.specs.Reached.{AreWithin, IsBall, IsAmong, HasValue, ReachesMore, GrowsBeside, GrowsFrom};
 
 use crate::found::Found;
 use crate::net::Net;

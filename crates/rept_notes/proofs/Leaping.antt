@@ -8,7 +8,7 @@ use Rattle.std.specs.List.{filter}
 use Rattle.rept_elf.specs.Header.{word_at}
 use Rattle.rept_elf.specs.Segments.{ElfSegment, part_of}
 use Rattle.rept_notes.specs.Notes.{Note, HoldsNote, AreNotesThen, first_note, after_note, note_size, desc_offset, desc_size, padded}
-use Rattle.rept_notes.specs.Found.{AreFound, Adds}
+use Rattle.rept_notes.specs.Found.{AreFound, AddsNotes}
 use Rattle.rept_notes.specs.Ahead.{IsAhead, AreLeaps, AreAhead}
 use Rattle.rept_notes.specs.declared.ahead.Ahead.{Ahead}
 use Rattle.rept_notes.specs.declared.note.Found.{Found}
@@ -16,7 +16,7 @@ use Rattle.rept_notes.proofs.NoteLemmas.{SoFar, one_more, at_most_one, shrinks, 
 
 pub one_more_ahead : (sought : Note → Bool) (offset : ℕ) (bytes : List ℕ) (ahead ahead' : Ahead) (note : Note)
     → IsAhead sought offset bytes ahead → HoldsNote ahead.rest.now → first_note (offset + (length bytes - length ahead.rest.now)) ahead.rest.now ≡ note → ahead'.rest.now ≡ after_note ahead.rest.now
-    → Adds ahead.found ahead'.found (filter sought (note ∷ [])) → IsAhead sought offset bytes ahead'
+    → AddsNotes ahead.found ahead'.found (filter sought (note ∷ [])) → IsAhead sought offset bytes ahead'
 one_more_ahead sought offset bytes ahead ahead' note a h n e more = record {
   notes = a.notes ++ note ∷ [];
   before = subst (λ r. AreNotesThen offset bytes (a.notes ++ note ∷ []) r) (sym e) (one_more offset bytes a.notes ahead.rest.now note a.before h n);
@@ -25,7 +25,7 @@ one_more_ahead sought offset bytes ahead ahead' note a h n e more = record {
 }
 
 -- what was read ahead of a segment, after what was found before
-pub so_far_joined : (sought : Note → Bool) (offset : ℕ) (bytes : List ℕ) (ahead : Ahead) (found found' : Found) → IsAhead sought offset bytes ahead → ((notes : List Note) → AreFound ahead.found notes → Adds found found' notes)
+pub so_far_joined : (sought : Note → Bool) (offset : ℕ) (bytes : List ℕ) (ahead : Ahead) (found found' : Found) → IsAhead sought offset bytes ahead → ((notes : List Note) → AreFound ahead.found notes → AddsNotes found found' notes)
     → SoFar sought offset bytes ahead.rest.now found found'
 so_far_joined sought offset bytes ahead found found' a join =
     let more = join (filter sought a.notes) a.found in
@@ -124,7 +124,7 @@ front_notes (note ∷ notes) offset bytes k m h lt le =
 pub passed : (sought : Note → Bool) (offset : ℕ) (segment bytes : List ℕ) (ahead leap ahead' : Ahead) → IsAhead sought offset segment ahead → IsAhead sought (offset + (length segment - length ahead.rest.now)) bytes leap
     → ahead.rest.now ≡ take (length ahead.rest.now) bytes
     → (length bytes - length leap.rest.now) + 12 ≤ length ahead.rest.now → ahead'.rest.now ≡ drop (length bytes - length leap.rest.now) ahead.rest.now
-    → ((notes : List Note) → AreFound leap.found notes → Adds ahead.found ahead'.found notes)
+    → ((notes : List Note) → AreFound leap.found notes → AddsNotes ahead.found ahead'.found notes)
     → IsAhead sought offset segment ahead'
 passed sought offset segment bytes ahead leap ahead' a b front fits rest join =
     let m = length ahead.rest.now in

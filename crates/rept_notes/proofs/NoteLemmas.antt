@@ -8,8 +8,8 @@ use Rattle.std.specs.Option.{option_map, option_or}
 use Rattle.rept_elf.specs.Segments.{ElfSegment, is_note}
 use Rattle.rept_elf.proofs.SegmentLemmas.{drop-slice_get}
 use Rattle.rept_notes.specs.Notes.{Note, HoldsNote, AreNotesThen, AreNotes, CutsNote, HaveNotes, AreCutAt, IsCutAt, IsInFile, first_note, after_note, note_size, note_header, note_segments}
-use Rattle.rept_notes.specs.Found.{AreFound, Adds, PassesSegment, CutsSegment, note_of, said_of}
-use Rattle.rept_notes.specs.Sought.{SaysOf, Counted, counted, head}
+use Rattle.rept_notes.specs.Found.{AreFound, AddsNotes, PassesSegment, CutsSegment, note_of, said_of}
+use Rattle.rept_notes.specs.Sought.{SaysOf, CountedNotes, counted, head}
 use Rattle.rept_notes.specs.declared.note.Note.{Note as CodeNote}
 use Rattle.rept_notes.specs.declared.note.Found.{Found}
 use Rattle.rept_notes.specs.declared.fault.NotePastEnd.{NotePastEnd}
@@ -48,23 +48,23 @@ or-head : (o : Option Note) (xs ys : List Note) → option_or (option_or o (head
 or-head None xs ys = head-append xs ys
 or-head (Some x) xs ys = refl
 
-pub Adds-nothing : (found : Found) → Adds found found []
+pub Adds-nothing : (found : Found) → AddsNotes found found []
 Adds-nothing found = record { counted = omega arith; first = or-none (option_map note_of found.first) }
 
-pub Adds-then : (sought : Note → Bool) (a b c : Found) (front after : List Note) → Adds a b (filter sought front) → Adds b c (filter sought after) → Adds a c (filter sought (front ++ after))
+pub Adds-then : (sought : Note → Bool) (a b c : Found) (front after : List Note) → AddsNotes a b (filter sought front) → AddsNotes b c (filter sought after) → AddsNotes a c (filter sought (front ++ after))
 Adds-then sought a b c front after p q = rw filter-append (record {
   counted = omega (arith, p.counted, q.counted, length-append (filter sought front) (filter sought after));
   first = q.first ∙ ap (λ o. option_or o (head (filter sought after))) p.first ∙ or-head (option_map note_of a.first) (filter sought front) (filter sought after);
 })
 
-pub AreFound-then : (sought : Note → Bool) (a b : Found) (front after : List Note) → AreFound a (filter sought front) → Adds a b (filter sought after) → AreFound b (filter sought (front ++ after))
+pub AreFound-then : (sought : Note → Bool) (a b : Found) (front after : List Note) → AreFound a (filter sought front) → AddsNotes a b (filter sought after) → AreFound b (filter sought (front ++ after))
 AreFound-then sought a b front after p q = rw filter-append (record {
   counted = omega (arith, p.counted, q.counted, length-append (filter sought front) (filter sought after));
   first = q.first ∙ ap (λ o. option_or o (head (filter sought after))) p.first ∙ head-append (filter sought front) (filter sought after);
 })
 
 -- what was found, and what was found after
-pub joined : (found more found' : Found) → found'.count ≡ found.count + more.count → found'.first ≡ option_or found.first more.first → (notes : List Note) → AreFound more notes → Adds found found' notes
+pub joined : (found more found' : Found) → found'.count ≡ found.count + more.count → found'.first ≡ option_or found.first more.first → (notes : List Note) → AreFound more notes → AddsNotes found found' notes
 joined found more found' count first notes are = record {
   counted = omega (arith, count, are.counted);
   first = ap (option_map note_of) first ∙ map-or note_of found.first more.first ∙ ap (option_or (option_map note_of found.first)) are.first;
@@ -72,21 +72,21 @@ joined found more found' count first notes are = record {
 
 -- a note that is sought
 pub added : (sought : Note → Bool) (found found' : Found) (note : CodeNote) → sought (note_of note) ≡ true → found'.count ≡ found.count + 1 → found'.first ≡ option_or found.first (Some note)
-    → Adds found found' (filter sought (note_of note ∷ []))
-added sought found found' note is count first = subst (λ b. Adds found found' (cond b (note_of note ∷ []) [])) (sym is) (record {
+    → AddsNotes found found' (filter sought (note_of note ∷ []))
+added sought found found' note is count first = subst (λ b. AddsNotes found found' (cond b (note_of note ∷ []) [])) (sym is) (record {
   counted = omega (arith, count);
   first = ap (option_map note_of) first ∙ map-or note_of found.first (Some note);
 })
 
 -- one that isn't
-pub not_added : (sought : Note → Bool) (found : Found) (note : CodeNote) → sought (note_of note) ≡ false → Adds found found (filter sought (note_of note ∷ []))
-not_added sought found note other = subst (λ b. Adds found found (cond b (note_of note ∷ []) [])) (sym other) (Adds-nothing found)
+pub not_added : (sought : Note → Bool) (found : Found) (note : CodeNote) → sought (note_of note) ≡ false → AddsNotes found found (filter sought (note_of note ∷ []))
+not_added sought found note other = subst (λ b. AddsNotes found found (cond b (note_of note ∷ []) [])) (sym other) (Adds-nothing found)
 
 -- the notes of a segment so far
 pub record SoFar (sought : Note → Bool) (offset : ℕ) (bytes rest : List ℕ) (found found' : Found) : Type 0 where
   pub notes : List Note
   pub before : AreNotesThen offset bytes notes rest
-  pub adds : Adds found found' (filter sought notes)
+  pub adds : AddsNotes found found' (filter sought notes)
   pub fewer : found'.count + length rest ≤ found.count + length bytes
   pub shorter : length rest ≤ length bytes
 
@@ -102,7 +102,7 @@ pub shrinks : (rest rest' : List ℕ) → HoldsNote rest → rest' ≡ after_not
 shrinks rest rest' h e = rw (e, length-drop) (omega (arith, h.header))
 
 pub one_more_note : (sought : Note → Bool) (offset : ℕ) (bytes rest rest' : List ℕ) (a b c : Found) (note : Note)
-    → SoFar sought offset bytes rest a b → HoldsNote rest → first_note (offset + (length bytes - length rest)) rest ≡ note → rest' ≡ after_note rest → Adds b c (filter sought (note ∷ []))
+    → SoFar sought offset bytes rest a b → HoldsNote rest → first_note (offset + (length bytes - length rest)) rest ≡ note → rest' ≡ after_note rest → AddsNotes b c (filter sought (note ∷ []))
     → SoFar sought offset bytes rest' a c
 one_more_note sought offset bytes rest rest' a b c note s h n e more = record {
   notes = s.notes ++ note ∷ [];
@@ -120,7 +120,7 @@ pub record Through (sought : Note → Bool) (size : ℕ) (all left : List ElfSeg
   pub are : AreFound found (filter sought notes)
 
 pub past_one : (sought : Note → Bool) (size : ℕ) (all : List ElfSegment) (s : ElfSegment) (left : List ElfSegment) (found found' : Found) (front : List Note)
-    → Through sought size all (s ∷ left) found → IsInFile size s → AreNotes s.offset s.body front → Adds found found' (filter sought front) → Through sought size all left found'
+    → Through sought size all (s ∷ left) found → IsInFile size s → AreNotes s.offset s.body front → AddsNotes found found' (filter sought front) → Through sought size all left found'
 past_one sought size all s left found found' front t inside are adds = record {
   notes = t.notes ++ front;
   have = λ later h. rw append_assoc (t.have (front ++ later) (front, later, refl, inside, are, h));
@@ -133,7 +133,7 @@ pub past_segment : (sought : Note → Bool) (size : ℕ) (all segs : List ElfSeg
 past_segment sought size all segs i s found found' t at p = either (is_note s) (subst (λ ss. Through sought size all (note_segments ss) found) (drop-slice_get segs i s at) t) p
   where
     either : (b : Bool) → Through sought size all (cond b (s ∷ note_segments (drop (i + 1) segs)) (note_segments (drop (i + 1) segs))) found
-        → MatchBool b (IsInFile size s × ((notes : List Note) × AreNotes s.offset s.body notes × Adds found found' (filter sought notes))) (found' ≡ found)
+        → MatchBool b (IsInFile size s × ((notes : List Note) × AreNotes s.offset s.body notes × AddsNotes found found' (filter sought notes))) (found' ≡ found)
         → Through sought size all (note_segments (drop (i + 1) segs)) found'
     either true u q = past_one sought size all s (note_segments (drop (i + 1) segs)) found found' q.1.0 u q.0 q.1.1 q.1.2
     either false u q = subst (Through sought size all (note_segments (drop (i + 1) segs))) (sym q) u
@@ -206,13 +206,13 @@ whole_or_cuts size (s ∷ ss) notes offset (front, after, e, inside, are, have) 
 whole_or_cuts size (s ∷ ss) notes offset (front, after, e, inside, are, have) (inr b) = whole_or_cuts size ss after offset have b.2
 
 -- one thing is said of a core file
-pub said_once : (sought : Note → Bool) (size : ℕ) (ss : List ElfSegment) (said said' : Result Counted ℕ) → SaysOf sought size ss said → SaysOf sought size ss said' → said ≡ said'
+pub said_once : (sought : Note → Bool) (size : ℕ) (ss : List ElfSegment) (said said' : Result CountedNotes ℕ) → SaysOf sought size ss said → SaysOf sought size ss said' → said ≡ said'
 said_once sought size ss said said' (inl a) (inl b) =
-    let wrap : ℕ → Result Counted ℕ = λ o. Err o in a.2 ∙ ap wrap (same_cuts size (note_segments ss) a.0 b.0 a.1 b.1) ∙ sym b.2
+    let wrap : ℕ → Result CountedNotes ℕ = λ o. Err o in a.2 ∙ ap wrap (same_cuts size (note_segments ss) a.0 b.0 a.1 b.1) ∙ sym b.2
 said_once sought size ss said said' (inl a) (inr b) = absurd (whole_or_cuts size (note_segments ss) b.0 a.0 b.1 a.1)
 said_once sought size ss said said' (inr a) (inl b) = absurd (whole_or_cuts size (note_segments ss) a.0 b.0 a.1 b.1)
 said_once sought size ss said said' (inr a) (inr b) =
-    let wrap : List Note → Result Counted ℕ = λ ns. Ok (counted (filter sought ns)) in a.2 ∙ ap wrap (same_all size (note_segments ss) a.0 b.0 a.1 b.1) ∙ sym b.2
+    let wrap : List Note → Result CountedNotes ℕ = λ ns. Ok (counted (filter sought ns)) in a.2 ∙ ap wrap (same_all size (note_segments ss) a.0 b.0 a.1 b.1) ∙ sym b.2
 
 -- what was read is what the notes say
 pub says : (sought : Note → Bool) (size : ℕ) (ss : List ElfSegment) (r : Result Found NotePastEnd)
@@ -221,11 +221,11 @@ pub says : (sought : Note → Bool) (size : ℕ) (ss : List ElfSegment) (r : Res
 says sought size ss (Ok found) (notes, have, are) cut = inr (notes, have, rw (are.counted, are.first) refl)
 says sought size ss (Err fault) ok cut = inl (fault.offset, cut, refl)
 
-abbrev count_in : Result Counted ℕ → ℕ
+abbrev count_in : Result CountedNotes ℕ → ℕ
 count_in (Ok c) = c.count
 count_in (Err e) = 0
 
-abbrev first_in : Result Counted ℕ → Option Note
+abbrev first_in : Result CountedNotes ℕ → Option Note
 first_in (Ok c) = c.first
 first_in (Err e) = None
 

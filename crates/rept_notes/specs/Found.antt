@@ -4,7 +4,7 @@ use Rattle.std.specs.List.{filter}
 use Rattle.std.specs.Option.{option_map, option_or}
 use Rattle.rept_elf.specs.Segments.{ElfSegment, is_note}
 use Rattle.rept_notes.specs.Notes.{Note as NoteOf, AreNotes, IsInFile, IsCutAt}
-use Rattle.rept_notes.specs.Sought.{Counted, is_sought, is_short, head}
+use Rattle.rept_notes.specs.Sought.{CountedNotes, is_sought, is_short, head}
 use Rattle.rept_notes.specs.declared.fault.NotePastEnd.{NotePastEnd}
 use Rattle.rept_notes.specs.declared.note.Note.{Note}
 use Rattle.rept_notes.specs.declared.note.Found.{Found}
@@ -29,14 +29,14 @@ pub record AreFound (found : Found) (notes : List NoteOf) : Type 0 where
   pub first : option_map note_of found.first ≡ head notes
 
 -- these notes were found besides
-pub record Adds (found found' : Found) (notes : List NoteOf) : Type 0 where
+pub record AddsNotes (found found' : Found) (notes : List NoteOf) : Type 0 where
   pub counted : found'.count ≡ found.count + length notes
   pub first : option_map note_of found'.first ≡ option_or (option_map note_of found.first) (head notes)
 
 -- the segment is whole, and its sought notes were found besides; a segment without notes has none
 abbrev pub PassesSegment : (NoteOf → Bool) → ℕ → ElfSegment → Found → Found → Type 0
 PassesSegment sought size s found found' = MatchBool (is_note s)
-    (IsInFile size s × ((notes : List NoteOf) × AreNotes s.offset s.body notes × Adds found found' (filter sought notes)))
+    (IsInFile size s × ((notes : List NoteOf) × AreNotes s.offset s.body notes × AddsNotes found found' (filter sought notes)))
     (found' ≡ found)
 
 -- the segment is a note segment that is cut at this offset of the file
@@ -44,6 +44,6 @@ abbrev pub CutsSegment : ℕ → ElfSegment → ℕ → Type 0
 CutsSegment size s offset = IsTrue (is_note s) × IsCutAt size s offset
 
 -- what was found, as what the notes say
-abbrev pub said_of : Result Found NotePastEnd → Result Counted ℕ
+abbrev pub said_of : Result Found NotePastEnd → Result CountedNotes ℕ
 said_of (Ok found) = Ok (record { count = found.count; first = option_map note_of found.first })
 said_of (Err fault) = Err fault.offset

@@ -26,20 +26,20 @@ head [] = None
 head (note ∷ notes) = Some note
 
 -- how many notes there are, and the first
-pub record Counted : Type 0 where
+pub record CountedNotes : Type 0 where
   pub count : ℕ
   pub first : Option Note
 
-abbrev pub counted : List Note → Counted
+abbrev pub counted : List Note → CountedNotes
 counted notes = record { count = length notes; first = head notes }
 
 -- what the notes of a core file of so many bytes say of those that are sought: where the first that isn't whole begins, or how many are
 -- sought, and the first
-abbrev pub SaysOf : (Note → Bool) → ℕ → List ElfSegment → Result Counted ℕ → Type 0
+abbrev pub SaysOf : (Note → Bool) → ℕ → List ElfSegment → Result CountedNotes ℕ → Type 0
 SaysOf sought size ss said =
     ((offset : ℕ) × AreCutAt size (note_segments ss) offset × (said ≡ Err offset))
     ⊎ ((notes : List Note) × HaveNotes size (note_segments ss) notes × (said ≡ Ok (counted (filter sought notes))))
 
 -- the same of those of one type
-abbrev pub Says : ℕ → ℕ → List ElfSegment → Result Counted ℕ → Type 0
-Says kind = SaysOf (is_sought kind)
+abbrev pub SaysOfType : ℕ → ℕ → List ElfSegment → Result CountedNotes ℕ → Type 0
+SaysOfType kind = SaysOf (is_sought kind)

@@ -2,7 +2,7 @@
 
 ghost use Rattle.std.specs.Prelude.{◌≡◌, ◌≤◌, ◌<◌, ◌+◌, ◌^◌, ◌==◌, List, [], ◌∷◌, length, MatchOption};
 ghost use Rattle.std.specs.List.{filter, list_all};
-ghost use Rattle.rept_notes.specs.Found.{AreFound, Adds, note_of, wanted};
+ghost use Rattle.rept_notes.specs.Found.{AreFound, AddsNotes, note_of, wanted};
 ghost use Rattle.rept_notes.specs.Notes.{Note as NoteOf, HoldsNote, first_note as note_at, after_note, note_size, desc_offset, desc_size, note_header, padded as padded_size};
 ghost use Rattle.rept_notes.specs.Sought.{is_core_name, is_sought as is_sought_note};
 
@@ -121,7 +121,7 @@ pub const NOTHING: Found<'static> = Found {
 /// What was found, and this note if it is sought.
 pub fn add_note<'a>(found: Found<'a>, note: &Note<'a>, sought: Sought) -> Found<'a>
     requires { found.count + 1 < 2 ^ 64 }
-    ensures { Adds found.entry result (filter (wanted sought) (note_of note.now ∷ [])) }
+    ensures { AddsNotes found.entry result (filter (wanted sought) (note_of note.now ∷ [])) }
 {
     if is_wanted(note, sought) {
         Found {
@@ -136,7 +136,7 @@ pub fn add_note<'a>(found: Found<'a>, note: &Note<'a>, sought: Sought) -> Found<
 /// What was found, and what was found in the notes after.
 pub fn join<'a>(found: Found<'a>, more: Found<'a>) -> Found<'a>
     requires { found.count + more.count < 2 ^ 64 }
-    ensures { (notes : List NoteOf) → AreFound more.entry notes → Adds found.entry result notes }
+    ensures { (notes : List NoteOf) → AreFound more.entry notes → AddsNotes found.entry result notes }
 {
     Found {
         count: found.count + more.count,

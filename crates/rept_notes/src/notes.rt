@@ -4,9 +4,9 @@ ghost use Rattle.std.specs.Prelude.{◌≡◌, ◌≤◌, ◌<◌, ◌+◌, ◌^
 ghost use Rattle.std.specs.List.{filter};
 ghost use Rattle.rept_elf.specs.Image.{file_of, segments_of, segment_of};
 ghost use Rattle.rept_notes.specs.Ahead.{IsAhead};
-ghost use Rattle.rept_notes.specs.Found.{AreFound, Adds, PassesSegment, CutsSegment, said_of, wanted};
+ghost use Rattle.rept_notes.specs.Found.{AreFound, AddsNotes, PassesSegment, CutsSegment, said_of, wanted};
 ghost use Rattle.rept_notes.specs.Notes.{Note as NoteOf, AreNotes, CutsNote, HaveNotes, AreCutAt, note_segments};
-ghost use Rattle.rept_notes.specs.Sought.{Counted, Says, SaysOf, is_short};
+ghost use Rattle.rept_notes.specs.Sought.{CountedNotes, SaysOf, SaysOfType, is_short};
 
 use crate::ahead::{Ahead, ahead_of, go_ahead};
 use crate::fault::NotePastEnd;
@@ -28,7 +28,7 @@ fn read_notes<'a>(
     requires size { length bytes.now < 2 ^ 32 }
     requires ahead { IsAhead (wanted sought) offset bytes.now ahead }
     requires room { found.count + length bytes.now < 2 ^ 64 }
-    ensures ok { IfOk result (λ now. (notes : List NoteOf) × AreNotes offset bytes.now notes × Adds found.entry now (filter (wanted sought) notes)) }
+    ensures ok { IfOk result (λ now. (notes : List NoteOf) × AreNotes offset bytes.now notes × AddsNotes found.entry now (filter (wanted sought) notes)) }
     ensures few { IfOk result (λ now. now.count ≤ found.entry.count + length bytes.now) }
     ensures cut { IfErr result (λ fault. CutsNote offset bytes.now fault.offset) }
 {
@@ -92,8 +92,8 @@ fn read_core<'a>(core: &Image<'a>, sought: Sought) -> Result<Found<'a>, NotePast
 /// The notes of a core file that are of this type and named `CORE`: how many, and the first. All notes of the file must be
 /// whole, of whatever type; the fault comes exactly where one isn't. What the notes say is determined by the file.
 pub fn find_notes<'a>(core: &Image<'a>, kind: u32) -> Result<Found<'a>, NotePastEnd>
-    ensures said { Says kind (length (file_of core.now)) (segments_of core.now) (said_of result) }
-    ensures only { (said : Result Counted ℕ) → Says kind (length (file_of core.now)) (segments_of core.now) said → said ≡ said_of result }
+    ensures said { SaysOfType kind (length (file_of core.now)) (segments_of core.now) (said_of result) }
+    ensures only { (said : Result CountedNotes ℕ) → SaysOfType kind (length (file_of core.now)) (segments_of core.now) said → said ≡ said_of result }
 {
     read_core(core, Sought { kind, below: None })
 }
@@ -101,7 +101,7 @@ pub fn find_notes<'a>(core: &Image<'a>, kind: u32) -> Result<Found<'a>, NotePast
 /// The same of those of them alone whose descriptor has fewer than so many bytes.
 pub fn find_short<'a>(core: &Image<'a>, kind: u32, least: usize) -> Result<Found<'a>, NotePastEnd>
     ensures said { SaysOf (is_short kind least) (length (file_of core.now)) (segments_of core.now) (said_of result) }
-    ensures only { (said : Result Counted ℕ) → SaysOf (is_short kind least) (length (file_of core.now)) (segments_of core.now) said → said ≡ said_of result }
+    ensures only { (said : Result CountedNotes ℕ) → SaysOf (is_short kind least) (length (file_of core.now)) (segments_of core.now) said → said ≡ said_of result }
 {
     read_core(
         core,

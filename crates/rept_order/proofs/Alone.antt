@@ -12,7 +12,7 @@ use Rattle.rept_machine.specs.State.{State, IsState}
 use Rattle.rept_machine.specs.Step.{IsStep, HasEffect, Calls}
 use Rattle.std.proofs.lemmas.Option.{slice_get_cases}
 use Rattle.rept_steps.specs.declared.threads.ThreadRows.{ThreadRows}
-use Rattle.rept_steps.specs.Course.{Course, Row, row_of, no_thread, rows_of, IsRow, row_at, is_call_row, calls, IsAlone, IsSound}
+use Rattle.rept_steps.specs.Course.{Course, Row, row_of, no_thread, rows_of, IsRow, row_at, is_call_row, calls, IsAlone, IsSoundCourse}
 use Rattle.rept_order.specs.Events.{Part, Event, IsEvent, FitsRow, first_part, first_event, last_event, IsBefore}
 use Rattle.rept_order.specs.Events.Part.{whole, entry, return}
 use Rattle.rept_order.specs.Events.IsBefore.{by_row, by_call, by_time}
@@ -21,7 +21,7 @@ use Rattle.rept_order.specs.Moments.Moment.{before, after, at_end}
 use Rattle.rept_order.specs.Moments.Act.{row}
 use Rattle.rept_order.specs.History.{World, Move, move_at, Happening, History, Ending, IsExecution, tick, seen_by, state_at, Stays, Occurs, ExecutesRow, Returns, CallChanges, Does}
 use Rattle.rept_order.specs.History.Happening.{event, change, nothing}
-use Rattle.rept_order.specs.Points.{moment_of, registers_at}
+use Rattle.rept_order.specs.Points.{moment_of_point, thread_registers}
 use Rattle.rept_order.specs.Alone.{SavesOne, RunsAlone, IsShared}
 use Rattle.rept_order.proofs.Sequence.{part_of, first_is_event, first_whole, last_whole, first_entry, last_return}
 use Rattle.rept_order.proofs.Times.{alone_never, begin_is}
@@ -299,7 +299,7 @@ module _ (C : Course) (alone : IsAlone C) (D : Ending) (run : ℕ → State) (x 
   end_world : h.world h.ticks ≡ world_of (run n)
   end_world = world_at C run (3 * n) n 0 (omega arith) (omega arith)
 
-  module _ (sound : IsSound C) (saves : SavesOne D) where
+  module _ (sound : IsSoundCourse C) (saves : SavesOne D) where
     ordered_by : (e f : Event) → IsEvent C e → IsEvent C f → IsBefore C e f → h.place e < h.place f
     ordered_by e f ie jf (by_row same less) = let one = offset_small e.part in let other = offset_small f.part in omega arith
     ordered_by e f ie jf (by_call same first second) =
@@ -327,14 +327,14 @@ module _ (C : Course) (alone : IsAlone C) (D : Ending) (run : ℕ → State) (x 
       bytes_end = λ a v is. ap (λ (w : World). w.memory a) end_world ∙ x.bytes_end a v is;
     }
 
-    shows_registers : (p : ℕ) → p ≤ n → registers_at C h 0 p ≡ (run p).register
+    shows_registers : (p : ℕ) → p ≤ n → thread_registers C h 0 p ≡ (run p).register
     shows_registers p below =
         elim (cases_lt p n) [
           | inl inside ↦
-              let moment : moment_of C 0 p ≡ before (row_of 0 p) = rw (Rattle.std.proofs.lemmas.Bool.lt-ltb p n inside) refl in
+              let moment : moment_of_point C 0 p ≡ before (row_of 0 p) = rw (Rattle.std.proofs.lemmas.Bool.lt-ltb p n inside) refl in
               ap (λ (m : Moment). (h.world (tick C h m)).register 0) moment ∙ ap (λ (w : World). w.register 0) (world_first p)
           | inr past ↦
-              let moment : moment_of C 0 p ≡ at_end = rw (Rattle.std.proofs.lemmas.Bool.le-ltb p n past) refl in
+              let moment : moment_of_point C 0 p ≡ at_end = rw (Rattle.std.proofs.lemmas.Bool.le-ltb p n past) refl in
               let same : n ≡ p = omega arith in
               ap (λ (m : Moment). (h.world (tick C h m)).register 0) moment ∙ ap (λ (w : World). w.register 0) end_world ∙ ap (λ (k : ℕ). (run k).register) same
         ]

@@ -4,7 +4,7 @@ use Rattle.std.proofs.Common.{◌≡◌, ℕ, zero, suc, ◌+◌, ◌*◌, ◌<�
 use Rattle.std.proofs.lemmas.Bool.{false≢true, cases_Bool, cases_order}
 use Rattle.rept_steps.specs.declared.slice.Slice.{Slice}
 use Rattle.rept_steps.specs.declared.threads.ThreadRows.{ThreadRows}
-use Rattle.rept_steps.specs.Course.{Course, Row, row_of, slices_of, no_thread, calls, IsSound}
+use Rattle.rept_steps.specs.Course.{Course, Row, row_of, slices_of, no_thread, calls, IsSoundCourse}
 use Rattle.rept_order.specs.Events.{Part, Event, IsEvent, FitsRow, Chain, Precedes, PrecedesOrIs}
 use Rattle.rept_order.specs.Events.Part.{whole, entry, return}
 use Rattle.rept_order.specs.Times.{IsOwnBefore, begin_of, EndsBefore, Sooner, sooner_or_same}
@@ -114,7 +114,7 @@ module _ (C : Course) where
   top : ℕ
   top = digit 2 (digit (suc (points_before C.threads (length C.threads))) (digit (suc (length C.threads)) (suc (all_begins C.threads)) 0) 0) 0
 
-module _ (C : Course) (sound : IsSound C) where
+module _ (C : Course) (sound : IsSoundCourse C) where
   step_small : (e : Event) → IsEvent C e → e.row.step < suc (points_before C.threads (length C.threads))
   step_small e is = let few = rows_few C.threads e.row.thread in let inside = is.row in omega arith
 

@@ -1,7 +1,7 @@
 -- What lies between two moments of a sound course.
 use Rattle.std.proofs.Common.{◌≡◌, ℕ, ◌⊎◌, Bool, true, false, List, [], ◌∷◌, inl, inr, refl, sym, ap, ◌∙◌, subst}
 use Rattle.std.proofs.lemmas.Bool.{false≢true}
-use Rattle.rept_steps.specs.Course.{Course, Row, IsRow, calls, IsSound}
+use Rattle.rept_steps.specs.Course.{Course, Row, IsRow, calls, IsSoundCourse}
 use Rattle.rept_order.specs.Events.{Event, first_event, last_event, Precedes, PrecedesOrIs, DarkPrecedes}
 use Rattle.rept_order.specs.Events.IsBefore.{by_call}
 use Rattle.rept_order.specs.Moments.{Moment, NotLater, Earlier, Act, IsAct, DarkBefore, WhollyBefore, WhollyAfter, Stretch, stretch, Falls, may_by, IsUntouched, IsUntouchedStep, Joined}
@@ -43,7 +43,7 @@ module _ (C : Course) where
   after_earlier (row r) m w onward way = not_later_trans C m w (before r) onward way
   after_earlier dark m w onward way = absurd way
 
-module _ (C : Course) (sound : IsSound C) where
+module _ (C : Course) (sound : IsSoundCourse C) where
   never_back : (e f : Event) → Precedes C e f → PrecedesOrIs C f e → ⊥
   never_back e f h k = precedes_irreflexive C sound e (or_after C e f e h k)
 

@@ -2,7 +2,7 @@
 use Rattle.std.proofs.Common.{◌≡◌, ◌≢◌, ℕ, suc, ◌<◌, Bool, true, false, length, Option, Some, None, inl, inr, refl, sym, ap, ◌∙◌, subst, arith}
 use Rattle.std.proofs.lemmas.Bool.{cases_eq, cases_order}
 use Rattle.rept_steps.specs.declared.slice.Slice.{Slice}
-use Rattle.rept_steps.specs.Course.{Course, Row, row_of, rows_of, slices_of, slice_of, IsRow, calls, CallsEnd, IsSound}
+use Rattle.rept_steps.specs.Course.{Course, Row, row_of, rows_of, slices_of, slice_of, IsRow, calls, CallsEnd, IsSoundCourse}
 use Rattle.rept_order.specs.Events.{Part, Event, IsEvent, FitsRow, slice_by, event_slice, first_event, last_event, Before, Precedes, PrecedesOrIs, IsAfterDark, DarkPrecedes}
 use Rattle.rept_order.specs.Events.Part.{whole, entry, return}
 use Rattle.rept_order.specs.Events.IsBefore.{by_row, by_call, by_time}
@@ -22,7 +22,7 @@ none_number e = cc
 none_slice : {a : Slice} → None ≡ Some a → ⊥
 none_slice e = cc
 
-module _ (C : Course) (sound : IsSound C) where
+module _ (C : Course) (sound : IsSoundCourse C) where
   all_end : (d : ℕ) → C.dark ≡ Some d → CallsEnd C
   all_end d is =
       elim (sound.calls) [

@@ -2,7 +2,7 @@
 use Rattle.std.proofs.Common.{◌≡◌, ℕ, ◌⊎◌, ◌&&◌, ◌||◌, not, eqb, nat_lt, Bool, true, false, Option, Some, None, inl, inr, refl, sym, ap, ◌∙◌, subst}
 use Rattle.std.proofs.lemmas.Bool.{false≢true, cases_Bool, or_cases, or_left, or_right, and_parts, and_from, eqb-true, eq-eqb, ltb-true, lt-ltb}
 use Rattle.rept_steps.specs.declared.slice.Slice.{Slice}
-use Rattle.rept_steps.specs.Course.{Course, Row, row_of, IsSound}
+use Rattle.rept_steps.specs.Course.{Course, Row, row_of, IsSoundCourse}
 use Rattle.rept_order.specs.Events.{Event, IsEvent, Part, Precedes, PrecedesOrIs, event_slice}
 use Rattle.rept_order.specs.Events.Part.{whole, entry, return}
 use Rattle.rept_order.specs.Moments.{Moment, IsMoment, NotLater, Earlier}
@@ -95,7 +95,7 @@ module _ (C : Course) where
       let test : ends_by (event_slice C e) (begin_of C f) ≡ true = ap (λ (o : Option Slice). ends_by o (begin_of C f)) ends.in_slice ∙ lt-ltb ends.slice.end (begin_of C f) ends.less in
       or_right (own_before e f) (ends_by (event_slice C e) (begin_of C f)) test
 
-module _ (C : Course) (sound : IsSound C) where
+module _ (C : Course) (sound : IsSoundCourse C) where
   pub precedes_true : (e f : Event) → IsEvent C e → IsEvent C f → sooner C e f ≡ true → Precedes C e f
   precedes_true e f ie jf k = sooner_precedes C sound e f ie jf (sooner_true C e f k)
 

@@ -1,7 +1,7 @@
 -- What falls between two moments is decided by times.
 use Rattle.std.proofs.Common.{◌≡◌, ℕ, ◌&&◌, not, Bool, true, false, Option, Some, None, inl, inr, refl, sym, ap, ◌∙◌}
 use Rattle.std.proofs.lemmas.Bool.{false≢true, cases_Bool, or_cases, or_left, or_right, and_parts, and_from, ltb-true, lt-ltb}
-use Rattle.rept_steps.specs.Course.{Course, Row, calls, IsSound}
+use Rattle.rept_steps.specs.Course.{Course, Row, calls, IsSoundCourse}
 use Rattle.rept_order.specs.Events.{Event, IsEvent, first_event, last_event, DarkPrecedes}
 use Rattle.rept_order.specs.Moments.{Moment, IsMoment, Act, IsAct, WhollyBefore, WhollyAfter, Stretch, stretch, Falls}
 use Rattle.rept_order.specs.Moments.Moment.{before, after, at_end}
@@ -26,7 +26,7 @@ not_not false e = refl
 same_act : {q r : Row} → row q ≡ row r → q ≡ r
 same_act e = cc
 
-module _ (C : Course) (sound : IsSound C) where
+module _ (C : Course) (sound : IsSoundCourse C) where
   late_true : (o : Option ℕ) (e : Event) → C.dark ≡ o → IsEvent C e → late_by o (begin_of C e) ≡ true → DarkPrecedes C e
   late_true None e is its k = absurd (false≢true k)
   late_true (Some d) e is its k = late_dark C sound d e is its (ltb-true d (begin_of C e) k)

@@ -8,14 +8,14 @@ use Rattle.rept_steps.specs.declared.threads.ThreadRows.{ThreadRows}
 use Rattle.rept_steps.specs.Course.{Course, Row, rows_of, no_thread, IsRow, row_at, calls}
 use Rattle.rept_order.specs.Moments.Moment.{before, after}
 use Rattle.rept_order.specs.History.{History, Ending, IsExecution}
-use Rattle.rept_order.specs.Points.{registers_at, memory_at, state_from}
-use Rattle.rept_order.specs.Legs.{Point, point_of, points_before, point_in, number_of, point_at, row_from, leg_row, registers_on}
+use Rattle.rept_order.specs.Points.{thread_registers, memory_at, state_from}
+use Rattle.rept_order.specs.Legs.{Point, point_of_thread, points_before, point_in, number_of, point_at, row_from, leg_row, registers_on}
 use Rattle.rept_order.proofs.Points.{plain_step, call_step}
 
 count_in : List ThreadRows → ℕ → ℕ
 count_in threads t = length (unwrap_or (slice_get threads t) no_thread).steps
 
-point_found : (threads : List ThreadRows) (t p : ℕ) → t < length threads → p ≤ count_in threads t → point_in threads (points_before threads t + p) ≡ point_of t p
+point_found : (threads : List ThreadRows) (t p : ℕ) → t < length threads → p ≤ count_in threads t → point_in threads (points_before threads t + p) ≡ point_of_thread t p
 unfolding count_in
 point_found [] t p below few = absurd (omega arith)
 point_found (thread ∷ threads) zero p below few =
@@ -40,7 +40,7 @@ point_sums (thread ∷ threads) g =
 
 module _ (C : Course) where
   -- points and their numbers
-  pub point_number : (t p : ℕ) → t < length C.threads → p ≤ length (rows_of C t) → point_at C (number_of C t p) ≡ point_of t p
+  pub point_number : (t p : ℕ) → t < length C.threads → p ≤ length (rows_of C t) → point_at C (number_of C t p) ≡ point_of_thread t p
   unfolding count_in
   point_number t p below few = point_found C.threads t p below few
 
@@ -60,7 +60,7 @@ module _ (C : Course) where
       ]
 
   -- a leg that is a row leads to the next point of its thread
-  pub leg_leads : (g : ℕ) (its_row : StepRow) → leg_row C g ≡ Some its_row → point_at C (suc g) ≡ point_of (point_at C g).thread (suc (point_at C g).number)
+  pub leg_leads : (g : ℕ) (its_row : StepRow) → leg_row C g ≡ Some its_row → point_at C (suc g) ≡ point_of_thread (point_at C g).thread (suc (point_at C g).number)
   leg_leads g its_row is =
       let x = point_at C g in
       let inside = row_inside (row_from (point_at C g)) its_row is in
@@ -69,8 +69,8 @@ module _ (C : Course) where
       ap (λ (k : ℕ). point_at C k) next ∙ point_number (point_at C g).thread (suc (point_at C g).number) (thread_inside (row_from (point_at C g)) inside) inside
 
   module _ (D : Ending) (h : History) (e : IsExecution C D h) where
-    next_registers : (g : ℕ) (its_row : StepRow) → leg_row C g ≡ Some its_row → registers_on C h (suc g) ≡ registers_at C h (point_at C g).thread (suc (point_at C g).number)
-    next_registers g its_row is = ap (λ (x : Point). registers_at C h x.thread x.number) (leg_leads g its_row is)
+    next_registers : (g : ℕ) (its_row : StepRow) → leg_row C g ≡ Some its_row → registers_on C h (suc g) ≡ thread_registers C h (point_at C g).thread (suc (point_at C g).number)
+    next_registers g its_row is = ap (λ (x : Point). thread_registers C h x.thread x.number) (leg_leads g its_row is)
 
     -- a leg that is a row and no call is a step
     pub leg_step : (g : ℕ) (its_row : StepRow) → leg_row C g ≡ Some its_row → calls C (row_from (point_at C g)) ≡ false → IsStep D.image_end its_row (state_from (registers_on C h g) (memory_at C h (before (row_from (point_at C g))))) (state_from (registers_on C h (suc g)) (memory_at C h (after (row_from (point_at C g)))))

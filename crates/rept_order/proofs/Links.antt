@@ -1,17 +1,17 @@
 -- Moments each next to the one before lead to the end, and what lies before one of them.
 use Rattle.std.proofs.Common.{◌≡◌, ◌≢◌, ℕ, suc, ◌<◌, ◌≤◌, Bool, true, false, cond, List, [], ◌∷◌, length, inl, inr, refl, sym, ap, ◌∙◌, subst, arith}
 use Rattle.std.proofs.lemmas.Bool.{false≢true, cases_Bool}
-use Rattle.rept_steps.specs.Course.{Course, IsSound}
+use Rattle.rept_steps.specs.Course.{Course, IsSoundCourse}
 use Rattle.rept_order.specs.Moments.{Moment, IsMoment, NotLater, Earlier, Act, IsAct, WhollyBefore, Stretch, stretch, Falls}
 use Rattle.rept_order.specs.Moments.Moment.{before, after, at_end}
 use Rattle.rept_order.specs.Times.{is_earlier, wholly_before}
-use Rattle.rept_order.specs.Links.{all_moments, later_count, moments_left, HasNext}
+use Rattle.rept_order.specs.Links.{all_moments, later_count, moments_left, HasNextMoment}
 use Rattle.rept_order.proofs.Between.{before_later, not_both, only_own}
 use Rattle.rept_order.proofs.Decide.{earlier_true, earlier_from, cases_earlier}
 use Rattle.rept_order.proofs.Falling.{before_true, before_from}
 use Rattle.rept_order.proofs.Nexts.{In, every, listed, earlier_trans}
 
-module _ (C : Course) (sound : IsSound C) where
+module _ (C : Course) (sound : IsSoundCourse C) where
   -- what lies before a moment lies before each later one, and doesn't fall between
   pub past_onward : (act : Act) (m w : Moment) → WhollyBefore C act m → NotLater C m w → WhollyBefore C act w × (Falls C act (stretch m w) → ⊥)
   past_onward act m w way order = (before_later C act m w way order, λ falls. falls.not_before way)
@@ -95,7 +95,7 @@ module _ (C : Course) (sound : IsSound C) where
           ]
 
   -- from each other moment a next one leads nearer to the end
-  pub has_next : (m : Moment) → IsMoment C m → m ≢ at_end → HasNext C m
+  pub has_next : (m : Moment) → IsMoment C m → m ≢ at_end → HasNextMoment C m
   has_next m is apart =
       let found = nearest (all_moments C (length C.threads)) (listed C (length C.threads)) m at_end is tt (to_end m, apart) in
       record {

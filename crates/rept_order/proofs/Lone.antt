@@ -2,7 +2,7 @@
 use Rattle.std.proofs.Common.{◌≡◌, ℕ, zero, suc, ◌<◌, ◌≤◌, Bool, false, List, [], ◌∷◌, length, Some, None, slice_get, unwrap_or, inl, inr, refl, sym, ap, ◌∙◌, subst, arith}
 use Rattle.std.proofs.lemmas.Bool.{cases_order}
 use Rattle.rept_steps.specs.declared.threads.ThreadRows.{ThreadRows}
-use Rattle.rept_steps.specs.Course.{Course, Row, row_of, rows_of, no_thread, IsRow, IsAlone, IsSound}
+use Rattle.rept_steps.specs.Course.{Course, Row, row_of, rows_of, no_thread, IsRow, IsAlone, IsSoundCourse}
 use Rattle.rept_order.specs.Events.{Event, IsEvent, first_event, last_event, Precedes, PrecedesOrIs}
 use Rattle.rept_order.specs.Events.IsBefore.{by_row}
 use Rattle.rept_order.specs.Moments.{Moment, IsMoment, Earlier, Act, IsAct, WhollyAfter, Stretch, stretch, Falls, may_by, stores, IsUntouchedStep, IsNext, ArePause, AreOne}
@@ -30,7 +30,7 @@ same_before e = cc
 same_after : {q r : Row} → after q ≡ after r → q ≡ r
 same_after e = cc
 
-module _ (C : Course) (sound : IsSound C) (alone : IsAlone C) where
+module _ (C : Course) (sound : IsSoundCourse C) (alone : IsAlone C) where
   own_thread : (r : Row) → IsRow C r → r.thread ≡ 0
   own_thread r is = by_thread r.thread (subst (λ (ts : List ThreadRows). r.step < length (unwrap_or (slice_get ts r.thread) no_thread).steps) alone.only is)
     where

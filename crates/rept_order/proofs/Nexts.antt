@@ -3,7 +3,7 @@ use Rattle.std.proofs.Common.{◌≡◌, ℕ, zero, suc, ◌<◌, ◌≤◌, ◌
 use Rattle.std.proofs.lemmas.Bool.{cases_lt, cases_order}
 use Rattle.std.proofs.lemmas.Option.{slice_get_past}
 use Rattle.rept_steps.specs.declared.threads.ThreadRows.{ThreadRows}
-use Rattle.rept_steps.specs.Course.{Course, Row, row_of, rows_of, no_thread, IsRow, IsSound}
+use Rattle.rept_steps.specs.Course.{Course, Row, row_of, rows_of, no_thread, IsRow, IsSoundCourse}
 use Rattle.rept_order.specs.Events.{Event, last_event, PrecedesOrIs}
 use Rattle.rept_order.specs.Moments.{Moment, IsMoment, NotLater, Earlier, stretch, IsUntouchedStep, Forth}
 use Rattle.rept_order.specs.Moments.Moment.{before, after, at_end}
@@ -90,7 +90,7 @@ listed C (suc n) x h =
       | inr rest ↦ listed C n x rest
     ]
 
-module _ (C : Course) (sound : IsSound C) where
+module _ (C : Course) (sound : IsSoundCourse C) where
   or_back : (e f : Event) → PrecedesOrIs C e f → PrecedesOrIs C f e → e ≡ f
   or_back e f (inl same) k = same
   or_back e f (inr less) k = absurd (precedes_irreflexive C sound e (or_after C e f e less k))

@@ -1,11 +1,11 @@
 -- Of each byte and moment one thing alone is said of the writer.
 use Rattle.std.proofs.Common.{◌≡◌, ◌≢◌, inl, inr, refl, sym, ap, ◌∙◌, subst}
 use Rattle.std.proofs.lemmas.Bool.{cases_Bool, false≢true}
-use Rattle.rept_steps.specs.Course.{Course, Row, IsSound}
+use Rattle.rept_steps.specs.Course.{Course, Row, IsSoundCourse}
 use Rattle.rept_order.specs.Events.{first_event, last_event, Precedes}
 use Rattle.rept_order.specs.Moments.Act.{row}
 use Rattle.rept_order.specs.Times.{same_row}
-use Rattle.rept_order.specs.Writers.{Writer, Reach, Spot, ComesLast, IsSureBefore, IsWriter}
+use Rattle.rept_order.specs.Writers.{Writer, Reach, CourseSpot, ComesLast, IsSureBefore, IsCourseWriter}
 use Rattle.rept_order.specs.Writers.Writer.{writes, may_write, several, none}
 use Rattle.rept_order.proofs.Sequence.{after_or, precedes_trans}
 use Rattle.rept_order.proofs.Times.{precedes_irreflexive}
@@ -15,7 +15,7 @@ use Rattle.rept_order.proofs.Decide.{row_true, row_self}
 same_act : {q r : Row} → row q ≡ row r → q ≡ r
 same_act e = cc
 
-module _ (C : Course) (sound : IsSound C) (can : Reach) (s : Spot) where
+module _ (C : Course) (sound : IsSoundCourse C) (can : Reach) (s : CourseSpot) where
   one_last : (q r : Row) → ComesLast C can s q → ComesLast C can s r → q ≡ r
   one_last q r h k =
       elim (cases_Bool (same_row q r)) [
@@ -32,7 +32,7 @@ module _ (C : Course) (sound : IsSound C) (can : Reach) (s : Spot) where
   sure_moved : (q r : Row) → ComesLast C can s q → ComesLast C can s r → IsSureBefore C can s q → (IsSureBefore C can s r → ⊥) → ⊥
   sure_moved q r h k sure out = out (subst (λ (x : Row). IsSureBefore C can s x) (one_last q r h k) sure)
 
-  pub one_writer : (v w : Writer) → IsWriter C can s v → IsWriter C can s w → v ≡ w
+  pub one_writer : (v w : Writer) → IsCourseWriter C can s v → IsCourseWriter C can s w → v ≡ w
   one_writer (writes q) (writes r) h k = ap (λ (x : Row). writes x) (one_last q r h.0 k.0)
   one_writer (writes q) (may_write r) h k = absurd (sure_moved q r h.0 k.0 h.1 k.1)
   one_writer (writes q) several h k = absurd (k.1 q h.0)

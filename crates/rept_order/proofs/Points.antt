@@ -24,7 +24,7 @@ use Rattle.rept_order.specs.History.{Happening, History, Ending, IsExecution, ti
 use Rattle.rept_order.specs.History.Happening.{event, change, nothing}
 use Rattle.rept_machine.specs.Writes.{WritesAtomic}
 use Rattle.rept_order.specs.Writing.{WritesBy, Covers}
-use Rattle.rept_order.specs.Points.{moment_of, registers_at, memory_at, state_from}
+use Rattle.rept_order.specs.Points.{moment_of_point, thread_registers, memory_at, state_from}
 use Rattle.rept_order.proofs.Sequence.{first_is_event, last_is_event, part_of, directly}
 use Rattle.rept_order.proofs.Ticks.{order_kept, early}
 use Rattle.rept_order.proofs.Keeps.{event_within, whole_ticks, call_ticks}
@@ -142,14 +142,14 @@ module _ (C : Course) (D : Ending) (h : History) (x : IsExecution C D h) where
       ]
 
   module _ (t : ℕ) where
-    moment_inside : (p : ℕ) → p < length (rows_of C t) → moment_of C t p ≡ before (row_of t p)
+    moment_inside : (p : ℕ) → p < length (rows_of C t) → moment_of_point C t p ≡ before (row_of t p)
     moment_inside p inside = rw (lt-ltb p (length (rows_of C t)) inside) refl
 
-    moment_last : (p : ℕ) → length (rows_of C t) ≤ p → moment_of C t p ≡ at_end
+    moment_last : (p : ℕ) → length (rows_of C t) ≤ p → moment_of_point C t p ≡ at_end
     moment_last p past = rw (le-ltb p (length (rows_of C t)) past) refl
 
     -- from after a row to the thread's next point nothing of the thread happens
-    none_between : (i j : ℕ) (e : Event) → i < length (rows_of C t) → j < h.ticks → tick C h (after (row_of t i)) ≤ j → j < tick C h (moment_of C t (suc i)) → h.happening j ≡ event e → e.row.thread ≡ t → ⊥
+    none_between : (i j : ℕ) (e : Event) → i < length (rows_of C t) → j < h.ticks → tick C h (after (row_of t i)) ≤ j → j < tick C h (moment_of_point C t (suc i)) → h.happening j ≡ event e → e.row.thread ≡ t → ⊥
     none_between i j e inside below from to is own =
         elim (cases_lt e.row.step (suc i)) [
           | inl least ↦
@@ -162,18 +162,18 @@ module _ (C : Course) (D : Ending) (h : History) (x : IsExecution C D h) where
               let next : suc i < length (rows_of C t) = omega arith in
               let bound = later_row e (suc i) j below is most (subst (λ (u : ℕ). IsRow C (row_of u (suc i))) (sym own) next) in
               let same : tick C h (before (row_of e.row.thread (suc i))) ≡ tick C h (before (row_of t (suc i))) = ap (λ (u : ℕ). tick C h (before (row_of u (suc i)))) own in
-              let point : tick C h (moment_of C t (suc i)) ≡ tick C h (before (row_of t (suc i))) = ap (tick C h) (moment_inside (suc i) next) in
+              let point : tick C h (moment_of_point C t (suc i)) ≡ tick C h (before (row_of t (suc i))) = ap (tick C h) (moment_inside (suc i) next) in
               absurd (omega arith)
         ]
 
-    point_is_moment : (p : ℕ) → IsMoment C (moment_of C t p)
+    point_is_moment : (p : ℕ) → IsMoment C (moment_of_point C t p)
     point_is_moment p =
         elim (cases_lt p (length (rows_of C t))) [
           | inl inside ↦ rw (moment_inside p inside) inside
           | inr past ↦ rw (moment_last p past) tt
         ]
 
-    after_no_later : (i : ℕ) → i < length (rows_of C t) → tick C h (after (row_of t i)) ≤ tick C h (moment_of C t (suc i))
+    after_no_later : (i : ℕ) → i < length (rows_of C t) → tick C h (after (row_of t i)) ≤ tick C h (moment_of_point C t (suc i))
     after_no_later i inside =
         elim (cases_lt (suc i) (length (rows_of C t))) [
           | inl next ↦ let p = pause_in_order (stretch (after (row_of t i)) (before (row_of t (suc i)))) (between t i next refl) in rw (moment_inside (suc i) next) p.2
@@ -181,17 +181,17 @@ module _ (C : Course) (D : Ending) (h : History) (x : IsExecution C D h) where
         ]
 
     -- after a row the thread has the registers of its next point
-    pub registers_after : (i : ℕ) → i < length (rows_of C t) → registers_at C h t (suc i) ≡ (h.world (tick C h (after (row_of t i)))).register t
+    pub registers_after : (i : ℕ) → i < length (rows_of C t) → thread_registers C h t (suc i) ≡ (h.world (tick C h (after (row_of t i)))).register t
     registers_after i inside = fun_ext each
       where
-        each : (s : ℕ) → registers_at C h t (suc i) s ≡ (h.world (tick C h (after (row_of t i)))).register t s
+        each : (s : ℕ) → thread_registers C h t (suc i) s ≡ (h.world (tick C h (after (row_of t i)))).register t s
         each s =
             let order = after_no_later i inside in
-            let bound = early C D h x (moment_of C t (suc i)) (point_is_moment (suc i)) in
-            let far : tick C h (after (row_of t i)) + (tick C h (moment_of C t (suc i)) - tick C h (after (row_of t i))) ≡ tick C h (moment_of C t (suc i)) = omega arith in
-            ap (λ (k : ℕ). (h.world k).register t s) (sym far) ∙ registers_stay (tick C h (moment_of C t (suc i)) - tick C h (after (row_of t i))) (tick C h (after (row_of t i))) t s (omega arith) (λ j e from to is own. none_between i j e inside (omega arith) from (omega arith) is own)
+            let bound = early C D h x (moment_of_point C t (suc i)) (point_is_moment (suc i)) in
+            let far : tick C h (after (row_of t i)) + (tick C h (moment_of_point C t (suc i)) - tick C h (after (row_of t i))) ≡ tick C h (moment_of_point C t (suc i)) = omega arith in
+            ap (λ (k : ℕ). (h.world k).register t s) (sym far) ∙ registers_stay (tick C h (moment_of_point C t (suc i)) - tick C h (after (row_of t i))) (tick C h (after (row_of t i))) t s (omega arith) (λ j e from to is own. none_between i j e inside (omega arith) from (omega arith) is own)
 
-    pub registers_before : (i : ℕ) → i < length (rows_of C t) → registers_at C h t i ≡ (h.world (tick C h (before (row_of t i)))).register t
+    pub registers_before : (i : ℕ) → i < length (rows_of C t) → thread_registers C h t i ≡ (h.world (tick C h (before (row_of t i)))).register t
     registers_before i inside = ap (λ (m : Moment). (h.world (tick C h m)).register t) (moment_inside i inside)
 
 same_row : {a b : StepRow} → Some a ≡ Some b → a ≡ b
@@ -208,7 +208,7 @@ module _ (C : Course) (D : Ending) (h : History) (x : IsExecution C D h) (t i : 
       (there.0, subst (λ (g : Happening). Does C D h (h.place (part_of (row_of t i) p)) g) there.1 (x.does (h.place (part_of (row_of t i) p)) there.0))
 
   -- a row that is no call is a step from the registers of its point and the memory before it
-  pub plain_step : (its_row : StepRow) → row_at C (row_of t i) ≡ Some its_row → calls C (row_of t i) ≡ false → IsStep D.image_end its_row (state_from (registers_at C h t i) (memory_at C h (before (row_of t i)))) (state_from (registers_at C h t (suc i)) (memory_at C h (after (row_of t i))))
+  pub plain_step : (its_row : StepRow) → row_at C (row_of t i) ≡ Some its_row → calls C (row_of t i) ≡ false → IsStep D.image_end its_row (state_from (thread_registers C h t i) (memory_at C h (before (row_of t i)))) (state_from (thread_registers C h t (suc i)) (memory_at C h (after (row_of t i))))
   plain_step its_row is plain =
       let does = (happens_at whole plain).1 in
       let ticks = whole_ticks C D h x (row_of t i) (h.place (part_of (row_of t i) whole)) plain refl in
@@ -216,7 +216,7 @@ module _ (C : Course) (D : Ending) (h : History) (x : IsExecution C D h) (t i : 
       let from = subst (λ (j : ℕ). IsStep D.image_end its_row (seen_by t (h.world j)) (seen_by t (h.world (suc (h.place (part_of (row_of t i) whole)))))) (sym ticks.0) its in
       let to = subst (λ (j : ℕ). IsStep D.image_end its_row (state_at C h t (before (row_of t i))) (seen_by t (h.world j))) (sym ticks.1) from in
       let old = subst (λ (f : ℕ → ℕ). IsStep D.image_end its_row (state_from f (memory_at C h (before (row_of t i)))) (state_at C h t (after (row_of t i)))) (sym (registers_before C D h x t i inside)) to in
-      subst (λ (f : ℕ → ℕ). IsStep D.image_end its_row (state_from (registers_at C h t i) (memory_at C h (before (row_of t i)))) (state_from f (memory_at C h (after (row_of t i))))) (sym (registers_after C D h x t i inside)) old
+      subst (λ (f : ℕ → ℕ). IsStep D.image_end its_row (state_from (thread_registers C h t i) (memory_at C h (before (row_of t i)))) (state_from f (memory_at C h (after (row_of t i))))) (sym (registers_after C D h x t i inside)) old
 
   -- nothing of the thread happens between a call's entry and its return
   none_pending : calls C (row_of t i) ≡ true → (j : ℕ) (e : Event) → j < h.ticks → suc (h.place (part_of (row_of t i) entry)) ≤ j → j < h.place (part_of (row_of t i) return) → h.happening j ≡ event e → e.row.thread ≡ t → ⊥
@@ -253,12 +253,12 @@ module _ (C : Course) (D : Ending) (h : History) (x : IsExecution C D h) (t i : 
       ap (λ (k : ℕ). (h.world k).register t s) ticks.1 ∙ returned.1.own s other ∙ ap (λ (k : ℕ). (h.world k).register t s) (sym far) ∙ waits ∙ entered.registers t s ∙ ap (λ (k : ℕ). (h.world k).register t s) (sym ticks.0)
 
   -- a call changes x10 alone of its thread's registers, and goes on behind itself: it is a step with any memory, the same before and after
-  pub call_step : (its_row : StepRow) (memory : ℕ → ℕ) → row_at C (row_of t i) ≡ Some its_row → calls C (row_of t i) ≡ true → IsStep D.image_end its_row (state_from (registers_at C h t i) memory) (state_from (registers_at C h t (suc i)) memory)
+  pub call_step : (its_row : StepRow) (memory : ℕ → ℕ) → row_at C (row_of t i) ≡ Some its_row → calls C (row_of t i) ≡ true → IsStep D.image_end its_row (state_from (thread_registers C h t i) memory) (state_from (thread_registers C h t (suc i)) memory)
   call_step its_row memory is call =
       let returned = (happens_at return call).1 in
       let its = same_row (sym returned.is_row ∙ is) in
       let onward = subst (λ (r : StepRow). r.next ≡ following (from_of r)) its returned.onward in
-      call_effect its_row.instr D.image_end (addresses_of its_row) (state_from (registers_at C h t i) memory) (state_from (registers_at C h t (suc i)) memory) (subst (λ (o : Option StepRow). is_call_row o ≡ true) is call) (record {
+      call_effect its_row.instr D.image_end (addresses_of its_row) (state_from (thread_registers C h t i) memory) (state_from (thread_registers C h t (suc i)) memory) (subst (λ (o : Option StepRow). is_call_row o ≡ true) is call) (record {
         others = λ s other. ap (λ (f : ℕ → ℕ). f s) (registers_after C D h x t i inside) ∙ call_keeps s other call ∙ ap (λ (f : ℕ → ℕ). f s) (sym (registers_before C D h x t i inside));
         memory = λ a out. refl;
         onward = onward;
@@ -266,12 +266,12 @@ module _ (C : Course) (D : Ending) (h : History) (x : IsExecution C D h) (t i : 
 
 module _ (C : Course) (D : Ending) (h : History) (x : IsExecution C D h) where
   -- the last point of a thread has what was saved of its registers, the end what was saved of the memory
-  pub registers_saved : (t s v : ℕ) → 0 < s → slice_get (D.registers t) s ≡ Some v → registers_at C h t (length (rows_of C t)) s ≡ v
+  pub registers_saved : (t s v : ℕ) → 0 < s → slice_get (D.registers t) s ≡ Some v → thread_registers C h t (length (rows_of C t)) s ≡ v
   registers_saved t s v some is = ap (λ (m : Moment). (h.world (tick C h m)).register t s) (moment_last C D h x t (length (rows_of C t)) (omega arith)) ∙ x.registers_end t s v some is
 
   -- each point of a thread has registers of a state, each moment a memory of bytes
-  pub point_state : (t p : ℕ) (m : Moment) → IsMoment C m → IsState (state_from (registers_at C h t p) (memory_at C h m))
+  pub point_state : (t p : ℕ) (m : Moment) → IsMoment C m → IsState (state_from (thread_registers C h t p) (memory_at C h m))
   point_state t p m is =
-      let registers = x.states (tick C h (moment_of C t p)) t (early C D h x (moment_of C t p) (point_is_moment C D h x t p)) in
+      let registers = x.states (tick C h (moment_of_point C t p)) t (early C D h x (moment_of_point C t p) (point_is_moment C D h x t p)) in
       let bytes = x.states (tick C h m) t (early C D h x m is) in
       record { zero = registers.zero; words = registers.words; bytes = bytes.bytes }

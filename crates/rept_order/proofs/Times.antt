@@ -2,7 +2,7 @@
 use Rattle.std.proofs.Common.{◌≡◌, ℕ, zero, suc, ◌<◌, ◌≤◌, true, List, [], ◌∷◌, length, Option, Some, None, slice_get, unwrap_or, inl, inr, refl, sym, ap, ◌∙◌, subst, arith}
 use Rattle.std.proofs.lemmas.Bool.{cases_order}
 use Rattle.rept_steps.specs.declared.slice.Slice.{Slice}
-use Rattle.rept_steps.specs.Course.{Course, Row, row_of, rows_of, slices_of, IsRow, calls, slice_of, no_thread, CallsEnd, IsAlone, IsSound}
+use Rattle.rept_steps.specs.Course.{Course, Row, row_of, rows_of, slices_of, IsRow, calls, slice_of, no_thread, CallsEnd, IsAlone, IsSoundCourse}
 use Rattle.rept_order.specs.Events.{Part, Event, IsEvent, FitsRow, slice_by, event_slice, IsBefore, Before, Chain, Precedes}
 use Rattle.rept_order.specs.Events.Part.{whole, entry, return}
 use Rattle.rept_order.specs.Events.IsBefore.{by_row, by_call, by_time}
@@ -48,7 +48,7 @@ pub record BeginsAt (C : Course) (e : Event) : Type 0 where
   pub least : slot (slices_of C e.row.thread) e.row.step ≤ place
   pub most : place ≤ event_slot C e
 
-module _ (C : Course) (sound : IsSound C) where
+module _ (C : Course) (sound : IsSoundCourse C) where
   pub event_at : (e : Event) → event_slice C e ≡ slice_get (slices_of C e.row.thread) (event_slot C e)
   event_at e = slice_by_slot e.part (slices_of C e.row.thread) e.row.step
 

@@ -1,6 +1,8 @@
--- An execution of several threads, with one memory: all their events one after the other, in an order that keeps theirs
--- (memory is sequentially consistent: RISC-V unprivileged manual 20191213, chapter 1.4, speaks of one address space for all
--- harts). This project's own.
+-- An execution of several threads, with one memory: all their events one after the other, in an order that keeps theirs.
+-- A row that is no call happens at one tick, and all threads see what it writes from then on. So executions here are
+-- sequentially consistent interleavings. That is a premise of this project, and more than the manual promises: its memory
+-- model is RVWMO (RISC-V unprivileged manual 20191213, chapter 14), which allows harts to see stores in other orders. An
+-- execution in which they do is none here, and nothing is said of it.
 use Rattle.std.specs.Prelude.{◌≡◌, ◌≢◌, ℕ, suc, ◌<◌, ◌≤◌, true, List, Option, Some, slice_get}
 use Rattle.rept_isa.specs.declared.row.StepRow.{StepRow}
 use Rattle.rept_isa.specs.Numbers.{following}
@@ -59,16 +61,16 @@ pub record Move : Type 0 where
 abbrev pub move_at : History → ℕ → Move
 move_at h k = record { old = h.world k; new = h.world (suc k) }
 
-abbrev pub SameMemory : Move → Type 0
-SameMemory m = (a : ℕ) → m.new.memory a ≡ m.old.memory a
+abbrev pub KeepsMemory : Move → Type 0
+KeepsMemory m = (a : ℕ) → m.new.memory a ≡ m.old.memory a
 
-abbrev pub SameRegisters : Move → Type 0
-SameRegisters m = (t s : ℕ) → m.new.register t s ≡ m.old.register t s
+abbrev pub KeepsRegisters : Move → Type 0
+KeepsRegisters m = (t s : ℕ) → m.new.register t s ≡ m.old.register t s
 
 -- nothing changes
 pub record Stays (m : Move) : Type 0 where
-  pub registers : SameRegisters m
-  pub memory : SameMemory m
+  pub registers : KeepsRegisters m
+  pub memory : KeepsMemory m
 
 -- the registers of all threads but this one are as before
 abbrev pub OthersKeep : ℕ → Move → Type 0
@@ -88,7 +90,7 @@ pub record Returns (C : Course) (r : Row) (m : Move) : Type 0 where
   pub onward : its_row.next ≡ following (from_of its_row)
   pub own : (s : ℕ) → s ≢ 10 → m.new.register r.thread s ≡ m.old.register r.thread s
   pub others : OthersKeep r.thread m
-  pub memory : SameMemory m
+  pub memory : KeepsMemory m
 
 -- what an event of a row does
 abbrev pub Occurs : Course → Ending → Row → Move → Part → Type 0
@@ -106,14 +108,14 @@ pub record CallChanges (C : Course) (D : Ending) (h : History) (k : ℕ) (r : Ro
   pub is_row : IsRow C r
   pub entered : tick C h (before r) < k
   pub pending : suc k < tick C h (after r)
-  pub registers : SameRegisters (move_at h k)
+  pub registers : KeepsRegisters (move_at h k)
   pub memory : (a : ℕ) → (MayChange D.image_end (state_at C h r.thread (before r)).register ((state_at C h r.thread (after r)).register 10) a → ⊥) → (h.world (suc k)).memory a ≡ (h.world k).memory a
 
 -- any bytes change, as long as it is dark
 pub record DarkChanges (C : Course) (h : History) (k : ℕ) : Type 0 where
   pub told : IsAct C dark
   pub early : (e : Event) → IsAfterDark C e → k < h.place e
-  pub registers : SameRegisters (move_at h k)
+  pub registers : KeepsRegisters (move_at h k)
 
 -- what happens at a tick
 abbrev pub Does : Course → Ending → History → ℕ → Happening → Type 0

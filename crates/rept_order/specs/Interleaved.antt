@@ -27,22 +27,22 @@ leg_of C r = number_of C r.thread r.step
 
 -- The states before and after a row. Between a call's entry and its return others may go on, so of its step only the registers are
 -- said: it has one memory on both sides.
-abbrev pub state_before : Course → CourseRun → Row → State
-state_before C run r = state_from (run.register (leg_of C r)) (run.memory (before r))
+abbrev pub state_before_row : Course → CourseRun → Row → State
+state_before_row C run r = state_from (run.register (leg_of C r)) (run.memory (before r))
 
-abbrev pub state_after : Course → CourseRun → Row → State
-state_after C run r = state_from (run.register (suc (leg_of C r))) (run.memory (if calls C r then before r else after r))
+abbrev pub state_after_row : Course → CourseRun → Row → State
+state_after_row C run r = state_from (run.register (suc (leg_of C r))) (run.memory (if calls C r then before r else after r))
 
 -- the act writes the byte; of the dark this is said of each byte
 abbrev pub WritesIn : Course → Ending → CourseRun → Act → ℕ → Type 0
-WritesIn C D run (row r) a = MatchOption (row_at C r) ⊥ (λ its_row. WritesBy its_row.instr D.image_end (state_before C run r) (state_after C run r) a)
+WritesIn C D run (row r) a = MatchOption (row_at C r) ⊥ (λ its_row. WritesBy its_row.instr D.image_end (state_before_row C run r) (state_after_row C run r) a)
 WritesIn C D run dark a = Unit {0}
 
 pub record IsCourseRun (C : Course) (D : Ending) (run : CourseRun) : Type 0 where
   -- registers are words, x0 is 0, and memory has bytes
   pub states : (g : ℕ) (m : Moment) → IsMoment C m → IsState (state_from (run.register g) (run.memory m))
   -- each row is a step of the machine
-  pub steps : (r : Row) (its_row : StepRow) → row_at C r ≡ Some its_row → IsStep D.image_end its_row (state_before C run r) (state_after C run r)
+  pub steps : (r : Row) (its_row : StepRow) → row_at C r ≡ Some its_row → IsStep D.image_end its_row (state_before_row C run r) (state_after_row C run r)
   -- each thread ends in its registers, and all in the bytes that were saved
   pub registers_end : (t s v : ℕ) → t < length C.threads → 0 < s → slice_get (D.registers t) s ≡ Some v → run.register (number_of C t (length (rows_of C t))) s ≡ v
   pub bytes_end : (a v : ℕ) → D.dump a ≡ Some v → run.memory at_end a ≡ v

@@ -5,15 +5,15 @@ use Rattle.rept_isa.specs.declared.row.StepRow.{StepRow}
 use Rattle.rept_steps.specs.declared.threads.ThreadRows.{ThreadRows}
 use Rattle.rept_steps.specs.Course.{Course, Row, row_of, row_at}
 use Rattle.rept_order.specs.History.{History}
-use Rattle.rept_order.specs.Points.{registers_at}
+use Rattle.rept_order.specs.Points.{thread_registers}
 
 -- a point of a thread
 pub record Point : Type 0 where
   pub thread : ℕ
   pub number : ℕ
 
-abbrev pub point_of : ℕ → ℕ → Point
-point_of t p = record { thread = t; number = p }
+abbrev pub point_of_thread : ℕ → ℕ → Point
+point_of_thread t p = record { thread = t; number = p }
 
 -- how many points the threads before thread t have
 abbrev pub points_before : List ThreadRows → ℕ → ℕ
@@ -26,8 +26,8 @@ in_next x = record { thread = suc x.thread; number = x.number }
 
 -- the thread's point that has a number among all
 abbrev pub point_in : List ThreadRows → ℕ → Point
-point_in [] g = point_of 0 g
-point_in (thread ∷ threads) g = if nat_lt (length thread.steps) g then in_next (point_in threads (g - suc (length thread.steps))) else point_of 0 g
+point_in [] g = point_of_thread 0 g
+point_in (thread ∷ threads) g = if nat_lt (length thread.steps) g then in_next (point_in threads (g - suc (length thread.steps))) else point_of_thread 0 g
 
 -- the number of a thread's point among all, and the point of a number
 abbrev pub number_of : Course → ℕ → ℕ → ℕ
@@ -45,4 +45,4 @@ leg_row C g = row_at C (row_from (point_at C g))
 
 -- the registers at point g: those of the point's thread
 abbrev pub registers_on : Course → History → ℕ → (ℕ → ℕ)
-registers_on C h g = registers_at C h (point_at C g).thread (point_at C g).number
+registers_on C h g = thread_registers C h (point_at C g).thread (point_at C g).number

@@ -23,7 +23,7 @@ abbrev pub moments_left : Course → Moment → ℕ
 moments_left C m = later_count C m (all_moments C (length C.threads))
 
 -- a next moment, from which fewer are later
-pub record HasNext (C : Course) (m : Moment) : Type 0 where
+pub record HasNextMoment (C : Course) (m : Moment) : Type 0 where
   pub to : Moment
   pub is : IsMoment C to
   pub next : IsNext C m to

@@ -7,11 +7,11 @@ use Rattle.rept_order.specs.Moments.{Moment}
 use Rattle.rept_order.specs.Moments.Moment.{before, at_end}
 use Rattle.rept_order.specs.History.{History, tick}
 
-abbrev pub moment_of : Course → ℕ → ℕ → Moment
-moment_of C t p = if nat_lt p (length (rows_of C t)) then before (row_of t p) else at_end
+abbrev pub moment_of_point : Course → ℕ → ℕ → Moment
+moment_of_point C t p = if nat_lt p (length (rows_of C t)) then before (row_of t p) else at_end
 
-abbrev pub registers_at : Course → History → ℕ → ℕ → (ℕ → ℕ)
-registers_at C h t p = (h.world (tick C h (moment_of C t p))).register t
+abbrev pub thread_registers : Course → History → ℕ → ℕ → (ℕ → ℕ)
+thread_registers C h t p = (h.world (tick C h (moment_of_point C t p))).register t
 
 abbrev pub memory_at : Course → History → Moment → (ℕ → ℕ)
 memory_at C h m = (h.world (tick C h m)).memory

@@ -23,39 +23,39 @@ pub record Reach : Type 0 where
   pub sure : Row → Bool
 
 -- a byte at a moment
-pub record Spot : Type 0 where
+pub record CourseSpot : Type 0 where
   pub moment : Moment
   pub address : ℕ
 
 -- it may write the byte, and the order doesn't put it after the moment
-pub record IsCandidate (C : Course) (can : Reach) (x : Spot) (act : Act) : Type 0 where
+pub record IsCourseCandidate (C : Course) (can : Reach) (x : CourseSpot) (act : Act) : Type 0 where
   pub is : IsAct C act
   pub may : may_by can.may act x.address ≡ true
   pub not_after : WhollyAfter C act x.moment → ⊥
 
 -- the order puts all others before the row
-pub record ComesLast (C : Course) (can : Reach) (x : Spot) (r : Row) : Type 0 where
-  pub candidate : IsCandidate C can x (row r)
-  pub others : (act : Act) → IsCandidate C can x act → act ≢ row r → WhollyBefore C act (before r)
+pub record ComesLast (C : Course) (can : Reach) (x : CourseSpot) (r : Row) : Type 0 where
+  pub candidate : IsCourseCandidate C can x (row r)
+  pub others : (act : Act) → IsCourseCandidate C can x act → act ≢ row r → WhollyBefore C act (before r)
 
 -- it surely writes the byte, and before the moment
-pub record IsSureBefore (C : Course) (can : Reach) (x : Spot) (r : Row) : Type 0 where
+pub record IsSureBefore (C : Course) (can : Reach) (x : CourseSpot) (r : Row) : Type 0 where
   pub sure : can.sure r ≡ true
   pub before : WhollyBefore C (row r) x.moment
 
 -- at most one of the four fits
-abbrev pub IsWriter : Course → Reach → Spot → Writer → Type 0
-IsWriter C can x (writes r) = ComesLast C can x r × IsSureBefore C can x r
-IsWriter C can x (may_write r) = ComesLast C can x r × (IsSureBefore C can x r → ⊥)
-IsWriter C can x several = ((act : Act) × IsCandidate C can x act) × ((r : Row) → ComesLast C can x r → ⊥)
-IsWriter C can x none = (act : Act) → IsCandidate C can x act → ⊥
+abbrev pub IsCourseWriter : Course → Reach → CourseSpot → Writer → Type 0
+IsCourseWriter C can x (writes r) = ComesLast C can x r × IsSureBefore C can x r
+IsCourseWriter C can x (may_write r) = ComesLast C can x r × (IsSureBefore C can x r → ⊥)
+IsCourseWriter C can x several = ((act : Act) × IsCourseCandidate C can x act) × ((r : Row) → ComesLast C can x r → ⊥)
+IsCourseWriter C can x none = (act : Act) → IsCourseCandidate C can x act → ⊥
 
 -- from this tick on no other act than those that are left out writes the byte before the moment
-pub record NoneWrites (C : Course) (D : Ending) (h : History) (x : Spot) (from : ℕ) (left_out : Act → Type 0) : Type 0 where
+pub record NoneWrites (C : Course) (D : Ending) (h : History) (x : CourseSpot) (from : ℕ) (left_out : Act → Type 0) : Type 0 where
   pub none : (act : Act) (k : ℕ) → (left_out act → ⊥) → from ≤ k → k < tick C h x.moment → k < h.ticks → By (h.happening k) act → ActWrites C D h act x.address → ⊥
 
 -- what the answer says of an execution
-abbrev pub WriterHoldsInHistory : Course → Ending → History → Spot → Writer → Type 0
+abbrev pub WriterHoldsInHistory : Course → Ending → History → CourseSpot → Writer → Type 0
 WriterHoldsInHistory C D h x (writes r) = RowWrites C D h r x.address × (tick C h (after r) ≤ tick C h x.moment) × NoneWrites C D h x (tick C h (before r)) (λ act. act ≡ row r)
 WriterHoldsInHistory C D h x (may_write r) = NoneWrites C D h x (tick C h (before r)) (λ act. act ≡ row r)
 WriterHoldsInHistory C D h x several = Unit {0}

@@ -2,7 +2,7 @@
 
 ghost use Rattle.std.specs.Prelude.{◌≡◌, ◌↔◌, ℕ, IsTrue};
 ghost use Rattle.rept_steps.specs.Runs.{course_of};
-ghost use Rattle.rept_steps.specs.Course.{calls, row_of, slices_of, slice_of, TakeRows, IsSound};
+ghost use Rattle.rept_steps.specs.Course.{calls, row_of, slices_of, slice_of, TakeRows, IsSoundCourse};
 ghost use Rattle.rept_order.specs.Events.{event_slice};
 ghost use Rattle.rept_order.specs.Times.{begin_of, ends_by, is_entry, is_return, own_before, sooner, same_part, sooner_or_same, not_later, dark_before, wholly_before, wholly_after, is_row, has_room, same_moment, is_earlier, falls_between};
 ghost use Rattle.rept_order.specs.Moments.{IsMoment, Earlier, IsAct, stretch, Falls};
@@ -44,7 +44,7 @@ impl<'a> Order<'a> {
 
     /// The slices of a thread.
     fn slices(&self, thread: u32) -> &[Slice]
-        requires { IsSound (course_in self.now) }
+        requires { IsSoundCourse (course_in self.now) }
         ensures list { result.now ≡ slices_of (course_in self.now) thread }
         ensures taken { (n : ℕ) × TakeRows 0 result.now n }
     {
@@ -56,7 +56,7 @@ impl<'a> Order<'a> {
 
     /// The slice in which the event happens.
     pub fn slice(&self, edge: Edge) -> Option<Slice>
-        requires { IsSound (course_in self.now) }
+        requires { IsSoundCourse (course_in self.now) }
         ensures { result ≡ event_slice (course_in self.now) (edge_event (course_in self.now) edge) }
     {
         let slices = self.slices(edge.thread);
@@ -69,7 +69,7 @@ impl<'a> Order<'a> {
 
     /// The slice that the row is in.
     fn slice_of_row(&self, edge: Edge) -> Option<Slice>
-        requires { IsSound (course_in self.now) }
+        requires { IsSoundCourse (course_in self.now) }
         ensures { result ≡ slice_of (slices_of (course_in self.now) edge.thread) edge.step }
     {
         slice_holding(self.slices(edge.thread), edge.step)
@@ -77,7 +77,7 @@ impl<'a> Order<'a> {
 
     /// The time before which the event doesn't happen.
     pub fn begin(&self, edge: Edge) -> u64
-        requires { IsSound (course_in self.now) }
+        requires { IsSoundCourse (course_in self.now) }
         ensures { result ≡ begin_of (course_in self.now) (edge_event (course_in self.now) edge) }
     {
         match self.slice(edge) {
@@ -91,7 +91,7 @@ impl<'a> Order<'a> {
 
     /// Whether the event's slice ends before the time.
     fn ends_before(&self, edge: Edge, time: u64) -> bool
-        requires { IsSound (course_in self.now) }
+        requires { IsSoundCourse (course_in self.now) }
         ensures { result ≡ ends_by (event_slice (course_in self.now) (edge_event (course_in self.now) edge)) time }
     {
         match self.slice(edge) {
@@ -127,7 +127,7 @@ impl<'a> Order<'a> {
 
     /// Whether the order puts the one event before the other.
     fn precedes(&self, e: Edge, f: Edge) -> bool
-        requires { IsSound (course_in self.now) }
+        requires { IsSoundCourse (course_in self.now) }
         ensures { result ≡ sooner (course_in self.now) (edge_event (course_in self.now) e) (edge_event (course_in self.now) f) }
     {
         let own = self.is_own_before(e, f);
@@ -155,7 +155,7 @@ impl<'a> Order<'a> {
 
     /// Whether it is the same event, or before.
     fn precedes_or_is(&self, e: Edge, f: Edge) -> bool
-        requires { IsSound (course_in self.now) }
+        requires { IsSoundCourse (course_in self.now) }
         ensures { result ≡ sooner_or_same (course_in self.now) (edge_event (course_in self.now) e) (edge_event (course_in self.now) f) }
     {
         let part = self.is_same_part(e, f);
@@ -165,7 +165,7 @@ impl<'a> Order<'a> {
 
     /// Whether the order puts the one moment no later than the other.
     pub fn is_not_later(&self, m: Moment, w: Moment) -> bool
-        requires { IsSound (course_in self.now) }
+        requires { IsSoundCourse (course_in self.now) }
         ensures { result ≡ not_later (course_in self.now) (moment_named m) (moment_named w) }
     {
         match w {
@@ -191,7 +191,7 @@ impl<'a> Order<'a> {
 
     /// The same of the moment before a row or after it.
     fn is_not_later_than(&self, m: Moment, edge: Edge) -> bool
-        requires { IsSound (course_in self.now) }
+        requires { IsSoundCourse (course_in self.now) }
         ensures { result ≡ not_later (course_in self.now) (moment_named m) (moment_beside edge) }
     {
         match m {
@@ -225,7 +225,7 @@ impl<'a> Order<'a> {
 
     /// Whether the order puts all that the dark writes before the moment.
     pub fn is_dark_before(&self, m: Moment) -> bool
-        requires { IsSound (course_in self.now) }
+        requires { IsSoundCourse (course_in self.now) }
         ensures { result ≡ dark_before (course_in self.now) (moment_named m) }
     {
         let edge = match m {
@@ -250,7 +250,7 @@ impl<'a> Order<'a> {
 
     /// Whether the order puts the whole act before the moment.
     pub fn is_wholly_before(&self, act: Act, m: Moment) -> bool
-        requires { IsSound (course_in self.now) }
+        requires { IsSoundCourse (course_in self.now) }
         ensures { result ≡ wholly_before (course_in self.now) (act_named act) (moment_named m) }
     {
         match act {
@@ -261,7 +261,7 @@ impl<'a> Order<'a> {
 
     /// Whether the order puts the whole act after the moment.
     pub fn is_wholly_after(&self, act: Act, w: Moment) -> bool
-        requires { IsSound (course_in self.now) }
+        requires { IsSoundCourse (course_in self.now) }
         ensures { result ≡ wholly_after (course_in self.now) (act_named act) (moment_named w) }
     {
         match act {
@@ -272,7 +272,7 @@ impl<'a> Order<'a> {
 
     /// Whether the moment is earlier than the other one. The run must be sound, and have the rows of both moments.
     pub fn earlier(&self, m: Moment, w: Moment) -> bool
-        requires sound { IsSound (course_in self.now) }
+        requires sound { IsSoundCourse (course_in self.now) }
         requires first { IsMoment (course_in self.now) (moment_named m) }
         requires second { IsMoment (course_in self.now) (moment_named w) }
         ensures { IsTrue result ↔ Earlier (course_in self.now) (moment_named m) (moment_named w) }
@@ -282,7 +282,7 @@ impl<'a> Order<'a> {
 
     /// As `earlier`, of any moments.
     fn is_earlier(&self, m: Moment, w: Moment) -> bool
-        requires { IsSound (course_in self.now) }
+        requires { IsSoundCourse (course_in self.now) }
         ensures { result ≡ is_earlier (course_in self.now) (moment_named m) (moment_named w) }
     {
         let order = self.is_not_later(m, w);
@@ -293,7 +293,7 @@ impl<'a> Order<'a> {
     /// Whether the act falls between the two moments, if only in part. The run must be sound, have the rows of both moments and of the
     /// Act, and a time of the dark if the dark is asked for.
     pub fn falls(&self, act: Act, m: Moment, w: Moment) -> bool
-        requires sound { IsSound (course_in self.now) }
+        requires sound { IsSoundCourse (course_in self.now) }
         requires act { IsAct (course_in self.now) (act_named act) }
         requires first { IsMoment (course_in self.now) (moment_named m) }
         requires second { IsMoment (course_in self.now) (moment_named w) }
@@ -304,7 +304,7 @@ impl<'a> Order<'a> {
 
     /// As `falls`, of any moments and acts.
     fn falls_between(&self, act: Act, m: Moment, w: Moment) -> bool
-        requires { IsSound (course_in self.now) }
+        requires { IsSoundCourse (course_in self.now) }
         ensures { result ≡ falls_between (course_in self.now) (act_named act) (moment_named m) (moment_named w) }
     {
         let before = self.is_wholly_before(act, m);

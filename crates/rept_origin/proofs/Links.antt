@@ -2,17 +2,17 @@
 use Rattle.std.proofs.Common.{◌≡◌, ℕ, zero, suc, ◌+◌, ◌<◌, ◌≤◌, ◌⊎◌, Bool, true, false, ◌||◌, nat_lt, inl, inr, Option, Some, None, IsSome, refl, sym, subst, ◌∙◌, arith}
 use Rattle.std.proofs.lemmas.Bool.{cases_eq, cases_lt, lt-ltb, ltb-true, or_cases, true≢false}
 use Rattle.rept_nearest.specs.declared.found.Found.{Found}
-use Rattle.rept_nearest.specs.Nets.{Links, IsWithin, IsNearest}
-use Rattle.rept_nearest.specs.Nets.IsWithin.{here, onward}
+use Rattle.rept_nearest.specs.Nets.{Links, IsWithinLinks, IsNearest}
+use Rattle.rept_nearest.specs.Nets.IsWithinLinks.{here, onward}
 use Rattle.rept_report.proofs.Told.{none_some}
 use Rattle.rept_report.specs.Timeline.{Timeline, IsTimeline}
 use Rattle.rept_origin.specs.declared.step.Way.{Way}
 use Rattle.rept_origin.specs.declared.step.Way.TheVariants.{Onward, Back}
-use Rattle.rept_origin.specs.Bridges.{ByteAlong, carries_over, carries_by, links_over, linked_inside, is_nearer, IsBeside, IsLeastFrom, IsNearerAmong}
+use Rattle.rept_origin.specs.Bridges.{ByteAlong, carries_over, carries_by, links_over, linked_inside, is_nearer, IsLinkBeside, IsLeastFrom, IsNearerAmong}
 
 module _ (L : Links) where
   -- one link before
-  pub within_before : (n w : ℕ) → L.linked n w ≡ true → (k m : ℕ) → IsWithin L w k m → IsWithin L n (suc k) m
+  pub within_before : (n w : ℕ) → L.linked n w ≡ true → (k m : ℕ) → IsWithinLinks L w k m → IsWithinLinks L n (suc k) m
   within_before n w link _ _ (here k) = onward k n w (here k) link
   within_before n w link _ _ (onward k m x h e) = onward (suc k) m x (within_before n w link k m h) e
 
@@ -20,14 +20,14 @@ module _ (L : Links) where
   pub record IsFirstStep (n k m : ℕ) : Type 0 where
     pub beside : ℕ
     pub linked : L.linked n beside ≡ true
-    pub within : IsWithin L beside k m
+    pub within : IsWithinLinks L beside k m
 
   -- the first of several links, or one less is enough
-  pub first_step : (n j m : ℕ) → IsWithin L n j m → (k : ℕ) → j ≡ suc k → IsWithin L n k m ⊎ IsFirstStep n k m
+  pub first_step : (n j m : ℕ) → IsWithinLinks L n j m → (k : ℕ) → j ≡ suc k → IsWithinLinks L n k m ⊎ IsFirstStep n k m
   first_step n _ _ (here j) k e = inl (here k)
   first_step n _ _ (onward j m w h link) zero e = inr (record { beside = w; linked = subst (λ (x : ℕ). L.linked x w ≡ true) (at_start j m h (omega (arith, e))) link; within = here zero })
     where
-      at_start : (i x : ℕ) → IsWithin L n i x → i ≡ zero → x ≡ n
+      at_start : (i x : ℕ) → IsWithinLinks L n i x → i ≡ zero → x ≡ n
       at_start _ _ (here i) same = refl
       at_start _ _ (onward i x y h link) same = absurd (omega (arith, same))
   first_step n _ _ (onward j m w h link) (suc k) e = elim (first_step n j m h k (omega (arith, e))) [
@@ -63,11 +63,11 @@ module _ (L : Links) where
 
   module _ (number : ℕ) (found : Found) (nearest : IsNearest L number (Some found)) (far : 0 < found.links) where
     -- one with a value isn't fewer links away
-    not_less : (k m v : ℕ) → k < found.links → IsWithin L number k m → L.value m ≡ Some v → ⊥
+    not_less : (k m v : ℕ) → k < found.links → IsWithinLinks L number k m → L.value m ≡ Some v → ⊥
     not_less k m v less h e = none_some (sym (nearest.2 k m less h) ∙ e)
 
     -- where fewer links lead to one from beside, it is one less
-    pub is_beside : (w : ℕ) (there : Option Found) → L.linked number w ≡ true → IsNearest L w there → is_nearer there found.links ≡ true → IsBeside L number found.links w
+    pub is_beside : (w : ℕ) (there : Option Found) → L.linked number w ≡ true → IsNearest L w there → is_nearer there found.links ≡ true → IsLinkBeside L number found.links w
     is_beside w None link near fewer = absurd (true≢false (sym fewer))
     is_beside w (Some there) link near fewer = record { linked = link; found = there; nearest = near; nearer = exactly }
       where
@@ -81,7 +81,7 @@ module _ (L : Links) where
         ]
 
     -- one of them is
-    some_nearer : (w k v : ℕ) (there : Option Found) → IsNearest L w there → IsWithin L w k found.number → L.value found.number ≡ Some v → k < found.links → is_nearer there found.links ≡ false → ⊥
+    some_nearer : (w k v : ℕ) (there : Option Found) → IsNearest L w there → IsWithinLinks L w k found.number → L.value found.number ≡ Some v → k < found.links → is_nearer there found.links ≡ false → ⊥
     some_nearer w k v None near within value less out = none_some (sym (near k found.number within) ∙ value)
     some_nearer w k v (Some there) near within value less out = elim (cases_lt k there.links) [
       | inl short ↦ none_some (sym (near.2 k found.number short within) ∙ value)
@@ -116,7 +116,7 @@ module _ (t : Timeline) (b : ByteAlong) (m : ℕ) (found : Found) (near : IsNear
   abbrev by : Way → ℕ → Bool
   by way w = carries_by t b m (record { from = w; way = way })
 
-  pub step_is_beside : (way : Way) (from : ℕ) → IsNearerAmong (by way) (links_over t b) found.links (Some from) → IsBeside (links_over t b) m found.links from
+  pub step_is_beside : (way : Way) (from : ℕ) → IsNearerAmong (by way) (links_over t b) found.links (Some from) → IsLinkBeside (links_over t b) m found.links from
   step_is_beside way from (holds, (there, at, fewer)) = is_beside (links_over t b) m found near far from there (way_linked t b m way from holds) at fewer
 
   -- where none is nearer from which the byte is carried back, one is from which it is carried on

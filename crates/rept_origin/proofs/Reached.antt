@@ -2,8 +2,8 @@
 use Rattle.std.proofs.Common.{◌≡◌, ℕ, zero, suc, ◌+◌, ◌<◌, ◌≤◌, Bool, true, false, ◌||◌, cond, eqb, inl, inr, List, Option, Some, None, refl, sym, subst, ◌∙◌, arith}
 use Rattle.std.proofs.lemmas.Bool.{cases_eq, cases_lt, cond-true, cond-false, eq-eqb, ne_eqb}
 use Rattle.rept_nearest.specs.declared.found.Found.{Found}
-use Rattle.rept_nearest.specs.Nets.{Links, IsWithin, IsNearest}
-use Rattle.rept_nearest.specs.Nets.IsWithin.{here, onward}
+use Rattle.rept_nearest.specs.Nets.{Links, IsWithinLinks, IsNearest}
+use Rattle.rept_nearest.specs.Nets.IsWithinLinks.{here, onward}
 use Rattle.rept_reason.specs.declared.fact.Fact.{Fact}
 use Rattle.rept_reason.specs.declared.fact.Cell.TheVariants.{Byte}
 use Rattle.rept_reason.specs.Facts.{told}
@@ -15,7 +15,7 @@ use Rattle.rept_report.specs.Why.{IsNearer}
 use Rattle.rept_report.proofs.Search.{source, carries}
 use Rattle.rept_report.proofs.Told.{none_some}
 use Rattle.rept_report.proofs.Why.{or_some, is_carried, links_is}
-use Rattle.rept_origin.specs.Bridges.{IsBeside}
+use Rattle.rept_origin.specs.Bridges.{IsLinkBeside}
 use Rattle.rept_origin.specs.Logs.{links_in}
 use Rattle.rept_origin.proofs.Links.{within_before}
 
@@ -48,7 +48,7 @@ module _ {W : Type 0} (S : Setting W) (laws : HasLaws S) (fs : List Fact) (a : �
       go None is = (v, rw is (cond-true (eqb m S.moments.end) (S.dump a) None (eq-eqb m S.moments.end at) ∙ e))
 
   -- what so many links lead to is reached with no more uses beside its own
-  within_reached : (m k n : ℕ) → IsWithin L m k n → (j : ℕ) → IsReached S fs a j n → (i : ℕ) × (i ≤ k + j) × IsReached S fs a i m
+  within_reached : (m k n : ℕ) → IsWithinLinks L m k n → (j : ℕ) → IsReached S fs a j n → (i : ℕ) × (i ≤ k + j) × IsReached S fs a i m
   within_reached m _ _ (here k) j x = (j, omega arith, x)
   within_reached m _ _ (onward k n w h link) j x =
       let nearer : IsReached S fs a (suc j) n = elim (links_is S laws (told fs) a w n link) [ inl c ↦ reached_onward j w n c x | inr c ↦ reached_back j n w c x ] in
@@ -60,7 +60,7 @@ module _ {W : Type 0} (S : Setting W) (laws : HasLaws S) (fs : List Fact) (a : �
   pub record IsFrom (m k : ℕ) : Type 0 where
     pub number : ℕ
     pub value : ℕ
-    pub within : IsWithin L m k number
+    pub within : IsWithinLinks L m k number
     pub has : source S fs a number ≡ Some value
 
   reached_within : (k m : ℕ) → IsReached S fs a k m → IsFrom m k
@@ -90,7 +90,7 @@ module _ {W : Type 0} (S : Setting W) (laws : HasLaws S) (fs : List Fact) (a : �
   never m none k x = let from = reached_within k m x in none_some (sym (none k from.number from.within) ∙ from.has)
 
   -- a moment beside it that is one link nearer needs fewer uses
-  pub beside_is_nearer : (m w : ℕ) (found : Found) → IsNearest L m (Some found) → IsBeside L m found.links w → IsNearer S fs a w m
+  pub beside_is_nearer : (m w : ℕ) (found : Found) → IsNearest L m (Some found) → IsLinkBeside L m found.links w → IsNearer S fs a w m
   beside_is_nearer m w found near beside = record {
     uses = beside.found.links;
     here = as_soon w beside.found beside.nearest;

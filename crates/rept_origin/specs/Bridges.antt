@@ -43,7 +43,7 @@ IsLeastFrom f least None = (n : ℕ) → least ≤ n → f n ≡ false
 IsLeastFrom f least (Some m) = (f m ≡ true) × (least ≤ m) × ((n : ℕ) → least ≤ n → n < m → f n ≡ false)
 
 -- a number beside this one, from which one link less leads to a value
-pub record IsBeside (L : Links) (number links w : ℕ) : Type 0 where
+pub record IsLinkBeside (L : Links) (number links w : ℕ) : Type 0 where
   pub linked : L.linked number w ≡ true
   pub found : Found
   pub nearest : IsNearest L w (Some found)

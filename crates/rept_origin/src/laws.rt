@@ -7,7 +7,7 @@ ghost use Rattle.rept_reason.specs.declared.fact.Fact.{Fact};
 ghost use Rattle.rept_report.specs.Setting.{Setting, HasLaws};
 ghost use Rattle.rept_report.specs.Reasons.{IsReached};
 ghost use Rattle.rept_report.specs.Why.{IsNearer};
-ghost use Rattle.rept_origin.specs.Bridges.{IsBeside};
+ghost use Rattle.rept_origin.specs.Bridges.{IsLinkBeside};
 ghost use Rattle.rept_origin.specs.Logs.{links_in, IsReachedFirst};
 
 use rept_span::Transfer;
@@ -17,5 +17,5 @@ use rept_span::Transfer;
 pub fn steps_are_uses<W: Transfer>()
     ensures nearest { (S : Setting W) (fs : List Fact) (a m : ℕ) (found : Found) → HasLaws S → IsNearest (links_in S fs a) m (Some found) → IsReachedFirst S fs a found.links m }
     ensures none { (S : Setting W) (fs : List Fact) (a m k : ℕ) → HasLaws S → IsNearest (links_in S fs a) m None → IsReached S fs a k m → ⊥ }
-    ensures nearer { (S : Setting W) (fs : List Fact) (a m w : ℕ) (found : Found) → HasLaws S → IsNearest (links_in S fs a) m (Some found) → IsBeside (links_in S fs a) m found.links w → IsNearer S fs a w m }
+    ensures nearer { (S : Setting W) (fs : List Fact) (a m w : ℕ) (found : Found) → HasLaws S → IsNearest (links_in S fs a) m (Some found) → IsLinkBeside (links_in S fs a) m found.links w → IsNearer S fs a w m }
 {}

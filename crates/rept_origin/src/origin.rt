@@ -2,7 +2,7 @@
 
 ghost use Rattle.std.specs.Prelude.{◌≡◌, ◌<◌, ◌≤◌, true, Some, IfOk};
 ghost use Rattle.rept_nearest.specs.Nets.{IsNearest};
-ghost use Rattle.rept_origin.specs.Bridges.{links_over, carries_by, is_nearer, IsBeside, IsNearerAmong};
+ghost use Rattle.rept_origin.specs.Bridges.{links_over, carries_by, is_nearer, IsLinkBeside, IsNearerAmong};
 
 use crate::bridges::Bridges;
 use crate::sources::Sources;
@@ -76,7 +76,7 @@ pub fn nearer<P: Paths, S: Sources>(
     requires nearest { IsNearest (links_over (P.timeline paths.now) (S.byte sources.now)) number (Some found) }
     requires far { 0 < found.links }
     ensures carries { IfOk result (λ step. carries_by (P.timeline paths.now) (S.byte sources.now) number step ≡ true) }
-    ensures nearer { IfOk result (λ step. IsBeside (links_over (P.timeline paths.now) (S.byte sources.now)) number found.links step.from) }
+    ensures nearer { IfOk result (λ step. IsLinkBeside (links_over (P.timeline paths.now) (S.byte sources.now)) number found.links step.from) }
 {
     let bridges = Bridges { paths, sources };
     let later = nearer_by(alloc, &bridges, number, found.links, Way::Back)?;

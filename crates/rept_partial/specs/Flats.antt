@@ -6,6 +6,11 @@ use Rattle.rept_partial.specs.declared.flat.Flat.TheVariants.{Unknown, Known}
 use Rattle.rept_partial.specs.Sets.{Sets, AreLawful, IsWithin}
 use Rattle.rept_partial.specs.Ranges.{word}
 
+-- a value that is there is known
+abbrev pub flat : Option ℕ → Flat
+flat None = Unknown
+flat (Some v) = Known v
+
 abbrev pub flat_has : Flat → ℕ → Bool
 flat_has Unknown v = nat_lt v 4294967296
 flat_has (Known w) v = v == word w

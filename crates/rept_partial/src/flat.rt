@@ -1,5 +1,8 @@
 //! One known value, or nothing known.
 
+ghost use Rattle.std.specs.Prelude.{◌≡◌};
+ghost use Rattle.rept_partial.specs.Flats.{flat};
+
 use crate::partial::Partial;
 
 /// One known value, or nothing known.
@@ -9,6 +12,18 @@ pub enum Flat {
     Unknown,
     /// This word alone.
     Known(u32),
+}
+
+impl Flat {
+    /// What is known where this value is, if one is: that one value, and nothing where none is.
+    pub fn of(value: Option<u32>) -> Flat
+        ensures { result ≡ flat value }
+    {
+        match value {
+            None => Flat::Unknown,
+            Some(v) => Flat::Known(v),
+        }
+    }
 }
 
 impl Partial for Flat {

@@ -19,11 +19,11 @@ use Rattle.rept_path.specs.declared.fault.PathFault.TheVariants as faults
 use Rattle.rept_path.specs.Code.{look, is_short}
 use Rattle.rept_path.specs.Packets.{waiting}
 use Rattle.rept_path.specs.Gap.{gap_to_start, gap_to_end}
-use Rattle.rept_path.specs.Moves.{Lead, Place, Stand, along, next_of, IsMove, stops, misfits, unused, position, ◌>>=◌, heading_by}
-use Rattle.rept_path.specs.Legs.{Passes, Reaches, PhaseLeg, PhaseFault}
+use Rattle.rept_path.specs.Moves.{Lead, Place, Stand, place_along, next_of, IsMove, stops, misfits, unused, position, ◌>>=◌, heading_by}
+use Rattle.rept_path.specs.Legs.{LegPasses, Reaches, PhaseLeg, PhaseFault}
 use Rattle.rept_path.specs.Route.{Phase, PhaseLegs, PhasesFault, lead_of, further, with_bits, phases_of, admits, Met, met_by, stand_of, RunningLeg, RunningFault, WaitingLeg, WaitingFault, FirstLeg, FirstFault, Leg, Fault, Origin, alone, Route}
-use Rattle.rept_path.specs.Trace.{starts, loses, IsWindow, stand_after, IsPath, StopsAt, IsRefused}
-use Rattle.rept_path.specs.Traced.{code_over, pc_of, IsTraced, IsRefusedBy, raw_of}
+use Rattle.rept_path.specs.Trace.{starts, loses, IsWindow, stand_after, IsPath, StopsAt, HasNoPathOfPackets}
+use Rattle.rept_path.specs.Traced.{code_over, pc_of, IsTracedPath, IsRefusedBy, raw_of}
 use Rattle.rept_path.proofs.MoveLemmas.{made, few_before}
 use Rattle.rept_path.proofs.Whole.{get_drop}
 use Rattle.rept_path.proofs.Windows.{starts_within, lost, found, still, still_none, passed}
@@ -45,33 +45,33 @@ position_of code a = go (look code a) where
 
 module _ (code : Code) (lead : Lead) (aim : Aim) (past : Place) where
   abbrev Ends : Type 0
-  Ends = ((leg : List StepRow) × Reaches code (heading_by lead aim) past leg) ⊎ ((e : PathFault) × (leg : List StepRow) × Passes code (heading_by lead aim) past leg × (next_of code lead (along code past leg) ≡ Err e))
+  Ends = ((leg : List StepRow) × Reaches code (heading_by lead aim) past leg) ⊎ ((e : PathFault) × (leg : List StepRow) × LegPasses code (heading_by lead aim) past leg × (next_of code lead (place_along code past leg) ≡ Err e))
 
   -- what a move gives
   row_of : (p : Place) (a : ℕ) → next_of code lead p ≡ Ok a → (row : StepRow) × IsMove code lead p row
   row_of p a h = let m = made code lead p a h in (record { at = p.at; instr = m.0; next = a; call = false; short = is_short code p.at }, record { next = h; at = refl; instr = m.1; call = refl; short = refl })
 
   -- a leg without a stop ends after one row more, or goes on
-  moves : (leg : List StepRow) → Passes code (heading_by lead aim) past leg → ((row : StepRow) → length (along code past leg).rows < lead.room → Passes code (heading_by lead aim) past (row ∷ leg) → Ends) → Ends
-  moves leg x more = elim (result_of (next_of code lead (along code past leg))) [
+  moves : (leg : List StepRow) → LegPasses code (heading_by lead aim) past leg → ((row : StepRow) → length (place_along code past leg).rows < lead.room → LegPasses code (heading_by lead aim) past (row ∷ leg) → Ends) → Ends
+  moves leg x more = elim (result_of (next_of code lead (place_along code past leg))) [
     | inr f ↦ inr (f.0, leg, x, f.1)
     | inl a ↦
-        let r = row_of (along code past leg) a.0 a.1 in
-        elim (bool_of (stops code lead.bits aim (along code past (r.0 ∷ leg)))) [
+        let r = row_of (place_along code past leg) a.0 a.1 in
+        elim (bool_of (stops code lead.bits aim (place_along code past (r.0 ∷ leg)))) [
           | inl s ↦ inl (r.0 ∷ leg, (x, r.1, s))
-          | inr s ↦ more r.0 (few_before code lead (along code past leg) a.0 a.1) (x, r.1, s)
+          | inr s ↦ more r.0 (few_before code lead (place_along code past leg) a.0 a.1) (x, r.1, s)
         ]
   ]
 
   -- so many rows more are the limit
-  go : (room : ℕ) (leg : List StepRow) → Passes code (heading_by lead aim) past leg → lead.room ≤ room + length (along code past leg).rows → Ends
+  go : (room : ℕ) (leg : List StepRow) → LegPasses code (heading_by lead aim) past leg → lead.room ≤ room + length (place_along code past leg).rows → Ends
   go zero leg x full = moves leg x (λ row few y. absurd (omega arith))
   go (suc room) leg x full = moves leg x (λ row few y. go room (row ∷ leg) y (omega arith))
 
   one_phase : ((leg : List StepRow) × PhaseLeg code (heading_by lead aim) past leg) ⊎ ((e : PathFault) × PhaseFault code (heading_by lead aim) past e)
   one_phase = elim (go lead.room [] tt (omega arith)) [
-    | inl r ↦ elim (bool_of (misfits code lead.bits aim (along code past r.0))) [
-      | inl m ↦ inr (BranchesLeft lead.packet (unused lead.bits (along code past r.0)), inr (record { leg = r.0; reaches = r.1; left = m; fault = refl }))
+    | inl r ↦ elim (bool_of (misfits code lead.bits aim (place_along code past r.0))) [
+      | inl m ↦ inr (BranchesLeft lead.packet (unused lead.bits (place_along code past r.0)), inr (record { leg = r.0; reaches = r.1; left = m; fault = refl }))
       | inr m ↦ inl (r.0, record { reaches = r.1; fits = m })
     ]
     | inr b ↦ inr (b.0, inl (record { leg = b.1; passes = b.2; blocked = b.3 }))
@@ -168,7 +168,7 @@ module _ (from : ℕ) where
 
 module _ (code : Code) (packets : List Packet) (from pc : ℕ) where
   abbrev IsDecided : Type 0
-  IsDecided = ((skipped : ℕ) × (rows : List StepRow) × IsPath (record { code = code; packets = packets; from = from; pc = pc }) skipped rows) ⊎ ((e : PathFault) × IsRefused (record { code = code; packets = packets; from = from; pc = pc }) e)
+  IsDecided = ((skipped : ℕ) × (rows : List StepRow) × IsPath (record { code = code; packets = packets; from = from; pc = pc }) skipped rows) ⊎ ((e : PathFault) × HasNoPathOfPackets (record { code = code; packets = packets; from = from; pc = pc }) e)
 
   in_window : (begin : Option ℕ) → IsWindow packets from begin → IsDecided
   in_window None w = inr (NoStart (length packets), inl (w, refl))
@@ -190,7 +190,7 @@ module _ (code : Code) (packets : List Packet) (from pc : ℕ) where
 abbrev pub IsWhole : Packets → Type 0
 IsWhole packets = ((list : List Packet) × Hold (rest_of packets) list) ⊎ ((list : List Packet) × (refused : TraceFault) × FailsAfter (number_of packets) (rest_of packets) list refused)
 
-pub decided : (packets : Packets) (dump : Dump) (from : ℕ) → IsWhole packets → ((skipped : ℕ) × (rows : List StepRow) × IsTraced (raw_of packets dump from) skipped rows) ⊎ ((fault : PathFault) × IsRefusedBy packets dump from fault)
+pub decided : (packets : Packets) (dump : Dump) (from : ℕ) → IsWhole packets → ((skipped : ℕ) × (rows : List StepRow) × IsTracedPath (raw_of packets dump from) skipped rows) ⊎ ((fault : PathFault) × IsRefusedBy packets dump from fault)
 decided packets dump from whole = elim whole [
   | inl h ↦ elim (is_decided (code_over packets dump) h.0 from (pc_of dump)) [
     | inl p ↦ inl (p.0, p.1, (h.0, h.1, p.2))

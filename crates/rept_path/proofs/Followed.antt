@@ -17,13 +17,13 @@ use Rattle.rept_path.specs.Gap.{gap_to_start}
 use Rattle.rept_path.specs.Legs.{PhaseFault}
 use Rattle.rept_path.specs.declared.walk.Walk.{Walk}
 use Rattle.rept_path.specs.Packets.{bits_of, bits_before, reported_after, waits_after}
-use Rattle.rept_path.specs.Moves.{Place, along, position, ◌>>=◌, heading_by}
+use Rattle.rept_path.specs.Moves.{Place, place_along, position, ◌>>=◌, heading_by}
 use Rattle.rept_path.specs.Route.{phases_of, first_phase, PhaseLegs, Met, WaitingFault, RunningFault, mark_after, place_after, admits, meets}
-use Rattle.rept_path.specs.State.{here, standing, arrival, met, Counts, lead, Walked, WalkedAll, Followed, from_to}
+use Rattle.rept_path.specs.State.{here, standing, arrival, met, Counts, lead, WalkedPhase, WalkedAll, Followed, from_to}
 use Rattle.rept_path.proofs.Waiting.{LegIn, FaultIn}
 
 -- a phase alone
-pub alone : (code : Code) (k : ℕ) (target : Option ℕ) (aim : Aim) (old new : Walk) → Walked code (heading_by (lead old k target) aim) old new → WalkedAll code (record { target = target; aim = aim } ∷ []) (from_to k old new)
+pub alone : (code : Code) (k : ℕ) (target : Option ℕ) (aim : Aim) (old new : Walk) → WalkedPhase code (heading_by (lead old k target) aim) old new → WalkedAll code (record { target = target; aim = aim } ∷ []) (from_to k old new)
 alone code k target aim old new w = record { leg = w.leg; goes = (w.leg, [], refl, w.goes, refl); seen = w.seen; counts = w.counts; kept = w.kept; grows = w.grows }
 
 -- Nothing is done at a packet that says nothing of the path.
@@ -37,12 +37,12 @@ stays code k privilege time context w counts rests = record { leg = []; goes = g
 -- The packet's bits were added, and its phases were walked.
 pub walked : (code : Code) (k : ℕ) (packet : Packet) (old mid last new : Walk) → old.waiting ≡ false → ((a : ℕ) × (admits code packet ≡ Ok a)) → here mid ≡ here old → mid.bits.items ≡ old.bits.items ++ bits_of code packet → mid.reported ≡ reported_after packet old.reported → mid.waiting ≡ old.waiting → mid.room ≡ old.room
     → WalkedAll code (phases_of packet old.inferred old.reported) (from_to k mid last) → here new ≡ here last → new.bits.items ≡ last.bits.items → new.reported ≡ last.reported → new.waiting ≡ last.waiting → new.room ≡ last.room → Counts new
-    → new.inferred ≡ mark_after code packet old.inferred (arrival new) → length new.bits.items ≤ new.used + 1 → waits_after packet false ≡ false → ((b : Bool) → bits_before packet false old.bits.items ≡ old.bits.items) → ((leg : List StepRow) → place_after code packet (meets false (here old)) leg ≡ along code (here old) leg) → Followed code packet (from_to k old new)
+    → new.inferred ≡ mark_after code packet old.inferred (arrival new) → length new.bits.items ≤ new.used + 1 → waits_after packet false ≡ false → ((b : Bool) → bits_before packet false old.bits.items ≡ old.bits.items) → ((leg : List StepRow) → place_after code packet (meets false (here old)) leg ≡ place_along code (here old) leg) → Followed code packet (from_to k old new)
 walked code k packet old mid last new runs admitted there all report wait limit w at bits rep waits stays counts mark rests keeps whole places =
     record {
       leg = w.leg;
       goes = subst (λ (b : Bool). LegIn code packet b (met k old) w.leg) (sym runs) (record { admitted = admitted; legs = rw (← all, ← there, ← limit) w.goes });
-      seen = subst (λ (b : Bool). here new ≡ place_after code packet (meets b (here old)) w.leg) (sym runs) (at ∙ w.seen ∙ ap (λ (p : Place). along code p w.leg) there ∙ sym (places w.leg));
+      seen = subst (λ (b : Bool). here new ≡ place_after code packet (meets b (here old)) w.leg) (sym runs) (at ∙ w.seen ∙ ap (λ (p : Place). place_along code p w.leg) there ∙ sym (places w.leg));
       counts = counts;
       bits = subst (λ (b : Bool). new.bits.items ≡ bits_before packet b old.bits.items ++ bits_of code packet) (sym runs) (bits ∙ w.kept.bits ∙ all ∙ ap (λ (xs : List Bool). xs ++ bits_of code packet) (sym (whole false)));
       reported = rep ∙ w.kept.reported ∙ report;

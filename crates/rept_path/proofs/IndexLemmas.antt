@@ -7,8 +7,8 @@ use Rattle.std.proofs.Math.Seq.{take-length}
 use Rattle.rept_path.specs.Code.{Code}
 use Rattle.rept_isa.specs.declared.row.StepRow.{StepRow}
 use Rattle.rept_path.specs.declared.aim.Aim.{Aim}
-use Rattle.rept_path.specs.Moves.{Lead, Place, along, IsMove, stops, heading_by}
-use Rattle.rept_path.specs.Legs.{Passes, Reaches}
+use Rattle.rept_path.specs.Moves.{Lead, Place, place_along, IsMove, stops, heading_by}
+use Rattle.rept_path.specs.Legs.{LegPasses, Reaches}
 use Rattle.rept_path.specs.Index.{at_index, LeastStop}
 
 get_front : (xs ys : List StepRow) (i : ℕ) → i < length xs → slice_get (xs ++ ys) i ≡ slice_get xs i
@@ -29,13 +29,13 @@ longer r rows = length-append rows (r ∷ [])
 module _ (code : Code) (lead : Lead) (aim : Aim) (past : Place) where
   -- one row more at the end
   index_front : (rows : List StepRow) (r : StepRow) (i : ℕ) → i ≤ length rows → at_index code past (rows ++ r ∷ []) i ≡ at_index code past rows i
-  index_front rows r i le = ap (λ (xs : List StepRow). along code past (reverse xs)) (take-append-le i rows (r ∷ []) le)
+  index_front rows r i le = ap (λ (xs : List StepRow). place_along code past (reverse xs)) (take-append-le i rows (r ∷ []) le)
 
-  index_all : (rows : List StepRow) → at_index code past rows (length rows) ≡ along code past (reverse rows)
-  index_all rows = ap (λ (xs : List StepRow). along code past (reverse xs)) (take-length rows)
+  index_all : (rows : List StepRow) → at_index code past rows (length rows) ≡ place_along code past (reverse rows)
+  index_all rows = ap (λ (xs : List StepRow). place_along code past (reverse xs)) (take-length rows)
 
-  index_end : (leg : List StepRow) (i : ℕ) → i ≡ length (reverse leg) → at_index code past (reverse leg) i ≡ along code past leg
-  index_end leg i e = rw e (index_all (reverse leg) ∙ ap (λ (xs : List StepRow). along code past xs) (reverse-reverse leg))
+  index_end : (leg : List StepRow) (i : ℕ) → i ≡ length (reverse leg) → at_index code past (reverse leg) i ≡ place_along code past leg
+  index_end leg i e = rw e (index_all (reverse leg) ∙ ap (λ (xs : List StepRow). place_along code past xs) (reverse-reverse leg))
 
   abbrev Moves : List StepRow → Type 0
   Moves rows = (i : ℕ) (r : StepRow) → slice_get rows i ≡ Some r → IsMove code lead (at_index code past rows i) r
@@ -45,7 +45,7 @@ module _ (code : Code) (lead : Lead) (aim : Aim) (past : Place) where
     moves : Moves rows
     stays : (i : ℕ) → 0 < i → i ≤ length rows → stops code lead.bits aim (at_index code past rows i) ≡ false
 
-  moves_on : (leg : List StepRow) (q : StepRow) → Moves (reverse leg) → IsMove code lead (along code past leg) q → Moves (reverse leg ++ q ∷ [])
+  moves_on : (leg : List StepRow) (q : StepRow) → Moves (reverse leg) → IsMove code lead (place_along code past leg) q → Moves (reverse leg ++ q ∷ [])
   moves_on leg q moves last = λ i r at.
       let rows = reverse leg in
       elim (cases_order i (length rows)) [
@@ -57,7 +57,7 @@ module _ (code : Code) (lead : Lead) (aim : Aim) (past : Place) where
         | inr (inr l) ↦ let w = slice_get_within (rows ++ q ∷ []) i r at in absurd (omega (arith, longer q rows))
       ]
 
-  idle : (leg : List StepRow) → Passes code (heading_by lead aim) past leg → Idle (reverse leg)
+  idle : (leg : List StepRow) → LegPasses code (heading_by lead aim) past leg → Idle (reverse leg)
   idle [] x = record { moves = λ i r at. absurd (cc); stays = λ i lt le. absurd (omega arith) }
   idle (q ∷ leg) x =
       let rows = reverse leg in
@@ -89,13 +89,13 @@ module _ (code : Code) (lead : Lead) (aim : Aim) (past : Place) where
       let lt = slice_get_within rows i r at in
       rw (← index_front rows q i (omega arith)) (moves i r (get_front rows (q ∷ []) i lt ∙ at))
 
-  last_move : (leg : List StepRow) (q : StepRow) → Moves (reverse leg ++ q ∷ []) → IsMove code lead (along code past leg) q
+  last_move : (leg : List StepRow) (q : StepRow) → Moves (reverse leg ++ q ∷ []) → IsMove code lead (place_along code past leg) q
   last_move leg q moves =
       let rows = reverse leg in
-      let e : at_index code past (rows ++ q ∷ []) (length rows) ≡ along code past leg = index_front rows q (length rows) (omega arith) ∙ index_end leg (length rows) refl in
+      let e : at_index code past (rows ++ q ∷ []) (length rows) ≡ place_along code past leg = index_front rows q (length rows) (omega arith) ∙ index_end leg (length rows) refl in
       rw (← e) (moves (length rows) q (get_seam rows q))
 
-  passes : (leg : List StepRow) → Idle (reverse leg) → Passes code (heading_by lead aim) past leg
+  passes : (leg : List StepRow) → Idle (reverse leg) → LegPasses code (heading_by lead aim) past leg
   passes [] h = tt
   passes (q ∷ leg) h =
       let rows = reverse leg in

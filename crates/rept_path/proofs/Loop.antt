@@ -10,17 +10,17 @@ use Rattle.rept_path.specs.declared.fault.PathFault.{PathFault}
 use Rattle.rept_path.specs.declared.fault.PathFault.TheVariants.{BranchesLeft, OutOfMemory}
 use Rattle.rept_isa.specs.declared.row.StepRow.{StepRow}
 use Rattle.rept_path.specs.declared.walk.Walk.{Walk}
-use Rattle.rept_path.specs.Moves.{Lead, Place, after, along, next_of, IsMove, stops, misfits, unused, by_jump, bits_fit, heading_by}
-use Rattle.rept_path.specs.Legs.{Passes, Reaches, PhaseFault}
-use Rattle.rept_path.specs.State.{here, Counts, Keeps, lead, Moved, Walked, ends_fit}
+use Rattle.rept_path.specs.Moves.{Lead, Place, after, place_along, next_of, IsMove, stops, misfits, unused, by_jump, bits_fit, heading_by}
+use Rattle.rept_path.specs.Legs.{LegPasses, Reaches, PhaseFault}
+use Rattle.rept_path.specs.State.{here, Counts, Keeps, lead, MovedWalk, WalkedPhase, ends_fit}
 
 -- The walk stands after a leg whose rows but the last lead to no stop.
 pub record Coming (code : Code) (how : Lead) (aim : Aim) (old new : Walk) : Type 0 where
   pub row : StepRow
   pub leg : List StepRow
-  pub passes : Passes code (heading_by how aim) (here old) leg
-  pub move : IsMove code how (along code (here old) leg) row
-  pub seen : here new ≡ along code (here old) (row ∷ leg)
+  pub passes : LegPasses code (heading_by how aim) (here old) leg
+  pub move : IsMove code how (place_along code (here old) leg) row
+  pub seen : here new ≡ place_along code (here old) (row ∷ leg)
   pub counts : Counts new
   pub kept : Keeps old new
   pub grows : old.used ≤ new.used
@@ -28,17 +28,17 @@ pub record Coming (code : Code) (how : Lead) (aim : Aim) (old new : Walk) : Type
 pub Keeps-twice : (a b c : Walk) → Keeps a b → Keeps b c → Keeps a c
 Keeps-twice a b c x y = record { bits = y.bits ∙ x.bits; reported = y.reported ∙ x.reported; inferred = y.inferred ∙ x.inferred; waiting = y.waiting ∙ x.waiting; room = y.room ∙ x.room }
 
-pub came_first : (code : Code) (how : Lead) (aim : Aim) (old new : Walk) → Moved code how old new → Coming code how aim old new
+pub came_first : (code : Code) (how : Lead) (aim : Aim) (old new : Walk) → MovedWalk code how old new → Coming code how aim old new
 came_first code how aim old new m = record { row = m.row; leg = []; passes = tt; move = m.move; seen = m.seen; counts = m.counts; kept = m.kept; grows = m.grows }
 
 module _ (code : Code) (packet : ℕ) (target : Option ℕ) (aim : Aim) (old mid : Walk) (came : Coming code (lead old packet target) aim old mid) where
   same_lead : lead mid packet target ≡ lead old packet target
   same_lead = let a = came.kept.bits in let b = came.kept.room in cc
 
-  longer : stops code mid.bits.items aim (here mid) ≡ false → Passes code (heading_by (lead old packet target) aim) (here old) (came.row ∷ came.leg)
+  longer : stops code mid.bits.items aim (here mid) ≡ false → LegPasses code (heading_by (lead old packet target) aim) (here old) (came.row ∷ came.leg)
   longer stays = (came.passes, came.move, rw (← came.seen, ← came.kept.bits) stays)
 
-  pub goes_on : (new : Walk) → stops code mid.bits.items aim (here mid) ≡ false → Moved code (lead mid packet target) mid new → Coming code (lead old packet target) aim old new
+  pub goes_on : (new : Walk) → stops code mid.bits.items aim (here mid) ≡ false → MovedWalk code (lead mid packet target) mid new → Coming code (lead old packet target) aim old new
   goes_on new stays moved = record {
     row = moved.row;
     leg = came.row ∷ came.leg;
@@ -53,7 +53,7 @@ module _ (code : Code) (packet : ℕ) (target : Option ℕ) (aim : Aim) (old mid
   reached : stops code mid.bits.items aim (here mid) ≡ true → Reaches code (heading_by (lead old packet target) aim) (here old) (came.row ∷ came.leg)
   reached stopped = (came.passes, came.move, rw (← came.seen, ← came.kept.bits) stopped)
 
-  pub arrives : stops code mid.bits.items aim (here mid) ≡ true → misfits code mid.bits.items aim (here mid) ≡ false → Walked code (heading_by (lead old packet target) aim) old mid
+  pub arrives : stops code mid.bits.items aim (here mid) ≡ true → misfits code mid.bits.items aim (here mid) ≡ false → WalkedPhase code (heading_by (lead old packet target) aim) old mid
   arrives stopped fits = record {
     leg = came.row ∷ came.leg;
     goes = record { reaches = reached stopped; fits = rw (← came.seen, ← came.kept.bits) fits };
@@ -80,8 +80,8 @@ module _ (code : Code) (packet : ℕ) (target : Option ℕ) (aim : Aim) (old mid
 
 -- The same where the facts of a step speak of code that is the same, as that of a dump near a position.
 module _ (code near : Code) (same : near ≡ code) (packet : ℕ) (target : Option ℕ) (aim : Aim) (old mid : Walk) where
-  pub came_first_near : Moved near (lead old packet target) old mid → Coming code (lead old packet target) aim old mid
-  came_first_near m = came_first code (lead old packet target) aim old mid (subst (λ (c : Code). Moved c (lead old packet target) old mid) same m)
+  pub came_first_near : MovedWalk near (lead old packet target) old mid → Coming code (lead old packet target) aim old mid
+  came_first_near m = came_first code (lead old packet target) aim old mid (subst (λ (c : Code). MovedWalk c (lead old packet target) old mid) same m)
 
   module _ (came : Coming code (lead old packet target) aim old mid) where
     stops_there : (b : Bool) → stops near mid.bits.items aim (here mid) ≡ b → stops code mid.bits.items aim (here mid) ≡ b
@@ -90,10 +90,10 @@ module _ (code near : Code) (same : near ≡ code) (packet : ℕ) (target : Opti
     misfits_there : (b : Bool) → misfits near mid.bits.items aim (here mid) ≡ b → misfits code mid.bits.items aim (here mid) ≡ b
     misfits_there b h = subst (λ (c : Code). misfits c mid.bits.items aim (here mid) ≡ b) same h
 
-    pub goes_on_near : (new : Walk) → stops near mid.bits.items aim (here mid) ≡ false → Moved near (lead mid packet target) mid new → Coming code (lead old packet target) aim old new
-    goes_on_near new stays m = goes_on code packet target aim old mid came new (stops_there false stays) (subst (λ (c : Code). Moved c (lead mid packet target) mid new) same m)
+    pub goes_on_near : (new : Walk) → stops near mid.bits.items aim (here mid) ≡ false → MovedWalk near (lead mid packet target) mid new → Coming code (lead old packet target) aim old new
+    goes_on_near new stays m = goes_on code packet target aim old mid came new (stops_there false stays) (subst (λ (c : Code). MovedWalk c (lead mid packet target) mid new) same m)
 
-    pub arrives_near : stops near mid.bits.items aim (here mid) ≡ true → misfits near mid.bits.items aim (here mid) ≡ false → Walked code (heading_by (lead old packet target) aim) old mid
+    pub arrives_near : stops near mid.bits.items aim (here mid) ≡ true → misfits near mid.bits.items aim (here mid) ≡ false → WalkedPhase code (heading_by (lead old packet target) aim) old mid
     arrives_near stopped fits = arrives code packet target aim old mid came (stops_there true stopped) (misfits_there false fits)
 
     pub has_left_near : (n : ℕ) → stops near mid.bits.items aim (here mid) ≡ true → misfits near mid.bits.items aim (here mid) ≡ true → n ≡ unused mid.bits.items (here mid) → PhaseFault code (heading_by (lead old packet target) aim) (here old) (BranchesLeft packet n)
@@ -135,7 +135,7 @@ rests_at code (Report a notify updiscon) w s m f = fit_few code w.bits.items (he
 rests_at code LastBit w s m f = fit_few code w.bits.items (here w) (second (is_branch code w.at) (bits_fit code w.bits.items (here w)) s)
 
 -- After a move fewer steps are left.
-pub one_step_less : (code : Code) (how : Lead) (old new : Walk) → Moved code how old new → new.room - length new.steps < old.room - length old.steps
+pub one_step_less : (code : Code) (how : Lead) (old new : Walk) → MovedWalk code how old new → new.room - length new.steps < old.room - length old.steps
 one_step_less code how old new m =
     let e : length (reverse new.steps) ≡ suc (length (reverse old.steps)) = ap (λ (p : Place). length p.rows) m.seen in
     let few = m.counts.few in

@@ -14,7 +14,7 @@ use Rattle.rept_steps.specs.Linked.{EndBefore}
 use Rattle.rept_path.specs.declared.flow.Flow.{Flow}
 use Rattle.rept_path.specs.Code.{look, is_short, flow_of, branches, is_branch, branches_at, branches_there}
 use Rattle.rept_path.specs.Moves.{Lead, Place, Site, next_of, site, successor, position, ◌>>=◌, way_by}
-use Rattle.rept_path.specs.State.{here, Counts, Keeps, Moved}
+use Rattle.rept_path.specs.State.{here, Counts, Keeps, MovedWalk}
 
 pub bind_ok : {A B : Type 0} (r : Result A PathFault) (f : A → Result B PathFault) (y : B) → (r >>= f) ≡ Ok y → (x : A) × (r ≡ Ok x) × (f x ≡ Ok y)
 bind_ok (Ok x) f y h = (x, refl, h)
@@ -76,7 +76,7 @@ used_more false n all le more = omega arith
 
 -- a walk that was moved
 pub moved : (code : Code) (how : Lead) (old new : Walk) (row : StepRow) → Counts old → how.room ≡ old.room → how.bits ≡ old.bits.items → next_of code how (here old) ≡ Ok row.next → row.at ≡ old.at → look code old.at ≡ Ok row.instr → row.call ≡ false → row.short ≡ is_short code old.at → new.at ≡ row.next → new.steps ≡ old.steps ++ row ∷ []
-    → new.used ≡ old.used + branches_at code old.at → Keeps old new → EndBefore new.steps row.next → Moved code how old new
+    → new.used ≡ old.used + branches_at code old.at → Keeps old new → EndBefore new.steps row.next → MovedWalk code how old new
 moved code how old new row counts limit same next at there plain short to pushed used kept ends =
     let back : reverse new.steps ≡ row ∷ reverse old.steps = ap reverse pushed ∙ reverse-append old.steps (row ∷ []) in
     let few : length (reverse old.steps) < how.room = few_before code how (here old) row.next next in

@@ -15,10 +15,10 @@ use Rattle.rept_path.specs.declared.fault.PathFault.TheVariants.{TooLong, Gap, E
 use Rattle.rept_path.specs.Code.{instruction, expansion, short_half, is_short, alignment, after_instruction, by_instruction, by_word, by_code, look, flow_of, calls_there}
 use Rattle.rept_path.specs.Gap.{row, call_row, Goal, Edge, by_successor, by_flow, crossing, gap}
 use Rattle.rept_path.specs.Legs.{PhaseFault}
-use Rattle.rept_path.specs.Moves.{Lead, Place, Stand, Site, along, site, successor, position, next_of, ◌>>=◌, heading_by, way_by}
+use Rattle.rept_path.specs.Moves.{Lead, Place, Stand, Site, place_along, site, successor, position, next_of, ◌>>=◌, heading_by, way_by}
 use Rattle.rept_path.specs.Packets.{waiting}
 use Rattle.rept_path.specs.Route.{Phase, PhasesFault, lead_of, further, with_bits, phases_of, Met, met_by, stand_of, admits, FirstFault, WaitingFault, RunningFault, Fault, Origin, alone}
-use Rattle.rept_path.specs.Trace.{IsRefused, stand_after}
+use Rattle.rept_path.specs.Trace.{HasNoPathOfPackets, stand_after}
 use Rattle.rept_path.specs.Traced.{code_over, pc_of, IsRefusedBy}
 use Rattle.rept_path.proofs.Waiting.{FaultIn}
 
@@ -114,7 +114,7 @@ module _ (code : Code) where
       (λ rows. others_cond (nat_le (length p.rows + length rows) s.room) (Ok rows) (Err (TooLong s.packet)) (others_ok rows) (others_long s.packet)))
 
   phase_other : (how : Lead) (aim : Aim) (past : Place) (e : PathFault) → PhaseFault code (heading_by how aim) past e → e ≢ OutOfMemory
-  phase_other how aim past e (inl blocked) = others_next how (along code past blocked.leg) e blocked.blocked
+  phase_other how aim past e (inl blocked) = others_next how (place_along code past blocked.leg) e blocked.blocked
   phase_other how aim past e (inr misfit) = λ m. let is = misfit.fault in cc
 
   phases_other : (s : Stand) (phases : List Phase) (e : PathFault) → PhasesFault code s phases e → e ≢ OutOfMemory
@@ -162,7 +162,7 @@ module _ (code : Code) where
   fault_other origin packet [] legs e f = first_other packet e f
   fault_other origin packet (last ∷ earlier) legs e f = by_other packet (waiting (last ∷ earlier)) (met_by code origin (last ∷ earlier) legs) e f
 
-  refused_other : (packets : List Packet) (from pc : ℕ) (e : PathFault) → IsRefused (record { code = code; packets = packets; from = from; pc = pc }) e → e ≢ OutOfMemory
+  refused_other : (packets : List Packet) (from pc : ℕ) (e : PathFault) → HasNoPathOfPackets (record { code = code; packets = packets; from = from; pc = pc }) e → e ≢ OutOfMemory
   refused_other packets from pc e (inl (none, is)) = λ m. cc
   refused_other packets from pc e (inr (skipped, window, inl s)) = fault_other (alone skipped) s.packet s.earlier s.legs e s.fault
   refused_other packets from pc e (inr (skipped, window, inr s)) =

@@ -9,7 +9,7 @@ use Rattle.rept_trace.specs.declared.packet.Packet.TheVariants.{Start, Context, 
 use Rattle.rept_path.specs.Packets.{waiting}
 use Rattle.rept_path.specs.Gap.{gap_to_end}
 use Rattle.rept_path.specs.Route.{phases_of, with_bits, Met, met_by, WaitingLeg, WaitingFault, FirstLeg, FirstFault, Leg, Fault, Origin, alone, Route}
-use Rattle.rept_path.specs.Trace.{Window, stand_after, TracedRun, newest_first, last_stand, IsPath, StopsAt, StopsAtEnd, IsRefused}
+use Rattle.rept_path.specs.Trace.{Window, stand_after, TracedRun, newest_first, last_stand, IsPath, StopsAt, StopsAtEnd, HasNoPathOfPackets}
 use Rattle.rept_path.proofs.Unique.{one_legs, legs_or_fault, one_of_faults}
 use Rattle.rept_path.proofs.Waiting.{LegIn, FaultIn}
 
@@ -198,7 +198,7 @@ module _ (code : Code) (packets : List Packet) (from pc : ℕ) where
   refusal_at : (skipped j : ℕ) (e : PathFault) → skipped ≡ j → StopsAt code (alone skipped) (drop skipped packets) e ⊎ StopsAtEnd run skipped e → StopsAt code (alone j) (drop j packets) e ⊎ StopsAtEnd run j e
   refusal_at skipped j e w h = subst (λ (n : ℕ). StopsAt code (alone n) (drop n packets) e ⊎ StopsAtEnd run n e) w h
 
-  pub path_or_refusal : (j : ℕ) (path : List StepRow) (e : PathFault) → IsPath run j path → IsRefused run e → ⊥
+  pub path_or_refusal : (j : ℕ) (path : List StepRow) (e : PathFault) → IsPath run j path → HasNoPathOfPackets run e → ⊥
   path_or_refusal j path e x y = elim y [
     | inl h ↦ h.0 j x.window.may
     | inr h ↦ elim (refusal_at h.0 j e (one_window packets from h.0 j h.1 x.window) h.2) [
@@ -210,7 +210,7 @@ module _ (code : Code) (packets : List Packet) (from pc : ℕ) where
     ]
   ]
 
-  pub one_refusal : (d e : PathFault) → IsRefused run d → IsRefused run e → d ≡ e
+  pub one_refusal : (d e : PathFault) → HasNoPathOfPackets run d → HasNoPathOfPackets run e → d ≡ e
   one_refusal d e x y = elim x [
     | inl f ↦ elim y [ inl g ↦ f.1 ∙ sym g.1 | inr g ↦ absurd (f.0 g.0 g.1.may) ]
     | inr f ↦ elim y [

@@ -3,7 +3,7 @@ use Rattle.std.proofs.Common.{◌≡◌, ℕ, ◌+◌, ◌<◌, ◌≤◌, List,
 use Rattle.std.specs.Prelude.{IfSome, IfNone}
 use Rattle.std.proofs.lemmas.List.{reverse-append, reverse-reverse, length-reverse, append-nil}
 use Rattle.rept_trace.specs.declared.fault.TraceFault.{TraceFault}
-use Rattle.rept_trace.specs.Stream.{Stream, Hold, Answers}
+use Rattle.rept_trace.specs.Stream.{Stream, Hold, AnswersNext}
 use Rattle.rept_trace.proofs.Frames.{one_answer, one_packet}
 use Rattle.rept_trace.proofs.Going.{not_both}
 use Rattle.rept_path.proofs.Followed.{same_position}
@@ -88,29 +88,29 @@ pub goes_first : (code : Code) (origin : Origin) (first : Packet) (later : List 
 goes_first code origin first later rest w legs h s = record { done = first ∷ []; more = later; legs = legs; hold = h; whole = refl; stands = s; numbered = refl; some = omega arith }
 
 -- what is left begins with the packet that is read
-pub taken : (k n : ℕ) (rest after : Stream) (packet : Packet) (more : List Packet) → Hold rest more → Answers k rest (Ok (Some packet)) n after → (later : List Packet) × (more ≡ packet ∷ later) × Hold after later
+pub taken : (k n : ℕ) (rest after : Stream) (packet : Packet) (more : List Packet) → Hold rest more → AnswersNext k rest (Ok (Some packet)) n after → (later : List Packet) × (more ≡ packet ∷ later) × Hold after later
 taken k n rest after packet [] h a = let o = one_answer k rest (Ok None) (Ok (Some packet)) k n rest after (h, refl, refl) a in absurd (let e = o.0 in cc)
 taken k n rest after packet (p ∷ more) h a =
     let o = one_packet rest p packet h.0 after h.1 a.0 in
     (more, ap (λ (q : Packet). q ∷ more) o.0, subst (λ (l : Stream). Hold l more) o.1 h.2)
 
-pub none_left : (k n : ℕ) (rest after : Stream) (more : List Packet) → Hold rest more → Answers k rest (Ok None) n after → more ≡ []
+pub none_left : (k n : ℕ) (rest after : Stream) (more : List Packet) → Hold rest more → AnswersNext k rest (Ok None) n after → more ≡ []
 none_left k n rest after [] h a = refl
 none_left k n rest after (p ∷ more) h a = let o = one_answer k rest (Ok (Some p)) (Ok None) (k + 1) n h.0 after (h.1, refl) a in absurd (let e = o.0 in cc)
 
-pub no_fault : (k n : ℕ) (rest after : Stream) (more : List Packet) (fault : TraceFault) → Hold rest more → Answers k rest (Err fault) n after → ⊥
+pub no_fault : (k n : ℕ) (rest after : Stream) (more : List Packet) (fault : TraceFault) → Hold rest more → AnswersNext k rest (Err fault) n after → ⊥
 no_fault k n rest after more fault h a = not_both k rest more [] fault h a.0
 
-pub some_of : (k n : ℕ) (rest after : Stream) (next : Option Packet) → Answers k rest (Ok next) n after → IfSome next (λ packet. Answers k rest (Ok (Some packet)) n after)
+pub some_of : (k n : ℕ) (rest after : Stream) (next : Option Packet) → AnswersNext k rest (Ok next) n after → IfSome next (λ packet. AnswersNext k rest (Ok (Some packet)) n after)
 some_of k n rest after None a = tt
 some_of k n rest after (Some packet) a = a
 
-pub none_of : (k n : ℕ) (rest after : Stream) (next : Option Packet) → Answers k rest (Ok next) n after → IfNone next (Answers k rest (Ok None) n after)
+pub none_of : (k n : ℕ) (rest after : Stream) (next : Option Packet) → AnswersNext k rest (Ok next) n after → IfNone next (AnswersNext k rest (Ok None) n after)
 none_of k n rest after None a = a
 none_of k n rest after (Some packet) a = tt
 
 module _ (code : Code) (origin : Origin) (window : List Packet) (number : ℕ) (rest : Stream) (w : Walk) (g : Going code origin window number rest w) where
-  pub goes_on : (k n : ℕ) (after : Stream) (packet : Packet) (new : Walk) → Answers k rest (Ok (Some packet)) n after → Followed code packet (from_to number w new) → Going code origin window (number + 1) after new
+  pub goes_on : (k n : ℕ) (after : Stream) (packet : Packet) (new : Walk) → AnswersNext k rest (Ok (Some packet)) n after → Followed code packet (from_to number w new) → Going code origin window (number + 1) after new
   goes_on k n after packet new a f =
       let t = taken k n rest after packet g.more g.hold a in
       let numbered = g.numbered in
@@ -125,7 +125,7 @@ module _ (code : Code) (origin : Origin) (window : List Packet) (number : ℕ) (
         some = omega arith;
       }
 
-  pub stops_or : (k n : ℕ) (after : Stream) (packet : Packet) (e : PathFault) → Answers k rest (Ok (Some packet)) n after → (e ≡ OutOfMemory) ⊎ FaultBy code packet (met number w) e → (e ≡ OutOfMemory) ⊎ StopsAt code origin window e
+  pub stops_or : (k n : ℕ) (after : Stream) (packet : Packet) (e : PathFault) → AnswersNext k rest (Ok (Some packet)) n after → (e ≡ OutOfMemory) ⊎ FaultBy code packet (met number w) e → (e ≡ OutOfMemory) ⊎ StopsAt code origin window e
   stops_or k n after packet e a h =
       let t = taken k n rest after packet g.more g.hold a in
       elim h [
@@ -141,7 +141,7 @@ module _ (code : Code) (origin : Origin) (window : List Packet) (number : ℕ) (
         })
       ]
 
-  pub room : (k n : ℕ) (after : Stream) (packet : Packet) → Answers k rest (Ok (Some packet)) n after → number + 1 ≤ origin.number + length window
+  pub room : (k n : ℕ) (after : Stream) (packet : Packet) → AnswersNext k rest (Ok (Some packet)) n after → number + 1 ≤ origin.number + length window
   room k n after packet a =
       let t = taken k n rest after packet g.more g.hold a in
       let numbered = g.numbered in

@@ -20,26 +20,26 @@ use Rattle.rept_path.specs.declared.fault.PathFault.{PathFault}
 use Rattle.rept_path.specs.declared.fault.PathFault.TheVariants.{TooLong, Gap, End}
 use Rattle.rept_path.specs.Code.{look, after_instruction, is_short, flow_of, calls_there}
 use Rattle.rept_path.specs.Gap.{row, call_row, Goal, Edge, by_successor, by_flow, crossing, gap}
-use Rattle.rept_path.specs.Legs.{Passes, Reaches}
-use Rattle.rept_path.specs.Moves.{Lead, Place, Stand, along, site, successor, IsMove, ◌>>=◌, heading_by, way_by}
+use Rattle.rept_path.specs.Legs.{LegPasses, Reaches}
+use Rattle.rept_path.specs.Moves.{Lead, Place, Stand, place_along, site, successor, IsMove, ◌>>=◌, heading_by, way_by}
 use Rattle.rept_path.specs.Packets.{reported_after, begins, waiting}
 use Rattle.rept_path.specs.Route.{Phase, PhaseLegs, lead_of, further, with_bits, phases_of, Met, met_by, stand_of, FirstLeg, WaitingLeg, Leg, Origin, alone, Route, place, place_after, meets}
 use Rattle.rept_path.specs.Rows.{CarriesCode, CarryCode}
 use Rattle.rept_path.specs.Trace.{IsPath, stand_after}
-use Rattle.rept_path.specs.Traced.{pc_of, IsTraced, raw_by}
+use Rattle.rept_path.specs.Traced.{pc_of, IsTracedPath, raw_by}
 use Rattle.rept_path.proofs.MoveLemmas.{bind_ok}
 use Rattle.rept_path.proofs.Phases.{along-append}
 use Rattle.rept_path.proofs.Waiting.{LegIn}
 
 -- the rows after a leg
-pub rows_along : (code : Code) (p : Place) (leg : List StepRow) → (along code p leg).rows ≡ leg ++ p.rows
+pub rows_along : (code : Code) (p : Place) (leg : List StepRow) → (place_along code p leg).rows ≡ leg ++ p.rows
 rows_along code p [] = refl
 rows_along code p (r ∷ leg) = ap (λ (rows : List StepRow). r ∷ rows) (rows_along code p leg)
 
 pub rows_after : (code : Code) (packet : Packet) (waits : Bool) (p : Place) (leg : List StepRow) → (place_after code packet (meets waits p) leg).rows ≡ leg ++ p.rows
 rows_after code packet waits p leg = go (begins packet waits)
   where
-    go : (b : Bool) → (cond b (record { at = reported_after packet 0; rows = leg ++ p.rows; branches = 0 }) (along code p leg)).rows ≡ leg ++ p.rows
+    go : (b : Bool) → (cond b (record { at = reported_after packet 0; rows = leg ++ p.rows; branches = 0 }) (place_along code p leg)).rows ≡ leg ++ p.rows
     go true = refl
     go false = rows_along code p leg
 
@@ -151,13 +151,13 @@ module _ (code : Code) where
   moved : (lead : Lead) (p : Place) (r : StepRow) → IsMove code lead p r → CarriesCode code r
   moved lead p r m = record { instr = rw m.at m.instr; short = m.short ∙ ap (is_short code) (sym m.at) }
 
-  passed : (lead : Lead) (aim : Aim) (past : Place) (leg : List StepRow) → Passes code (heading_by lead aim) past leg → CarryCode code leg
+  passed : (lead : Lead) (aim : Aim) (past : Place) (leg : List StepRow) → LegPasses code (heading_by lead aim) past leg → CarryCode code leg
   passed lead aim past [] x = All-nil (CarriesCode code)
-  passed lead aim past (r ∷ leg) x = All-cons (CarriesCode code) r leg (moved lead (along code past leg) r x.1) (passed lead aim past leg x.0)
+  passed lead aim past (r ∷ leg) x = All-cons (CarriesCode code) r leg (moved lead (place_along code past leg) r x.1) (passed lead aim past leg x.0)
 
   reached : (lead : Lead) (aim : Aim) (past : Place) (leg : List StepRow) → Reaches code (heading_by lead aim) past leg → CarryCode code leg
   reached lead aim past [] x = elim x [ ]
-  reached lead aim past (r ∷ leg) x = All-cons (CarriesCode code) r leg (moved lead (along code past leg) r x.1) (passed lead aim past leg x.0)
+  reached lead aim past (r ∷ leg) x = All-cons (CarriesCode code) r leg (moved lead (place_along code past leg) r x.1) (passed lead aim past leg x.0)
 
   none : (rows : List StepRow) → rows ≡ [] → CarryCode code rows
   none rows is = All-same (CarriesCode code) rows [] is (All-nil (CarriesCode code))
@@ -204,24 +204,24 @@ module _ (code : Code) where
   abbrev OnChain : Place → Type 0
   OnChain p = Chain p.rows p.at
 
-  move_on_chain : (lead : Lead) (past : Place) (r : StepRow) (leg : List StepRow) → IsMove code lead (along code past leg) r → OnChain (along code past leg) → OnChain (along code past (r ∷ leg))
+  move_on_chain : (lead : Lead) (past : Place) (r : StepRow) (leg : List StepRow) → IsMove code lead (place_along code past leg) r → OnChain (place_along code past leg) → OnChain (place_along code past (r ∷ leg))
   move_on_chain lead past r leg m h = (refl, rw m.at h)
 
-  passes_on_chain : (lead : Lead) (aim : Aim) (past : Place) (leg : List StepRow) → OnChain past → Passes code (heading_by lead aim) past leg → OnChain (along code past leg)
+  passes_on_chain : (lead : Lead) (aim : Aim) (past : Place) (leg : List StepRow) → OnChain past → LegPasses code (heading_by lead aim) past leg → OnChain (place_along code past leg)
   passes_on_chain lead aim past [] h x = h
   passes_on_chain lead aim past (r ∷ leg) h x = move_on_chain lead past r leg x.1 (passes_on_chain lead aim past leg h x.0)
 
-  reach_on_chain : (lead : Lead) (aim : Aim) (past : Place) (leg : List StepRow) → OnChain past → Reaches code (heading_by lead aim) past leg → OnChain (along code past leg)
+  reach_on_chain : (lead : Lead) (aim : Aim) (past : Place) (leg : List StepRow) → OnChain past → Reaches code (heading_by lead aim) past leg → OnChain (place_along code past leg)
   reach_on_chain lead aim past [] h x = elim x [ ]
   reach_on_chain lead aim past (r ∷ leg) h x = move_on_chain lead past r leg x.1 (passes_on_chain lead aim past leg h x.0)
 
-  phases_on_chain : (s : Stand) (phases : List Phase) (leg : List StepRow) → OnChain s.place → PhaseLegs code s phases leg → OnChain (along code s.place leg)
+  phases_on_chain : (s : Stand) (phases : List Phase) (leg : List StepRow) → OnChain s.place → PhaseLegs code s phases leg → OnChain (place_along code s.place leg)
   phases_on_chain s [] leg h x = rw x h
   phases_on_chain s (phase ∷ phases) leg h (first, rest, is, x, xs) =
-      let there : along code s.place leg ≡ along code (along code s.place first) rest = ap (λ (ys : List StepRow). along code s.place ys) is ∙ along-append code s.place rest first in
+      let there : place_along code s.place leg ≡ place_along code (place_along code s.place first) rest = ap (λ (ys : List StepRow). place_along code s.place ys) is ∙ along-append code s.place rest first in
       rw there (phases_on_chain (further code s first) phases rest (reach_on_chain (lead_of s phase) phase.aim s.place first h x.reaches) xs)
 
-  running_place : (packet : Packet) (p : Place) (leg : List StepRow) → place_after code packet (meets false p) leg ≡ along code p leg
+  running_place : (packet : Packet) (p : Place) (leg : List StepRow) → place_after code packet (meets false p) leg ≡ place_along code p leg
   running_place (Start branch privilege a time context) p leg = refl
   running_place (Address report) p leg = refl
   running_place (MapAddress count map report) p leg = refl
@@ -286,7 +286,7 @@ module _ (code : Code) where
         rw is.order (linked_from (is.last ++ before.rows) pc (crossed.leads before.rows (route_on_chain (alone skipped) (reverse (drop skipped packets)) is.legs is.route)))
 
 -- The same of the path of a trace file over a dump.
-module _ (packets : Packets) (program : Program) (from skipped : ℕ) (path : List StepRow) (is : IsTraced (raw_by packets program from) skipped path) where
+module _ (packets : Packets) (program : Program) (from skipped : ℕ) (path : List StepRow) (is : IsTracedPath (raw_by packets program from) skipped path) where
   pub some_steps : 0 < length path
   some_steps = path_some (code_of program) is.0 from (pc_of program.dump) skipped path is.2
 

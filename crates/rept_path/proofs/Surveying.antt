@@ -5,7 +5,7 @@ use Rattle.std.proofs.Math.Seq.{drop-append_seam}
 use Rattle.std.specs.Prelude.{IfSome}
 use Rattle.rept_trace.specs.declared.packet.Packet.{Packet}
 use Rattle.rept_trace.specs.Packets.{rest_of, number_of}
-use Rattle.rept_trace.specs.Stream.{Stream, IsEnded, Fails, FailsAfter, Answers, Begins, Hold}
+use Rattle.rept_trace.specs.Stream.{Stream, IsStreamEnded, FailsNext, FailsAfter, AnswersNext, Begins, Hold}
 use Rattle.rept_trace.proofs.Frames.{shorter}
 use Rattle.rept_trace.specs.declared.packets.Packets.{Packets}
 use Rattle.rept_trace.specs.declared.fault.TraceFault.{TraceFault}
@@ -48,7 +48,7 @@ new_there rest done count packet later begin (Some n) counted b w h = elim h [
   | inr e ↦ subst (λ (x : Begin). WillBeThere (rest_of later) (done ++ packet ∷ []) (Some x)) (sym e) (here_there done packet (record { number = count; first = packet; later = later }) counted refl)
 ]
 
-pub sees : (first : ℕ) (bytes : Stream) (from count number : ℕ) (rest : Stream) (begin : Option Begin) (packet : Packet) (later : Packets) (new : Option Begin) → Seen first bytes from count number rest begin → Answers number rest (Ok (Some packet)) (number_of later) (rest_of later)
+pub sees : (first : ℕ) (bytes : Stream) (from count number : ℕ) (rest : Stream) (begin : Option Begin) (packet : Packet) (later : Packets) (new : Option Begin) → Seen first bytes from count number rest begin → AnswersNext number rest (Ok (Some packet)) (number_of later) (rest_of later)
     → ((packets : List Packet) → length packets ≡ count → IsWindow packets from (number_in begin) → IsWindow (packets ++ packet ∷ []) from (number_in new))
     → IfSome new (λ b. (begin ≡ Some b) ⊎ (b ≡ record { number = count; first = packet; later = later })) → Seen first bytes from (count + 1) (number_of later) (rest_of later) new
 sees first bytes from count number rest begin packet later new s a windows one =
@@ -65,10 +65,10 @@ sees first bytes from count number rest begin packet later new s a windows one =
       there = new_there rest s.done count packet later begin new counted a.0 s.there one;
     }
 
-pub refused : (first : ℕ) (bytes : Stream) (from count number : ℕ) (rest : Stream) (begin : Option Begin) (fault : TraceFault) (s : Seen first bytes from count number rest begin) → Fails number rest fault → FailsAfter first bytes s.done fault
+pub refused : (first : ℕ) (bytes : Stream) (from count number : ℕ) (rest : Stream) (begin : Option Begin) (fault : TraceFault) (s : Seen first bytes from count number rest begin) → FailsNext number rest fault → FailsAfter first bytes s.done fault
 refused first bytes from count number rest begin fault s f = rw append-nil at (s.fails [] fault f)
 
-pub all_seen : (first : ℕ) (bytes : Stream) (from count number : ℕ) (rest : Stream) (begin : Option Begin) → length bytes.bytes < 2 ^ 32 → (s : Seen first bytes from count number rest begin) → IsEnded rest.bytes → Surveys bytes s.done from (record { count = count; begin = begin })
+pub all_seen : (first : ℕ) (bytes : Stream) (from count number : ℕ) (rest : Stream) (begin : Option Begin) → length bytes.bytes < 2 ^ 32 → (s : Seen first bytes from count number rest begin) → IsStreamEnded rest.bytes → Surveys bytes s.done from (record { count = count; begin = begin })
 all_seen first bytes from count number rest begin short s e =
     let few = s.few in
     let counted = s.counted in

@@ -8,8 +8,8 @@ use Rattle.rept_path.specs.declared.fault.PathFault.{PathFault}
 use Rattle.rept_path.specs.declared.fault.PathFault.TheVariants.{BranchesLeft}
 use Rattle.rept_isa.specs.declared.instr.Instr.{Instr}
 use Rattle.rept_path.specs.Code.{look}
-use Rattle.rept_path.specs.Moves.{Lead, Place, Stand, along, next_of, IsMove, stops, misfits, unused, heading_by}
-use Rattle.rept_path.specs.Legs.{Passes, Reaches, PhaseLeg, PhaseFault}
+use Rattle.rept_path.specs.Moves.{Lead, Place, Stand, place_along, next_of, IsMove, stops, misfits, unused, heading_by}
+use Rattle.rept_path.specs.Legs.{LegPasses, Reaches, PhaseLeg, PhaseFault}
 use Rattle.rept_path.specs.Route.{Phase, PhaseLegs, PhasesFault, lead_of, further}
 
 one_move : (code : Code) (lead : Lead) (p : Place) (r s : StepRow) → IsMove code lead p r → IsMove code lead p s → r ≡ s
@@ -30,28 +30,28 @@ one_move code lead p r s x y =
 module _ (code : Code) (lead : Lead) (aim : Aim) (past : Place) where
   -- no move follows the leg, which has no stop
   abbrev Blocked : List StepRow → PathFault → Type 0
-  Blocked leg e = Passes code (heading_by lead aim) past leg × (next_of code lead (along code past leg) ≡ Err e)
+  Blocked leg e = LegPasses code (heading_by lead aim) past leg × (next_of code lead (place_along code past leg) ≡ Err e)
 
-  same_passes : (a b : List StepRow) → Passes code (heading_by lead aim) past a → Passes code (heading_by lead aim) past b → length a ≡ length b → a ≡ b
+  same_passes : (a b : List StepRow) → LegPasses code (heading_by lead aim) past a → LegPasses code (heading_by lead aim) past b → length a ≡ length b → a ≡ b
   same_passes [] [] x y e = refl
   same_passes [] (q ∷ b) x y e = absurd (omega arith)
   same_passes (p ∷ a) [] x y e = absurd (omega arith)
   same_passes (p ∷ a) (q ∷ b) x y e =
       let s : a ≡ b = same_passes a b x.0 y.0 (omega arith) in
-      let m : IsMove code lead (along code past b) p = rw s at x.1 in
-      let n : p ≡ q = one_move code lead (along code past b) p q m y.1 in
+      let m : IsMove code lead (place_along code past b) p = rw s at x.1 in
+      let n : p ≡ q = one_move code lead (place_along code past b) p q m y.1 in
       cc
 
   -- a leg to a stop is not within a leg without one
-  stop_within : (q : StepRow) (a b : List StepRow) → Reaches code (heading_by lead aim) past (q ∷ a) → Passes code (heading_by lead aim) past b → length a < length b → ⊥
+  stop_within : (q : StepRow) (a b : List StepRow) → Reaches code (heading_by lead aim) past (q ∷ a) → LegPasses code (heading_by lead aim) past b → length a < length b → ⊥
   stop_within q a [] x y lt = omega arith
   stop_within q a (p ∷ b) x y lt = elim (cases_order (length a) (length b)) [
     | inl e ↦
         let s : a ≡ b = same_passes a b x.0 y.0 e in
-        let m : IsMove code lead (along code past b) q = rw s at x.1 in
-        let same : q ≡ p = one_move code lead (along code past b) q p m y.1 in
-        let stopped : stops code lead.bits aim (along code past (p ∷ b)) ≡ true = rw (s, same) at x.2 in
-        let stays : stops code lead.bits aim (along code past (p ∷ b)) ≡ false = y.2 in
+        let m : IsMove code lead (place_along code past b) q = rw s at x.1 in
+        let same : q ≡ p = one_move code lead (place_along code past b) q p m y.1 in
+        let stopped : stops code lead.bits aim (place_along code past (p ∷ b)) ≡ true = rw (s, same) at x.2 in
+        let stays : stops code lead.bits aim (place_along code past (p ∷ b)) ≡ false = y.2 in
         cc
     | inr (inl l) ↦ stop_within q a b x y.0 l
     | inr (inr l) ↦ omega arith
@@ -63,21 +63,21 @@ module _ (code : Code) (lead : Lead) (aim : Aim) (past : Place) where
   same_reach (p ∷ a) (q ∷ b) x y = elim (cases_order (length a) (length b)) [
     | inl e ↦
         let s : a ≡ b = same_passes a b x.0 y.0 e in
-        let m : IsMove code lead (along code past b) p = rw s at x.1 in
-        let n : p ≡ q = one_move code lead (along code past b) p q m y.1 in
+        let m : IsMove code lead (place_along code past b) p = rw s at x.1 in
+        let n : p ≡ q = one_move code lead (place_along code past b) p q m y.1 in
         cc
     | inr (inl l) ↦ absurd (stop_within p a b x y.0 l)
     | inr (inr l) ↦ absurd (stop_within q b a y x.0 l)
   ]
 
   -- no leg goes on past a blocked one
-  blocked_within : (a b : List StepRow) (e : PathFault) → Blocked a e → Passes code (heading_by lead aim) past b → length a < length b → ⊥
+  blocked_within : (a b : List StepRow) (e : PathFault) → Blocked a e → LegPasses code (heading_by lead aim) past b → length a < length b → ⊥
   blocked_within a [] e x y lt = omega arith
   blocked_within a (q ∷ b) e x y lt = elim (cases_order (length a) (length b)) [
     | inl i ↦
         let s : a ≡ b = same_passes a b x.0 y.0 i in
-        let n : next_of code lead (along code past b) ≡ Err e = rw s at x.1 in
-        let m : next_of code lead (along code past b) ≡ Ok q.next = y.1.next in
+        let n : next_of code lead (place_along code past b) ≡ Err e = rw s at x.1 in
+        let m : next_of code lead (place_along code past b) ≡ Ok q.next = y.1.next in
         cc
     | inr (inl l) ↦ blocked_within a b e x y.0 l
     | inr (inr l) ↦ omega arith
@@ -87,8 +87,8 @@ module _ (code : Code) (lead : Lead) (aim : Aim) (past : Place) where
   same_block a b d e x y = elim (cases_order (length a) (length b)) [
     | inl i ↦
         let s : a ≡ b = same_passes a b x.0 y.0 i in
-        let n : next_of code lead (along code past b) ≡ Err d = rw s at x.1 in
-        let m : next_of code lead (along code past b) ≡ Err e = y.1 in
+        let n : next_of code lead (place_along code past b) ≡ Err d = rw s at x.1 in
+        let m : next_of code lead (place_along code past b) ≡ Err e = y.1 in
         cc
     | inr (inl l) ↦ absurd (blocked_within a b d x y.0 l)
     | inr (inr l) ↦ absurd (blocked_within b a e y x.0 l)
@@ -99,8 +99,8 @@ module _ (code : Code) (lead : Lead) (aim : Aim) (past : Place) where
   reach_or_block (q ∷ a) b e x y = elim (cases_order (length a) (length b)) [
     | inl i ↦
         let s : a ≡ b = same_passes a b x.0 y.0 i in
-        let n : next_of code lead (along code past b) ≡ Ok q.next = rw s at x.1.next in
-        let m : next_of code lead (along code past b) ≡ Err e = y.1 in
+        let n : next_of code lead (place_along code past b) ≡ Ok q.next = rw s at x.1.next in
+        let m : next_of code lead (place_along code past b) ≡ Err e = y.1 in
         cc
     | inr (inl l) ↦ stop_within q a b x y.0 l
     | inr (inr l) ↦ blocked_within b a e y x.0 l
@@ -114,8 +114,8 @@ module _ (code : Code) (lead : Lead) (aim : Aim) (past : Place) where
     | inl f ↦ reach_or_block a f.leg e x.reaches (f.passes, f.blocked)
     | inr f ↦
         let s : a ≡ f.leg = same_reach a f.leg x.reaches f.reaches in
-        let n : misfits code lead.bits aim (along code past f.leg) ≡ false = rw s at x.fits in
-        let m : misfits code lead.bits aim (along code past f.leg) ≡ true = f.left in
+        let n : misfits code lead.bits aim (place_along code past f.leg) ≡ false = rw s at x.fits in
+        let m : misfits code lead.bits aim (place_along code past f.leg) ≡ true = f.left in
         cc
   ]
 
@@ -126,7 +126,7 @@ module _ (code : Code) (lead : Lead) (aim : Aim) (past : Place) where
       | inl g ↦ absurd (reach_or_block f.leg g.leg e f.reaches (g.passes, g.blocked))
       | inr g ↦
           let s : f.leg ≡ g.leg = same_reach f.leg g.leg f.reaches g.reaches in
-          f.fault ∙ ap (λ (leg : List StepRow). BranchesLeft lead.packet (unused lead.bits (along code past leg))) s ∙ sym g.fault
+          f.fault ∙ ap (λ (leg : List StepRow). BranchesLeft lead.packet (unused lead.bits (place_along code past leg))) s ∙ sym g.fault
     ]
   ]
 

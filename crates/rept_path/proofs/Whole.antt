@@ -18,7 +18,7 @@ use Rattle.rept_path.specs.Route.{place, alone, earlier_by}
 use Rattle.rept_path.specs.State.{here, standing, Stands, Crossed, from_to}
 use Rattle.rept_path.specs.Trace.{starts, Window, IsWindow, StopsAt}
 use Rattle.rept_path.specs.Survey.{number_in, IsThere, Surveys}
-use Rattle.rept_path.specs.Traced.{IsUntraced, pc_of, IsTraced, raw_by}
+use Rattle.rept_path.specs.Traced.{IsUntraced, pc_of, IsTracedPath, raw_by}
 
 pub get_drop : (xs : List Packet) (n : ℕ) → slice_get (drop n xs) 0 ≡ slice_get xs n
 get_drop [] zero = refl
@@ -66,7 +66,7 @@ module _ (packets : Packets) (from : ℕ) (list : List Packet) (s : Survey) (b :
             inr (inr (list, found.hold, inr (b.number, window, inr (record { legs = st.0; route = st.1.route; end = (let g = rw st.1.room at f in rw (← st.1.seen, ← st.1.bits, ← found.count) g) }))))
       ]
 
-      pub joined : (new : Walk) → Crossed (code_of program) (record { address = pc_of program.dump; otherwise = End w.at (pc_of program.dump) }) (from_to s.count w new) → IsTraced (raw_by packets program from) b.number new.steps
+      pub joined : (new : Walk) → Crossed (code_of program) (record { address = pc_of program.dump; otherwise = End w.at (pc_of program.dump) }) (from_to s.count w new) → IsTracedPath (raw_by packets program from) b.number new.steps
       joined new x =
           let st = stands in
           let rows : (here w).rows ≡ (place (code_of program) (reverse (drop b.number list)) st.0).rows = ap (λ p. p.rows) st.1.seen in (

@@ -27,9 +27,9 @@ pub record Place : Type 0 where
 abbrev pub after : Code → Place → StepRow → Place
 after code p row = record { at = row.next; rows = row ∷ p.rows; branches = p.branches + branches_at code row.at }
 
-abbrev pub along : Code → Place → List StepRow → Place
-along code p [] = p
-along code p (row ∷ leg) = after code (along code p leg) row
+abbrev pub place_along : Code → Place → List StepRow → Place
+place_along code p [] = p
+place_along code p (row ∷ leg) = after code (place_along code p leg) row
 
 -- what leads the moves: the packet's number, where an uninferable jump goes, all branch bits of the stretch, and how many rows the
 -- route may have
@@ -56,11 +56,11 @@ abbrev pub heading_by : Lead → Aim → Heading
 heading_by lead aim = record { lead = lead; aim = aim }
 
 -- what the trace says of the way on from a position: the bit of a branch there, and where an uninferable jump goes
-pub record Way : Type 0 where
+pub record WayOn : Type 0 where
   pub bit : Option Bool
   pub target : Option ℕ
 
-abbrev pub way_by : Option Bool → Option ℕ → Way
+abbrev pub way_by : Option Bool → Option ℕ → WayOn
 way_by bit target = record { bit = bit; target = target }
 
 -- a position, and the address of the instruction that follows the one there
@@ -81,7 +81,7 @@ by_target k p None = Err (JumpInMap k p)
 by_target k p (Some a) = Ok a
 
 -- the address after p in packet k, by what stands at p and the way on
-abbrev pub successor : ℕ → Site → Flow → Way → Result ℕ PathFault
+abbrev pub successor : ℕ → Site → Flow → WayOn → Result ℕ PathFault
 successor k p Plain way = Ok p.onward
 successor k p (Jump imm) way = Ok (plus p.at imm)
 successor k p (Fixed a) way = Ok a

@@ -12,7 +12,7 @@ use Rattle.rept_trace.specs.declared.packet.Packet.{Packet}
 use Rattle.rept_trace.specs.declared.packet.Packet.TheVariants.{Start, Context, Support, Address, Map, MapAddress}
 use Rattle.rept_path.specs.Code.{sum}
 use Rattle.rept_path.specs.Packets.{bits, bits_of, reported, reported_after, waiting, begins}
-use Rattle.rept_path.specs.Moves.{Lead, Heading, heading_by, Place, Stand, along, position, is_inferred}
+use Rattle.rept_path.specs.Moves.{Lead, Heading, heading_by, Place, Stand, place_along, position, is_inferred}
 use Rattle.rept_path.specs.Legs.{PhaseLeg, PhaseFault}
 use Rattle.rept_path.specs.Gap.{gap_to_start}
 
@@ -31,7 +31,7 @@ heading_of s phase = heading_by (lead_of s phase) phase.aim
 
 -- the same packet and bits, after a leg
 abbrev pub further : Code → Stand → List StepRow → Stand
-further code s leg = record { packet = s.packet; bits = s.bits; place = along code s.place leg; room = s.room }
+further code s leg = record { packet = s.packet; bits = s.bits; place = place_along code s.place leg; room = s.room }
 
 -- The leg is made of those of the phases, each from where the one before it stopped.
 abbrev pub PhaseLegs : Code → Stand → List Phase → List StepRow → Type 0
@@ -61,13 +61,13 @@ phases_of (Support enabled TraceLost) marked before = []
 phases_of (Support enabled EndedNtr) marked before = first_phase marked before
 
 -- where a packet and its leg bring the walk: all branch bits of the stretch, the reported address and the place
-pub record Arrival : Type 0 where
+pub record LegArrival : Type 0 where
   pub bits : List Bool
   pub reported : ℕ
   pub place : Place
 
 -- the mark after a packet, from the one before it
-abbrev pub mark_after : Code → Packet → Bool → Arrival → Bool
+abbrev pub mark_after : Code → Packet → Bool → LegArrival → Bool
 mark_after code (Start branch privilege a time context) marked x = false
 mark_after code (Address report) marked x = is_inferred code x.bits (aims.Report x.reported report.notify report.updiscon) x.place
 mark_after code (MapAddress count map report) marked x = is_inferred code x.bits (aims.Report x.reported report.notify report.updiscon) x.place
@@ -85,7 +85,7 @@ meets waits place = record { waits = waits; place = place }
 
 -- the place after a packet and its leg
 abbrev pub place_after : Code → Packet → Meeting → List StepRow → Place
-place_after code packet meeting leg = if begins packet meeting.waits then record { at = reported_after packet 0; rows = leg ++ meeting.place.rows; branches = 0 } else along code meeting.place leg
+place_after code packet meeting leg = if begins packet meeting.waits then record { at = reported_after packet 0; rows = leg ++ meeting.place.rows; branches = 0 } else place_along code meeting.place leg
 
 unfoldable pub place : Code → List Packet → List (List StepRow) → Place
 place code [] legs = record { at = 0; rows = []; branches = 0 }
@@ -192,15 +192,15 @@ abbrev pub met_by : Code → Origin → List Packet → List (List StepRow) → 
 met_by code origin packets legs = record { number = origin.number + length packets; bits = bits code packets; reported = reported packets; marked = marked code packets legs; waits = waiting packets; place = place code packets legs; room = origin.room }
 
 -- the packets of a route before a packet, and their legs
-pub record Earlier : Type 0 where
+pub record EarlierPackets : Type 0 where
   pub origin : Origin
   pub packets : List Packet
   pub legs : List (List StepRow)
 
-abbrev pub earlier_by : Origin → List Packet → List (List StepRow) → Earlier
+abbrev pub earlier_by : Origin → List Packet → List (List StepRow) → EarlierPackets
 earlier_by origin packets legs = record { origin = origin; packets = packets; legs = legs }
 
-abbrev pub met_after : Code → Earlier → Met
+abbrev pub met_after : Code → EarlierPackets → Met
 met_after code before = met_by code before.origin before.packets before.legs
 
 -- the first where no packet is earlier, and else the second
@@ -209,11 +209,11 @@ by_first [] A B = A
 by_first (last ∷ earlier) A B = B
 
 -- The packet has this leg, after these packets and their legs.
-abbrev pub Leg : Code → Packet → Earlier → List StepRow → Type 0
+abbrev pub Leg : Code → Packet → EarlierPackets → List StepRow → Type 0
 Leg code packet before leg = by_first before.packets (FirstLeg code packet leg) (LegBy code packet (met_after code before) leg)
 
 -- The packet has no leg, and this is why.
-abbrev pub Fault : Code → Packet → Earlier → PathFault → Type 0
+abbrev pub Fault : Code → Packet → EarlierPackets → PathFault → Type 0
 Fault code packet before e = by_first before.packets (FirstFault code packet e) (FaultBy code packet (met_after code before) e)
 
 -- Each packet has its leg.

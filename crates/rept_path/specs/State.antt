@@ -9,9 +9,9 @@ use Rattle.rept_isa.specs.declared.row.StepRow.{StepRow}
 use Rattle.rept_trace.specs.declared.packet.Packet.{Packet}
 use Rattle.rept_path.specs.declared.walk.Walk.{Walk}
 use Rattle.rept_path.specs.Packets.{bits, bits_of, bits_before, reported, reported_after, waiting, waits_after}
-use Rattle.rept_path.specs.Moves.{Lead, Heading, Place, Stand, along, IsMove}
+use Rattle.rept_path.specs.Moves.{Lead, Heading, Place, Stand, place_along, IsMove}
 use Rattle.rept_path.specs.Legs.{PhaseLeg}
-use Rattle.rept_path.specs.Route.{Phase, PhaseLegs, Met, LegBy, Arrival, Earlier, mark_after, meets, Route, place, place_after, marked}
+use Rattle.rept_path.specs.Route.{Phase, PhaseLegs, Met, LegBy, LegArrival, EarlierPackets, mark_after, meets, Route, place, place_after, marked}
 
 -- where it stands
 abbrev pub here : Walk → Place
@@ -41,37 +41,37 @@ abbrev pub lead : Walk → ℕ → Option ℕ → Lead
 lead w packet target = record { packet = packet; target = target; bits = w.bits.items; room = w.room }
 
 -- one move was made
-pub record Moved (code : Code) (how : Lead) (old new : Walk) : Type 0 where
+pub record MovedWalk (code : Code) (how : Lead) (old new : Walk) : Type 0 where
   pub row : StepRow
   pub move : IsMove code how (here old) row
-  pub seen : here new ≡ along code (here old) (row ∷ [])
+  pub seen : here new ≡ place_along code (here old) (row ∷ [])
   pub counts : Counts new
   pub kept : Keeps old new
   pub grows : old.used ≤ new.used
 
 -- a phase was walked
-pub record Walked (code : Code) (heading : Heading) (old new : Walk) : Type 0 where
+pub record WalkedPhase (code : Code) (heading : Heading) (old new : Walk) : Type 0 where
   pub leg : List StepRow
   pub goes : PhaseLeg code heading (here old) leg
-  pub seen : here new ≡ along code (here old) leg
+  pub seen : here new ≡ place_along code (here old) leg
   pub counts : Counts new
   pub kept : Keeps old new
   pub grows : old.used ≤ new.used
 
 -- a walk before and after what it did at the packet of this number
-pub record Change : Type 0 where
+pub record WalkChange : Type 0 where
   pub packet : ℕ
   pub old : Walk
   pub new : Walk
 
-abbrev pub from_to : ℕ → Walk → Walk → Change
+abbrev pub from_to : ℕ → Walk → Walk → WalkChange
 from_to k old new = record { packet = k; old = old; new = new }
 
 -- phases were walked
-pub record WalkedAll (code : Code) (phases : List Phase) (change : Change) : Type 0 where
+pub record WalkedAll (code : Code) (phases : List Phase) (change : WalkChange) : Type 0 where
   pub leg : List StepRow
   pub goes : PhaseLegs code (standing change.packet change.old) phases leg
-  pub seen : here change.new ≡ along code (here change.old) leg
+  pub seen : here change.new ≡ place_along code (here change.old) leg
   pub counts : Counts change.new
   pub kept : Keeps change.old change.new
   pub grows : change.old.used ≤ change.new.used
@@ -81,11 +81,11 @@ abbrev pub met : ℕ → Walk → Met
 met k w = record { number = k; bits = w.bits.items; reported = w.reported; marked = w.inferred; waits = w.waiting; place = here w; room = w.room }
 
 -- where it has arrived
-abbrev pub arrival : Walk → Arrival
+abbrev pub arrival : Walk → LegArrival
 arrival w = record { bits = w.bits.items; reported = w.reported; place = here w }
 
 -- a packet was followed
-pub record Followed (code : Code) (packet : Packet) (change : Change) : Type 0 where
+pub record Followed (code : Code) (packet : Packet) (change : WalkChange) : Type 0 where
   pub leg : List StepRow
   pub goes : LegBy code packet (met change.packet change.old) leg
   pub seen : here change.new ≡ place_after code packet (meets change.old.waiting (here change.old)) leg
@@ -98,7 +98,7 @@ pub record Followed (code : Code) (packet : Packet) (change : Change) : Type 0 w
   pub room : change.new.room ≡ change.old.room
 
 -- the walk stands at the end of a route
-pub record Stands (code : Code) (passed : Earlier) (w : Walk) : Type 0 where
+pub record Stands (code : Code) (passed : EarlierPackets) (w : Walk) : Type 0 where
   pub route : Route code passed.origin passed.packets passed.legs
   pub seen : here w ≡ place code passed.packets passed.legs
   pub counts : Counts w
@@ -110,7 +110,7 @@ pub record Stands (code : Code) (passed : Earlier) (w : Walk) : Type 0 where
   pub room : w.room ≡ passed.origin.room
 
 -- the rows of a gap were added
-pub record Crossed (code : Code) (goal : Goal) (change : Change) : Type 0 where
+pub record Crossed (code : Code) (goal : Goal) (change : WalkChange) : Type 0 where
   pub rows : List StepRow
   pub crosses : gap code (standing change.packet change.old) goal ≡ Ok rows
   pub seen : reverse change.new.steps ≡ rows ++ reverse change.old.steps

@@ -60,20 +60,20 @@ abbrev pub nothing : Origin → Met
 nothing origin = record { number = origin.number; bits = []; reported = 0; marked = false; waits = true; place = record { at = 0; rows = []; branches = 0 }; room = origin.room }
 
 -- an index in a path, and what the next packet is met by there
-pub record Meeting : Type 0 where
+pub record PathMeeting : Type 0 where
   pub path : List StepRow
   pub index : ℕ
   pub met : Met
 
 -- the section from there to a later index, and what the packet of that section leaves
-abbrev pub section_to : Meeting → ℕ → Section
+abbrev pub section_to : PathMeeting → ℕ → Section
 section_to meeting j = record { path = meeting.path; from = meeting.index; to = j }
 
-abbrev pub meeting_after : Code → Packet → Meeting → ℕ → Meeting
+abbrev pub meeting_after : Code → Packet → PathMeeting → ℕ → PathMeeting
 meeting_after code packet meeting j = record { path = meeting.path; index = j; met = left_by code packet meeting.met (rows_in (section_to meeting j)) }
 
 -- Each packet has one stop, at or after that of the packet before it. The rows from the last stop on lead to the end.
-abbrev pub StopsFrom : TracedRun → List Packet → Meeting → List ℕ → Type 0
+abbrev pub StopsFrom : TracedRun → List Packet → PathMeeting → List ℕ → Type 0
 StopsFrom run [] meeting [] = gap_to_end run.code (stand_of meeting.met) run.pc ≡ Ok (reverse (drop meeting.index meeting.path))
 StopsFrom run [] meeting (j ∷ stops) = ⊥
 StopsFrom run (packet ∷ later) meeting [] = ⊥

@@ -81,7 +81,7 @@ pub record StopsAtEnd (run : TracedRun) (skipped : ℕ) (e : PathFault) : Type 0
   pub route : Route run.code (alone skipped) (newest_first run skipped) legs
   pub end : gap_to_end run.code (last_stand run skipped legs) run.pc ≡ Err e
 
-abbrev pub IsRefused : TracedRun → PathFault → Type 0
-IsRefused run e =
+abbrev pub HasNoPathOfPackets : TracedRun → PathFault → Type 0
+HasNoPathOfPackets run e =
     (IsWindow run.packets run.from None × (e ≡ NoStart (length run.packets)))
     ⊎ ((skipped : ℕ) × Window run.packets run.from skipped × (StopsAt run.code (alone skipped) (drop skipped run.packets) e ⊎ StopsAtEnd run skipped e))

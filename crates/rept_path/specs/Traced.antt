@@ -15,7 +15,7 @@ use Rattle.rept_trace.specs.Packets.{rest_of, number_of}
 use Rattle.rept_trace.specs.Stream.{Stream, Hold, FailsAfter}
 use Rattle.rept_path.specs.declared.fault.PathFault.{PathFault}
 use Rattle.rept_path.specs.declared.fault.PathFault.TheVariants as fault
-use Rattle.rept_path.specs.Trace.{TracedRun, IsPath, IsRefused}
+use Rattle.rept_path.specs.Trace.{TracedRun, IsPath, HasNoPathOfPackets}
 
 -- the program counter of a dump, as its register note holds it
 abbrev pub pc_of : Dump → ℕ
@@ -34,14 +34,14 @@ abbrev pub with_packets : RawRun → List Packet → TracedRun
 with_packets raw list = record { code = raw.code; packets = list; from = raw.from; pc = raw.pc }
 
 -- The stream holds whole packets, and this is their path over the program to the end.
-abbrev pub IsTraced : RawRun → ℕ → List StepRow → Type 0
-IsTraced raw skipped path = (list : List Packet) × Hold raw.stream list × IsPath (with_packets raw list) skipped path
+abbrev pub IsTracedPath : RawRun → ℕ → List StepRow → Type 0
+IsTracedPath raw skipped path = (list : List Packet) × Hold raw.stream list × IsPath (with_packets raw list) skipped path
 
 -- A packet is refused, of which the first has this number. Or all are whole, and they have no path to the end.
 abbrev pub IsUntraced : RawRun → ℕ → PathFault → Type 0
 IsUntraced raw number e =
     ((list : List Packet) × (refused : TraceFault) × FailsAfter number raw.stream list refused × (e ≡ fault.Packet refused))
-    ⊎ ((list : List Packet) × Hold raw.stream list × IsRefused (with_packets raw list) e)
+    ⊎ ((list : List Packet) × Hold raw.stream list × HasNoPathOfPackets (with_packets raw list) e)
 
 -- the code of a dump's program, which may be compressed where the packets say so
 abbrev pub code_over : Packets → Dump → Code

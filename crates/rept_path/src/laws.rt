@@ -16,7 +16,7 @@ ghost use Rattle.rept_path.specs.Legs.{Reaches};
 ghost use Rattle.rept_path.specs.Index.{LeastStop};
 ghost use Rattle.rept_path.specs.Stops.{StopIndices};
 ghost use Rattle.rept_path.specs.Trace.{TracedRun, IsPath};
-ghost use Rattle.rept_path.specs.Traced.{IsTraced, IsRefusedBy, raw_of};
+ghost use Rattle.rept_path.specs.Traced.{IsTracedPath, IsRefusedBy, raw_of};
 
 /// A leg ends at the least later index at which the walk stops, and only such a leg is one.
 pub fn least_stop()
@@ -32,9 +32,9 @@ pub fn stop_indices()
 
 /// A trace has at most one path over a program, or one refusal, and never both.
 pub fn one_answer()
-    ensures path { (packets : Packets) (dump : Dump) (from : ℕ) (i j : ℕ) (a b : List StepRow) → IsTraced (raw_of packets dump from) i a → IsTraced (raw_of packets dump from) j b → (i ≡ j) × (a ≡ b) }
+    ensures path { (packets : Packets) (dump : Dump) (from : ℕ) (i j : ℕ) (a b : List StepRow) → IsTracedPath (raw_of packets dump from) i a → IsTracedPath (raw_of packets dump from) j b → (i ≡ j) × (a ≡ b) }
     ensures refusal { (packets : Packets) (dump : Dump) (from : ℕ) (d e : PathFault) → IsRefusedBy packets dump from d → IsRefusedBy packets dump from e → d ≡ e }
-    ensures either { (packets : Packets) (dump : Dump) (from : ℕ) (i : ℕ) (a : List StepRow) (e : PathFault) → IsTraced (raw_of packets dump from) i a → IsRefusedBy packets dump from e → ⊥ }
+    ensures either { (packets : Packets) (dump : Dump) (from : ℕ) (i : ℕ) (a : List StepRow) (e : PathFault) → IsTracedPath (raw_of packets dump from) i a → IsRefusedBy packets dump from e → ⊥ }
 {}
 
 /// The instruction at a step of a path that isn't short is the one that the word there spells.

@@ -15,9 +15,9 @@ ghost use Rattle.rept_path.specs.Route.{alone, earlier_by};
 ghost use Rattle.rept_path.specs.Rows.{CarryCode};
 ghost use Rattle.rept_path.specs.State.{Stands};
 ghost use Rattle.rept_path.specs.Stops.{HaveStops};
-ghost use Rattle.rept_path.specs.Trace.{starts, StopsAt, IsPath, IsRefused};
+ghost use Rattle.rept_path.specs.Trace.{starts, StopsAt, IsPath, HasNoPathOfPackets};
 ghost use Rattle.rept_path.specs.Program.{code_of};
-ghost use Rattle.rept_path.specs.Traced.{pc_of, code_over, IsTraced, IsUntraced, IsRefusedBy, raw_of, raw_by};
+ghost use Rattle.rept_path.specs.Traced.{pc_of, code_over, IsTracedPath, IsUntraced, IsRefusedBy, raw_of, raw_by};
 
 use crate::fault::PathFault;
 use crate::program::Program;
@@ -64,7 +64,7 @@ fn rebuild_program(
     from: u32,
 ) -> Result<Path, PathFault>
     requires { length (rest_of packets).bytes < 2 ^ 32 }
-    ensures path { IfOk result (λ path. IsTraced (raw_by packets.entry program.now from) path.skipped path.steps) }
+    ensures path { IfOk result (λ path. IsTracedPath (raw_by packets.entry program.now from) path.skipped path.steps) }
     ensures some { IfOk result (λ path. 0 < length path.steps) }
     ensures linked { IfOk result (λ path. AreLinked path.steps) }
     ensures ends { IfOk result (λ path. EndBefore path.steps (pc_of program.now.dump)) }
@@ -99,7 +99,7 @@ fn rebuild_once(
     from: u32,
 ) -> Result<Path, PathFault>
     requires { length (rest_of packets).bytes < 2 ^ 32 }
-    ensures path { IfOk result (λ path. IsTraced (raw_of packets.entry dump.now from) path.skipped path.steps) }
+    ensures path { IfOk result (λ path. IsTracedPath (raw_of packets.entry dump.now from) path.skipped path.steps) }
     ensures some { IfOk result (λ path. 0 < length path.steps) }
     ensures linked { IfOk result (λ path. AreLinked path.steps) }
     ensures ends { IfOk result (λ path. EndBefore path.steps (pc_of dump.now)) }
@@ -125,7 +125,7 @@ pub fn rebuild(
     from: u32,
 ) -> Result<Path, PathFault>
     requires { length (rest_of packets).bytes < 2 ^ 32 }
-    ensures path { IfOk result (λ path. IsTraced (raw_of packets.entry dump.now from) path.skipped path.steps) }
+    ensures path { IfOk result (λ path. IsTracedPath (raw_of packets.entry dump.now from) path.skipped path.steps) }
     ensures some { IfOk result (λ path. 0 < length path.steps) }
     ensures linked { IfOk result (λ path. AreLinked path.steps) }
     ensures ends { IfOk result (λ path. EndBefore path.steps (pc_of dump.now)) }
@@ -136,12 +136,12 @@ pub fn rebuild(
     ensures stops { IfOk result (λ path. HaveStops (raw_of packets.entry dump.now from) path.skipped path.steps) }
 
     // There is no other path, and no other refusal. Want of memory is none of the definition's.
-    ensures only_path { (skipped : ℕ) (rows : List StepRow) → IsTraced (raw_of packets.entry dump.now from) skipped rows → MatchResult result (λ path. (path.skipped ≡ skipped) × (path.steps ≡ rows)) (λ e. e ≡ OutOfMemory) }
+    ensures only_path { (skipped : ℕ) (rows : List StepRow) → IsTracedPath (raw_of packets.entry dump.now from) skipped rows → MatchResult result (λ path. (path.skipped ≡ skipped) × (path.steps ≡ rows)) (λ e. e ≡ OutOfMemory) }
     ensures only_refusal { (fault : PathFault) → IsRefusedBy packets.entry dump.now from fault → MatchResult result (λ _. ⊥) (λ e. (e ≡ OutOfMemory) ⊎ (e ≡ fault)) }
     ensures other { (fault : PathFault) → IsRefusedBy packets.entry dump.now from fault → fault ≢ OutOfMemory }
 
     // There is a path or a refusal.
-    ensures decided { ((skipped : ℕ) × (rows : List StepRow) × IsTraced (raw_of packets.entry dump.now from) skipped rows) ⊎ ((fault : PathFault) × IsRefusedBy packets.entry dump.now from fault) }
+    ensures decided { ((skipped : ℕ) × (rows : List StepRow) × IsTracedPath (raw_of packets.entry dump.now from) skipped rows) ⊎ ((fault : PathFault) × IsRefusedBy packets.entry dump.now from fault) }
 {
     rebuild_once(alloc, packets, dump, from)
 }

@@ -10,7 +10,7 @@ ghost use Rattle.rept_isa.specs.declared.row.StepRow.{StepRow};
 ghost use Rattle.rept_path.specs.Route.{first_phase, PhasesFault, RunningFault, WaitingFault, FaultBy, FirstFault, earlier_by};
 ghost use Rattle.rept_path.specs.Trace.{starts};
 ghost use Rattle.rept_path.specs.Program.{code_of};
-ghost use Rattle.rept_path.specs.State.{here, standing, Counts, lead, met, Moved, Walked, WalkedAll, Followed, Stands, Crossed, ends_fit, from_to};
+ghost use Rattle.rept_path.specs.State.{here, standing, Counts, lead, met, MovedWalk, WalkedPhase, WalkedAll, Followed, Stands, Crossed, ends_fit, from_to};
 ghost use Rattle.rept_path.specs.Crossed.{rows_of, LeadAcross};
 
 use crate::aim::Aim;
@@ -300,7 +300,7 @@ impl Walk {
         target: Option<u32>,
     ) -> Result<(), PathFault>
         requires { Counts self.old }
-        ensures ok { OnOk result (Moved (code_of program.now) (lead self.old packet target) self.old self.new) }
+        ensures ok { OnOk result (MovedWalk (code_of program.now) (lead self.old packet target) self.old self.new) }
         ensures err { IfErr result (λ e. (e ≡ OutOfMemory) ⊎ (next_of (code_of program.now) (lead self.old packet target) (here self.old) ≡ Err e)) }
     {
         let instr = match look(program, self.at) {
@@ -333,7 +333,7 @@ impl Walk {
     ) -> Result<(), PathFault>
         requires { Counts self.old }
         ensures same { code_of near.new ≡ code_of near.old }
-        ensures ok { OnOk result (Moved (code_of near.old) (lead self.old packet target) self.old self.new) }
+        ensures ok { OnOk result (MovedWalk (code_of near.old) (lead self.old packet target) self.old self.new) }
         ensures err { IfErr result (λ e. (e ≡ OutOfMemory) ⊎ (next_of (code_of near.old) (lead self.old packet target) (here self.old) ≡ Err e)) }
     {
         self.move_on(near, packet, target)?;
@@ -350,7 +350,7 @@ impl Walk {
         aim: Aim,
     ) -> Result<(), PathFault>
         requires { Counts self.old }
-        ensures ok { OnOk result (Walked (code_of program.now) (heading_by (lead self.old packet target) aim) self.old self.new) }
+        ensures ok { OnOk result (WalkedPhase (code_of program.now) (heading_by (lead self.old packet target) aim) self.old self.new) }
         ensures err { IfErr result (λ e. (e ≡ OutOfMemory) ⊎ PhaseFault (code_of program.now) (heading_by (lead self.old packet target) aim) (here self.old) e) }
         ensures rests { OnOk result (ends_fit aim ≡ true → length self.new.bits.items ≤ self.new.used + 1) }
     {

@@ -3,7 +3,7 @@
 ghost use Rattle.std.specs.Prelude.{◌≡◌, ◌⊎◌, ◌<◌, ◌^◌, ◌∷◌, ◌++◌, [], List, ℕ, length, Ok, Some, None, IfOk, IfErr, IfSome, IfNone};
 ghost use Rattle.rept_trace.specs.declared.packet.Packet.{Packet};
 ghost use Rattle.rept_trace.specs.Packets.{rest_of, number_of};
-ghost use Rattle.rept_trace.specs.Stream.{Hold, FailsAfter, Answers};
+ghost use Rattle.rept_trace.specs.Stream.{Hold, FailsAfter, AnswersNext};
 ghost use Rattle.rept_path.specs.Trace.{IsWindow, starts, loses};
 ghost use Rattle.rept_path.specs.Survey.{number_in, Surveys};
 
@@ -79,8 +79,8 @@ fn begin_after<'a>(
 /// The next packet of bytes that hold whole packets alone.
 pub fn next_packet(rest: &mut Packets<'_>) -> Option<Packet>
     requires { (more : List Packet) × Hold (rest_of rest.old) more }
-    ensures some { IfSome result (λ packet. Answers (number_of rest.old) (rest_of rest.old) (Ok (Some packet)) (number_of rest.new) (rest_of rest.new)) }
-    ensures none { IfNone result (Answers (number_of rest.old) (rest_of rest.old) (Ok None) (number_of rest.new) (rest_of rest.new)) }
+    ensures some { IfSome result (λ packet. AnswersNext (number_of rest.old) (rest_of rest.old) (Ok (Some packet)) (number_of rest.new) (rest_of rest.new)) }
+    ensures none { IfNone result (AnswersNext (number_of rest.old) (rest_of rest.old) (Ok None) (number_of rest.new) (rest_of rest.new)) }
 {
     if let Ok(next) = rest.next() {
         return next;

@@ -4,7 +4,7 @@ use Rattle.std.proofs.lemmas.Bool.{cases_lt, lt-ltb, le-ltb}
 use Rattle.std.proofs.lemmas.Option.{slice_get_cases}
 use Rattle.rept_isa.specs.declared.row.StepRow.{StepRow}
 use Rattle.rept_steps.specs.declared.threads.ThreadRows.{ThreadRows}
-use Rattle.rept_steps.specs.Course.{Course, Row, row_of, rows_of, IsRow, IsSound}
+use Rattle.rept_steps.specs.Course.{Course, Row, row_of, rows_of, IsRow, IsSoundCourse}
 use Rattle.rept_order.specs.Moments.{Moment, IsMoment, Stretch, stretch, ArePause, AreOne}
 use Rattle.rept_order.specs.Moments.Moment.{before, after, at_end}
 use Rattle.rept_order.specs.Moments.ArePause.{between, last}
@@ -14,7 +14,7 @@ use Rattle.rept_report.specs.Moments.{points_of}
 use Rattle.rept_course.specs.Names.{AreNames}
 use Rattle.rept_course.specs.Numbered.{legs_on}
 use Rattle.rept_moments.specs.Numbers.{numbers_of}
-use Rattle.rept_moments.specs.Seen.{Seen, seen, seen_by, seen_alone, seen_many, alone_by, moment_by, moment_in}
+use Rattle.rept_moments.specs.Seen.{SeenMoments, seen, seen_by, seen_alone, seen_many, alone_by, moment_by, moment_in}
 use Rattle.rept_moments.proofs.Apart.{are_numbers, no_pause}
 use Rattle.rept_session.specs.declared.place.Place.TheVariants as places
 use Rattle.rept_session.specs.declared.place.ThreadPlace.{ThreadPlace}
@@ -68,10 +68,10 @@ module _ (C : Course) where
     end_one : end_on C ≡ point_named 0 (length rows)
     end_one =
         ap (λ (threads : List ThreadRows). if length threads == 1 then point_named 0 (seen C).legs.count else record { thread = 0; place = places.End }) one.is
-        ∙ ap (λ (x : Seen). point_named 0 x.legs.count) seen_one
+        ∙ ap (λ (x : SeenMoments). point_named 0 x.legs.count) seen_one
 
     moment_one : (p : ℕ) → p ≤ length rows → moment_in (seen C) (number_of C 0 p) ≡ p
-    moment_one p few = ap (λ (x : Seen). moment_in x (number_of C 0 p)) seen_one ∙ ap (moment_in (seen_alone rows)) (zero-add p) ∙ moment_alone rows p few
+    moment_one p few = ap (λ (x : SeenMoments). moment_in x (number_of C 0 p)) seen_one ∙ ap (moment_in (seen_alone rows)) (zero-add p) ∙ moment_alone rows p few
 
     -- its only thread is the first one, and has these rows
     thread_one : (t : ℕ) → t < length C.threads → t ≡ 0
@@ -82,7 +82,7 @@ module _ (C : Course) where
 
     moments_one : (m : ℕ) → m ≤ (seen C).moments.end → place_number C (place_on C m) ≡ m
     moments_one m few =
-        let end : (seen C).moments.end ≡ length rows = ap (λ (x : Seen). x.moments.end) seen_one in
+        let end : (seen C).moments.end ≡ length rows = ap (λ (x : SeenMoments). x.moments.end) seen_one in
         elim (cases_lt m (length rows)) [
           | inl less ↦ ap (place_number C) (place_low m less) ∙ moment_one m (omega arith)
           | inr past ↦
@@ -103,15 +103,15 @@ module _ (C : Course) where
         let first = thread_one t (thread_inside C (row_of t i) is) in
         let own : length (rows_of C t) ≡ length rows = ap (λ (k : ℕ). length (rows_of C k)) first ∙ ap (λ (xs : List StepRow). length xs) rows_one in
         let number : number_of C t i ≡ i = ap (λ (k : ℕ). number_of C k i) first ∙ zero-add i in
-        ap (λ (x : Seen). x.moments.after (number_of C t i)) seen_one
+        ap (λ (x : SeenMoments). x.moments.after (number_of C t i)) seen_one
         ∙ ap (λ (k : ℕ). k + 1) number
         ∙ sym (moment_alone rows (i + 1) (omega arith))
         ∙ ap (λ (k : ℕ). moment_in (seen_alone rows) (k + 1)) (sym number)
-        ∙ ap (λ (x : Seen). moment_in x (number_of C t i + 1)) (sym seen_one)
+        ∙ ap (λ (x : SeenMoments). moment_in x (number_of C t i + 1)) (sym seen_one)
 
     end_is_one : place_on C (seen C).moments.end ≡ end_on C
     end_is_one =
-        let end : (seen C).moments.end ≡ length rows = ap (λ (x : Seen). x.moments.end) seen_one in
+        let end : (seen C).moments.end ≡ length rows = ap (λ (x : SeenMoments). x.moments.end) seen_one in
         place_high (seen C).moments.end (omega arith)
 
     last_point_one : (t : ℕ) → t < length C.threads → place_number C (point_named t (length (rows_of C t))) ≡ (seen C).moments.end
@@ -119,7 +119,7 @@ module _ (C : Course) where
         ap (λ (k : ℕ). place_number C (point_named k (length (rows_of C k)))) (thread_one t below)
         ∙ ap (λ (xs : List StepRow). place_number C (point_named 0 (length xs))) rows_one
         ∙ moment_one (length rows) (omega arith)
-        ∙ ap (λ (x : Seen). x.moments.end) (sym seen_one)
+        ∙ ap (λ (x : SeenMoments). x.moments.end) (sym seen_one)
 
   -- of any other run
   module _ (e : alone_by C.threads C.dark ≡ None) where
@@ -131,25 +131,25 @@ module _ (C : Course) where
 
     end_number_by : (several : Bool) → place_number C (if several then point_named 0 (seen C).legs.count else record { thread = 0; place = places.End }) ≡ (numbers_of C).end
     end_number_by true =
-        ap (λ (x : Seen). moment_in x (number_of C 0 x.legs.count)) seen_more
+        ap (λ (x : SeenMoments). moment_in x (number_of C 0 x.legs.count)) seen_more
         ∙ last_of_all C (number_of C 0 (legs_on C).count) (omega arith)
-    end_number_by false = ap (λ (x : Seen). x.moments.end) seen_more
+    end_number_by false = ap (λ (x : SeenMoments). x.moments.end) seen_more
 
     end_number : place_number C (end_on C) ≡ (numbers_of C).end
     end_number = end_number_by (length C.threads == 1)
 
-    module _ (sound : IsSound C) where
+    module _ (sound : IsSoundCourse C) where
       names : AreNames C (numbers_of C)
       names = are_numbers C sound
 
       number_named : (x : Moment) → IsMoment C x → place_number C (named_on C x) ≡ (numbers_of C).name x
-      number_named (before r) is = ap (λ (x : Seen). moment_in x (number_of C r.thread r.step)) seen_more ∙ before_number C r.thread r.step is
-      number_named (after r) is = ap (λ (x : Seen). x.moments.after (number_of C r.thread r.step)) seen_more ∙ after_number C r.thread r.step is
+      number_named (before r) is = ap (λ (x : SeenMoments). moment_in x (number_of C r.thread r.step)) seen_more ∙ before_number C r.thread r.step is
+      number_named (after r) is = ap (λ (x : SeenMoments). x.moments.after (number_of C r.thread r.step)) seen_more ∙ after_number C r.thread r.step is
       number_named at_end is = end_number ∙ sym names.end
 
       moments_more : (m : ℕ) → m ≤ (seen C).moments.end → place_number C (place_on C m) ≡ m
       moments_more m few =
-          let end : (seen C).moments.end ≡ (numbers_of C).end = ap (λ (x : Seen). x.moments.end) seen_more in
+          let end : (seen C).moments.end ≡ (numbers_of C).end = ap (λ (x : SeenMoments). x.moments.end) seen_more in
           let its = names.named m (omega arith) in
           ap (λ (x : Moment). place_number C (named_on C x)) (last_more m) ∙ number_named ((numbers_of C).last m) its.0 ∙ its.1
 
@@ -170,13 +170,13 @@ module _ (C : Course) where
           let row : row_of t i ≡ row_of u k = after_same (ap (λ (y : Stretch). y.from) (sym same ∙ e)) in
           let to : w ≡ before (row_of u (suc k)) = ap (λ (y : Stretch). y.to) (sym same ∙ e) in
           let here : number_of C u (suc k) ≡ number_of C t i + 1 = let next : number_of C u (suc k) ≡ number_of C u k + 1 = omega arith in next ∙ ap (λ (r : Row). number_of C r.thread r.step + 1) (sym row) in
-          ap (numbers_of C).name to ∙ sym (before_number C u (suc k) less) ∙ ap (λ (x : Seen). moment_in x (number_of C u (suc k))) (sym seen_more) ∙ ap (moment_in (seen C)) here
+          ap (numbers_of C).name to ∙ sym (before_number C u (suc k) less) ∙ ap (λ (x : SeenMoments). moment_in x (number_of C u (suc k))) (sym seen_more) ∙ ap (moment_in (seen C)) here
       pause_ends t i is w x same (last u k all e) =
           let row : row_of t i ≡ row_of u k = after_same (ap (λ (y : Stretch). y.from) (sym same ∙ e)) in
           let to : w ≡ at_end = ap (λ (y : Stretch). y.to) (sym same ∙ e) in
           let below = thread_inside C (row_of u k) (omega arith) in
           let here : number_of C u (length (rows_of C u)) ≡ number_of C t i + 1 = let next : number_of C u (length (rows_of C u)) ≡ number_of C u k + 1 = omega arith in next ∙ ap (λ (r : Row). number_of C r.thread r.step + 1) (sym row) in
-          ap (numbers_of C).name to ∙ names.end ∙ sym (last_number C u below) ∙ ap (λ (x : Seen). moment_in x (number_of C u (length (rows_of C u)))) (sym seen_more) ∙ ap (moment_in (seen C)) here
+          ap (numbers_of C).name to ∙ names.end ∙ sym (last_number C u below) ∙ ap (λ (x : SeenMoments). moment_in x (number_of C u (length (rows_of C u)))) (sym seen_more) ∙ ap (moment_in (seen C)) here
 
       after_more : (t i : ℕ) → i < length (rows_of C t) → place_number C (after_named t i) ≢ moment_in (seen C) (number_of C t i + 1) → place_on C (place_number C (after_named t i)) ≡ after_named t i
       after_more t i is other =
@@ -188,38 +188,38 @@ module _ (C : Course) where
       end_is_more : place_on C (seen C).moments.end ≡ end_on C
       end_is_more =
           elim (names.own at_end tt) [
-            | inl own ↦ ap (named_on C) (last_more (seen C).moments.end ∙ ap (numbers_of C).last (ap (λ (x : Seen). x.moments.end) seen_more ∙ sym names.end) ∙ sym own)
+            | inl own ↦ ap (named_on C) (last_more (seen C).moments.end ∙ ap (numbers_of C).last (ap (λ (x : SeenMoments). x.moments.end) seen_more ∙ sym names.end) ∙ sym own)
             | inr same ↦ absurd (no_pause_at_end C ((numbers_of C).last ((numbers_of C).name at_end)) _ refl same.pause)
           ]
 
     last_point_more : (t : ℕ) → t < length C.threads → place_number C (point_named t (length (rows_of C t))) ≡ (seen C).moments.end
     last_point_more t below =
-        ap (λ (x : Seen). moment_in x (number_of C t (length (rows_of C t)))) seen_more
+        ap (λ (x : SeenMoments). moment_in x (number_of C t (length (rows_of C t)))) seen_more
         ∙ last_number C t below
-        ∙ ap (λ (x : Seen). x.moments.end) (sym seen_more)
+        ∙ ap (λ (x : SeenMoments). x.moments.end) (sym seen_more)
 
-  pub moments : IsSound C → (m : ℕ) → m ≤ (seen C).moments.end → place_number C (place_on C m) ≡ m
+  pub moments : IsSoundCourse C → (m : ℕ) → m ≤ (seen C).moments.end → place_number C (place_on C m) ≡ m
   moments sound m few = by_alone (alone_by C.threads C.dark) refl
     where
       by_alone : (o : Option (List StepRow)) → alone_by C.threads C.dark ≡ o → place_number C (place_on C m) ≡ m
       by_alone (Some rows) e = moments_one rows e m few
       by_alone None e = moments_more e sound m few
 
-  pub before_rows : IsSound C → (t i : ℕ) → i < length (rows_of C t) → place_on C (place_number C (point_named t i)) ≡ point_named t i
+  pub before_rows : IsSoundCourse C → (t i : ℕ) → i < length (rows_of C t) → place_on C (place_number C (point_named t i)) ≡ point_named t i
   before_rows sound t i is = by_alone (alone_by C.threads C.dark) refl
     where
       by_alone : (o : Option (List StepRow)) → alone_by C.threads C.dark ≡ o → place_on C (place_number C (point_named t i)) ≡ point_named t i
       by_alone (Some rows) e = before_one rows e t i is
       by_alone None e = before_more e sound t i is
 
-  pub after_rows : IsSound C → (t i : ℕ) → i < length (rows_of C t) → place_number C (after_named t i) ≢ moment_in (seen C) (number_of C t i + 1) → place_on C (place_number C (after_named t i)) ≡ after_named t i
+  pub after_rows : IsSoundCourse C → (t i : ℕ) → i < length (rows_of C t) → place_number C (after_named t i) ≢ moment_in (seen C) (number_of C t i + 1) → place_on C (place_number C (after_named t i)) ≡ after_named t i
   after_rows sound t i is other = by_alone (alone_by C.threads C.dark) refl
     where
       by_alone : (o : Option (List StepRow)) → alone_by C.threads C.dark ≡ o → place_on C (place_number C (after_named t i)) ≡ after_named t i
       by_alone (Some rows) e = absurd (other (after_one rows e t i is))
       by_alone None e = after_more e sound t i is other
 
-  pub ends : IsSound C → place_on C (seen C).moments.end ≡ end_on C
+  pub ends : IsSoundCourse C → place_on C (seen C).moments.end ≡ end_on C
   ends sound = by_alone (alone_by C.threads C.dark) refl
     where
       by_alone : (o : Option (List StepRow)) → alone_by C.threads C.dark ≡ o → place_on C (seen C).moments.end ≡ end_on C

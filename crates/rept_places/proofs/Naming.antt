@@ -8,9 +8,9 @@ use Rattle.rept_steps.specs.declared.threads.ThreadRows.{ThreadRows}
 use Rattle.rept_steps.specs.Course.{Course, Row, row_of, rows_of, row_at, IsRow}
 use Rattle.rept_order.specs.Moments.Moment.{before, after}
 use Rattle.rept_order.specs.Moments.ArePause.{last}
-use Rattle.rept_order.specs.Legs.{point_of, points_before, point_in, number_of, leg_row, row_from}
+use Rattle.rept_order.specs.Legs.{point_of_thread, points_before, point_in, number_of, leg_row, row_from}
 use Rattle.rept_order.proofs.Legs.{point_number, thread_inside}
-use Rattle.rept_course.specs.Names.{Names}
+use Rattle.rept_course.specs.Names.{MomentNames}
 use Rattle.rept_course.specs.Numbered.{row_on, legs_on}
 use Rattle.rept_course.proofs.Naming.{some_is, are_legs}
 use Rattle.rept_moments.specs.declared.course.Course as courses
@@ -43,12 +43,12 @@ is_only (thread ∷ []) (Some d) rows e = absurd (none_some e)
 is_only (thread ∷ other ∷ threads) dark rows e = absurd (none_some e)
 
 -- numbers past the last point
-pub past_points : (threads : List ThreadRows) (g : ℕ) → points_before threads (length threads) ≤ g → point_in threads g ≡ point_of (length threads) (g - points_before threads (length threads))
-past_points [] g past = let same : g ≡ g - 0 = omega arith in ap (point_of 0) same
+pub past_points : (threads : List ThreadRows) (g : ℕ) → points_before threads (length threads) ≤ g → point_in threads g ≡ point_of_thread (length threads) (g - points_before threads (length threads))
+past_points [] g past = let same : g ≡ g - 0 = omega arith in ap (point_of_thread 0) same
 past_points (thread ∷ threads) g past =
     let rest = past_points threads (g - suc (length thread.steps)) (omega arith) in
     let left : g - suc (length thread.steps) - points_before threads (length threads) ≡ g - points_before (thread ∷ threads) (length (thread ∷ threads)) = omega arith in
-    rw (lt-ltb (length thread.steps) g (omega arith), rest) (ap (point_of (suc (length threads))) left)
+    rw (lt-ltb (length thread.steps) g (omega arith), rest) (ap (point_of_thread (suc (length threads))) left)
 
 -- what a course's code has is what its run has
 module _ (C : Course) where

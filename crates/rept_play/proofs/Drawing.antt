@@ -6,12 +6,12 @@ use Rattle.rept_isa.specs.declared.instr.Instr.{Instr}
 use Rattle.rept_isa.specs.Operands.{is_call}
 use Rattle.rept_steps.specs.declared.slice.Slice.{Slice}
 use Rattle.rept_turns.specs.declared.turn.Turn.{Turn}
-use Rattle.rept_turns.specs.Turns.{all_rows, rows_in, slice_by, slices_from, AreSome, AreInOrder, AreApart, AreApartByStream, TakeTime, first_on, BeginTogether}
+use Rattle.rept_turns.specs.Turns.{all_rows, rows_in, slice_by, slices_from, AreSome, AreInOrder, AreTurnsApart, AreApartByStream, TakeTime, first_on, BeginTogether}
 use Rattle.rept_turns.proofs.Places.{rows_own, rows_other, same_turn, none_turn}
 use Rattle.rept_turns.proofs.Slices.{slices_own, slices_other}
 use Rattle.rept_play.specs.declared.draw.Slot.{Slot}
 use Rattle.rept_play.specs.declared.score.Sizes.{Sizes}
-use Rattle.rept_play.specs.Code.{drawn_in, instr_in, IsCode, CallsLast, IsPlayable}
+use Rattle.rept_play.specs.Code.{drawn_in, instr_in, IsPlayCode, CallsLast, IsPlayable}
 use Rattle.rept_play.specs.Drawn.{draw, slot_of, instr_of, made_instr, thread_end, stream_end, last_end, last_begin, to_call, drawn_thread, drawn_stream, drawn_early, drawn_begin, next_turn, drawn_turns}
 use Rattle.rept_play.proofs.Finishing.{jump_in, other_in}
 
@@ -56,7 +56,7 @@ end_later t h turns same = rw (eq-eqb h.thread t same) (omega arith)
 end_rest : (t : ℕ) (h : Turn) (turns : List Turn) → thread_end t turns ≤ thread_end t (h ∷ turns)
 end_rest t h turns = omega arith
 
-apart_more : (turns : List Turn) (b : Turn) → AreApart turns → thread_end b.thread turns ≤ b.begin → AreApart (turns ++ b ∷ [])
+apart_more : (turns : List Turn) (b : Turn) → AreTurnsApart turns → thread_end b.thread turns ≤ b.begin → AreTurnsApart (turns ++ b ∷ [])
 apart_more [] b apart early = (All-nil (λ (later : Turn). later.thread ≡ b.thread → b.end ≤ later.begin), tt)
 apart_more (h ∷ turns) b apart early =
     let rest = end_rest b.thread h turns in
@@ -240,7 +240,7 @@ pub record Good (code : List Instr) (sizes : Sizes) (turns : List Turn) (n : ℕ
   pub threads : All (λ (turn : Turn). turn.thread < 4) turns
   pub some : AreSome turns
   pub order : AreInOrder turns
-  pub apart : AreApart turns
+  pub apart : AreTurnsApart turns
   pub calls : (t : ℕ) → All (CallsLast code t) (slices_from t 0 turns)
   pub few : all_rows turns ≤ 8 * n
   pub streams : All (λ (turn : Turn). turn.stream < sizes.streams) turns
@@ -358,7 +358,7 @@ module _ (code : List Instr) (seed : ℕ) (drawn : (t s : ℕ) → t < 4 → s <
   }
   good (suc n) = good_more n (drawn_turns sizes seed n) (good n)
 
-  pub drawn_playable : (n : ℕ) → n ≤ 64 → IsCode code → IsPlayable code (drawn_turns sizes seed n)
+  pub drawn_playable : (n : ℕ) → n ≤ 64 → IsPlayCode code → IsPlayable code (drawn_turns sizes seed n)
   drawn_playable n small slots = let g = good n in let few = g.few in record { slots = slots; threads = g.threads; some = g.some; order = g.order; apart = g.apart; calls = g.calls; few = omega arith }
 
 pub turns_few : (sizes : Sizes) (seed n : ℕ) → all_rows (drawn_turns sizes seed n) ≤ 8 * n

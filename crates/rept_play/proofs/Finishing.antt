@@ -16,7 +16,7 @@ use Rattle.rept_machine.specs.declared.machine.Machine.{Machine}
 use Rattle.rept_machine.specs.Machine.{state_of}
 use Rattle.rept_steps.specs.declared.slice.Slice.{Slice}
 use Rattle.rept_steps.specs.declared.threads.ThreadRows.{ThreadRows}
-use Rattle.rept_steps.specs.Course.{Course, Row, row_of, rows_of, no_thread, row_at, is_call_row, calls, CallsEnd, IsSound, slice_of}
+use Rattle.rept_steps.specs.Course.{Course, Row, row_of, rows_of, no_thread, row_at, is_call_row, calls, CallsEnd, IsSoundCourse, slice_of}
 use Rattle.rept_order.specs.History.{World, seen_by, OthersKeep, Stays, ExecutesRow, Ending}
 use Rattle.rept_turns.specs.declared.turn.Turn.{Turn}
 use Rattle.rept_turns.specs.Turns.{slice_by, all_rows, rows_in, steps_before, turn_at, HasTurns, slices_from}
@@ -26,8 +26,8 @@ use Rattle.rept_turns.proofs.Slices.{turns_sound, slices_own, slices_other, same
 use Rattle.rept_turns.proofs.Playing.{play_executed}
 use Rattle.rept_play.specs.Shares.{world_of, Owns, sees}
 use Rattle.rept_play.specs.Code.{drawn_in, instr_in, row_in, played_in, CallsLast, IsPlayable, IsThread, AreThreads}
-use Rattle.rept_play.specs.Ran.{Ran, GoesBy, IsStart}
-use Rattle.rept_play.specs.Played.{IsLeft, IsFirst, IsExecutedFrom, IsPlayed, course_until}
+use Rattle.rept_play.specs.Ran.{RanTurns, GoesBy, IsStartState}
+use Rattle.rept_play.specs.Played.{IsPlayLeft, IsFirstWorld, IsExecutedFrom, IsPlayed, course_until}
 use Rattle.rept_play.specs.declared.playing.Played.{Played}
 use Rattle.rept_play.proofs.Sharing.{shared, others_stay, jumps, jumps_alone, share_state, who_sees}
 use Rattle.rept_play.proofs.Turning.{thread_below, no_slices, no_rows}
@@ -131,7 +131,7 @@ module _ (code : List Instr) (turns : List Turn) (played : Played) (playable : I
       let its = in_slice r.thread 0 turns r.step s (CallsLast code r.thread) (playable.calls r.thread) (omega arith) (subst (λ (ss : List Slice). slice_of ss r.step ≡ Some s) (has.slices r.thread) found) in
       its.0 r.step its.1 its.2 (call_there r call)
 
-  module _ (machine : Machine) (ran : Ran code turns (all_rows turns) machine) (saved : (r : ℕ) → r < 32 → slice_index played.registers r ≡ (state_of machine).register r) (held : (i : ℕ) → i < 32 → slice_index played.bytes.items i ≡ (state_of machine).memory (131072 + i)) where
+  module _ (machine : Machine) (ran : RanTurns code turns (all_rows turns) machine) (saved : (r : ℕ) → r < 32 → slice_index played.registers r ≡ (state_of machine).register r) (held : (i : ℕ) → i < 32 → slice_index played.bytes.items i ≡ (state_of machine).memory (131072 + i)) where
     abbrev x : Playing
     x = record { turns = turns; world = λ k. world_of (ran.states k) }
 
@@ -184,14 +184,14 @@ module _ (code : List Instr) (turns : List Turn) (played : Played) (playable : I
     last_share t s v true few own left = ap (λ (u : State). u.register s) ran.now ∙ sym (saved s (seen_small t s few (who_sees t s own))) ∙ left
     last_share t s v false few other left = left
 
-    last_byte : (D : Ending) → IsLeft D played → (a v : ℕ) → D.dump a ≡ Some v → (ran.states (all_rows turns)).memory a ≡ v
+    last_byte : (D : Ending) → IsPlayLeft D played → (a v : ℕ) → D.dump a ≡ Some v → (ran.states (all_rows turns)).memory a ≡ v
     last_byte D left a v dumped =
         let inside = left.inside a v dumped in
         let least = inside.0 in
         let most = inside.1 in
         ap (λ (u : State). u.memory a) ran.now ∙ ap (state_of machine).memory (omega arith) ∙ sym (held (a - 131072) (omega arith)) ∙ left.bytes a v dumped
 
-    plays : (D : Ending) → IsLeft D played → IsPlay C D x
+    plays : (D : Ending) → IsPlayLeft D played → IsPlay C D x
     plays D left = record {
       states = λ k t most. share_state t (ran.states k) (ran.are k most);
       executes = executes D;
@@ -200,20 +200,20 @@ module _ (code : List Instr) (turns : List Turn) (played : Played) (playable : I
     }
 
     -- the first world
-    first_share : (from : List ℕ) → IsStart from (ran.states 0) → (t s : ℕ) (b : Bool) → sees t s ≡ b → cond b ((ran.states 0).register s) 0 ≡ cond b (slice_index from s) 0
+    first_share : (from : List ℕ) → IsStartState from (ran.states 0) → (t s : ℕ) (b : Bool) → sees t s ≡ b → cond b ((ran.states 0).register s) 0 ≡ cond b (slice_index from s) 0
     first_share from start t s true own = start.registers s ∙ ap (λ (b : Bool). cond b 0 (slice_index from s)) (ne_eqb s 0 (seen_some t s (who_sees t s own)))
     first_share from start t s false other = refl
 
-    is_first : (from : List ℕ) → IsStart from (ran.states 0) → (w : World) → Stays (record { old = x.world 0; new = w }) → IsFirst from w
+    is_first : (from : List ℕ) → IsStartState from (ran.states 0) → (w : World) → Stays (record { old = x.world 0; new = w }) → IsFirstWorld from w
     is_first from start w stays = record {
       registers = λ t s. stays.registers t s ∙ first_share from start t s (sees t s) refl;
       memory = λ a. stays.memory a ∙ start.memory a;
     }
 
-    pub executed : (from : List ℕ) → IsStart from (ran.states 0) → (D : Ending) → IsLeft D played → IsExecutedFrom from C D
+    pub executed : (from : List ℕ) → IsStartState from (ran.states 0) → (D : Ending) → IsPlayLeft D played → IsExecutedFrom from C D
     executed from start D left =
         let done = play_executed C D x has (plays D left) playable.some playable.order ends in
         record { history = done.history; execution = done.execution; first = is_first from start (done.history.world 0) done.first }
 
-  pub run_sound : IsSound C
+  pub run_sound : IsSoundCourse C
   run_sound = turns_sound C turns has playable.order playable.apart ends

@@ -16,13 +16,13 @@ use Rattle.rept_machine.specs.Step.{HasEffect, IsStep}
 use Rattle.rept_machine.specs.Choices.{Picks}
 use Rattle.rept_machine.specs.declared.machine.Machine.{Machine}
 use Rattle.rept_machine.specs.declared.machine.Halt.TheVariants as halt
-use Rattle.rept_machine.specs.Machine.{state_of, pc_of, code_of, base_of, next_word, word_of_code, IsNext, IsNotRunnable, Halts}
+use Rattle.rept_machine.specs.Machine.{state_of, pc_of, code_of, base_of, next_word, word_of_code, IsNextInstr, IsNotRunnable, Halts}
 use Rattle.rept_turns.specs.declared.turn.Turn.{Turn}
 use Rattle.rept_turns.specs.Turns.{all_rows, steps_before, turn_at}
 use Rattle.rept_turns.proofs.Places.{turn_there}
-use Rattle.rept_play.specs.Shares.{Uses}
-use Rattle.rept_play.specs.Code.{drawn_in, played_in, played_at, IsCode, IsPlayable, AreWords}
-use Rattle.rept_play.specs.Ran.{Ran, GoesBy}
+use Rattle.rept_play.specs.Shares.{UsesOwn}
+use Rattle.rept_play.specs.Code.{drawn_in, played_in, played_at, IsPlayCode, IsPlayable, AreWords}
+use Rattle.rept_play.specs.Ran.{RanTurns, GoesBy}
 use Rattle.rept_play.proofs.Turning.{thread_below}
 
 word_there : (words : List ℕ) (k : ℕ) → k < length words → word_of_code words 65536 (65536 + 4 * k) ≡ Some (get_or words k 0)
@@ -31,7 +31,7 @@ word_there words k less =
     rw (le-leb 65536 (65536 + 4 * k) (omega arith), eq-eqb ((65536 + 4 * k - 65536) % 4) 0 (omega arith), place) (slice_get-get_or words k 0 less)
 
 -- no slot runs into a breakpoint, and each leads to the next address
-uses_runs : (t : ℕ) (instr : Instr) → Uses t instr → instr ≡ Ebreak → ⊥
+uses_runs : (t : ℕ) (instr : Instr) → UsesOwn t instr → instr ≡ Ebreak → ⊥
 uses_runs t (Imm op rd rs1 imm) own is = cc
 uses_runs t (Op op rd rs1 rs2) own is = cc
 uses_runs t (Load op rd rs1 imm) own is = cc
@@ -47,7 +47,7 @@ uses_runs t Ecall own is = cc
 uses_runs t Ebreak own is = absurd own
 uses_runs t (Counter rd csr) own is = absurd own
 
-uses_leads : (t : ℕ) (instr : Instr) (image_end : ℕ) (a : Addresses) (s u : State) → Uses t instr → HasEffect instr image_end a s u → a.next ≡ following a.from
+uses_leads : (t : ℕ) (instr : Instr) (image_end : ℕ) (a : Addresses) (s u : State) → UsesOwn t instr → HasEffect instr image_end a s u → a.next ≡ following a.from
 uses_leads t (Imm op rd rs1 imm) image_end a s u own h = h.onward
 uses_leads t (Op op rd rs1 rs2) image_end a s u own h = h.onward
 uses_leads t (Load op rd rs1 imm) image_end a s u own h = h.onward
@@ -73,14 +73,14 @@ other_slot code t s other = rw (ne_eqb s 15 other) refl
 nothing_runs : Imm Addi 0 0 (pos 0) ≡ Ebreak → ⊥
 nothing_runs is = cc
 
-slot_runs : (code : List Instr) (t s : ℕ) → IsCode code → t < 4 → s < 16 → played_in code t s ≡ Ebreak → ⊥
+slot_runs : (code : List Instr) (t s : ℕ) → IsPlayCode code → t < 4 → s < 16 → played_in code t s ≡ Ebreak → ⊥
 slot_runs code t s slots few small is =
     elim (cases_eq s 15) [
       | inl last ↦ nothing_runs (sym (last_slot code t s last) ∙ is)
       | inr other ↦ uses_runs t (drawn_in code t s) (slots.uses t s few (omega arith)) (sym (other_slot code t s other) ∙ is)
     ]
 
-slot_leads : (code : List Instr) (t s image_end : ℕ) (a : Addresses) (x u : State) → IsCode code → t < 4 → s < 16 → HasEffect (played_in code t s) image_end a x u → a.next ≡ following a.from
+slot_leads : (code : List Instr) (t s image_end : ℕ) (a : Addresses) (x u : State) → IsPlayCode code → t < 4 → s < 16 → HasEffect (played_in code t s) image_end a x u → a.next ≡ following a.from
 slot_leads code t s image_end a x u slots few small h =
     elim (cases_eq s 15) [
       | inl last ↦ (subst (λ (i : Instr). HasEffect i image_end a x u) (last_slot code t s last) h).onward
@@ -98,7 +98,7 @@ longer_last : (k : ℕ) (states : ℕ → State) (new : State) (j : ℕ) → k <
 longer_last k states new j more = rw (lt-leb j k more) refl
 
 pub ran_first : (code : List Instr) (turns : List Turn) (machine : Machine) (words : List ℕ) → AreWords code turns words → code_of machine ≡ words → base_of machine ≡ 65536 → pc_of machine ≡ 65536 → IsState (state_of machine)
-    → (ran : Ran code turns 0 machine) × (ran.states 0 ≡ state_of machine)
+    → (ran : RanTurns code turns 0 machine) × (ran.states 0 ≡ state_of machine)
 ran_first code turns machine words are is base pc state = (
   record {
     words = subst (λ (ws : List ℕ). AreWords code turns ws) (sym is) are;
@@ -112,7 +112,7 @@ ran_first code turns machine words are is base pc state = (
   refl,
 )
 
-module _ (code : List Instr) (turns : List Turn) (k : ℕ) (old : Machine) (playable : IsPlayable code turns) (below : k < all_rows turns) (ran : Ran code turns k old) where
+module _ (code : List Instr) (turns : List Turn) (k : ℕ) (old : Machine) (playable : IsPlayable code turns) (below : k < all_rows turns) (ran : RanTurns code turns k old) where
   here : (turn : Turn) × (turn_at turns k ≡ Some turn)
   here = turn_there turns k below
 
@@ -140,7 +140,7 @@ module _ (code : List Instr) (turns : List Turn) (k : ℕ) (old : Machine) (play
       let turn = here.0 in
       slot_runs code here.0.thread (steps_before here.0.thread turns k % 16) playable.slots (thread_below turns k here.0 playable.threads here.1) (small (steps_before here.0.thread turns k)) (refused (played_at code turns here.0 k) (spelled here.0 here.1))
 
-  module _ (new : Machine) (row : StepRow) (lawful : (image_end : ℕ) → IsStep image_end row (state_of old) (state_of new)) (state : IsState (state_of new)) (picks : Picks row.instr (state_of old) (state_of new)) (at : row.at ≡ pc_of old) (next : pc_of new ≡ row.next) (instr : IsNext old row.instr) (long : row.short ≡ false) (kept : code_of new ≡ code_of old) (base : base_of new ≡ base_of old) where
+  module _ (new : Machine) (row : StepRow) (lawful : (image_end : ℕ) → IsStep image_end row (state_of old) (state_of new)) (state : IsState (state_of new)) (picks : Picks row.instr (state_of old) (state_of new)) (at : row.at ≡ pc_of old) (next : pc_of new ≡ row.next) (instr : IsNextInstr old row.instr) (long : row.short ≡ false) (kept : code_of new ≡ code_of old) (base : base_of new ≡ base_of old) where
     its_word : IsWord word row.instr
     its_word = subst (λ (o : Option ℕ). MatchOption o ⊥ (λ w. IsWord w row.instr)) word_next instr
 
@@ -183,7 +183,7 @@ module _ (code : List Instr) (turns : List Turn) (k : ℕ) (old : Machine) (play
         ]
 
     -- one step more, of a machine that began as before
-    pub ran_on : (next : Ran code turns (k + 1) new) × (next.states 0 ≡ ran.states 0)
+    pub ran_on : (next : RanTurns code turns (k + 1) new) × (next.states 0 ≡ ran.states 0)
     ran_on = (
       record {
         words = subst (λ (ws : List ℕ). AreWords code turns ws) (sym kept) ran.words;

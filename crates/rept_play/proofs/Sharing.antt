@@ -8,10 +8,10 @@ use Rattle.rept_isa.specs.Numbers.{plus, following}
 use Rattle.rept_isa.specs.Rows.{Addresses}
 use Rattle.rept_machine.specs.State.{State, IsState}
 use Rattle.rept_machine.specs.Arithmetic.{computed, computed_imm, loaded}
-use Rattle.rept_machine.specs.Step.{Calls, Sets, Computes, Stores, HasEffect}
+use Rattle.rept_machine.specs.Step.{Calls, SetsRegister, Computes, Stores, HasEffect}
 use Rattle.rept_machine.specs.Choices.{Picks}
 use Rattle.rept_order.specs.History.{seen_by, OthersKeep}
-use Rattle.rept_play.specs.Shares.{Owns, owns, sees, share_of, world_of, Uses}
+use Rattle.rept_play.specs.Shares.{Owns, owns, sees, share_of, world_of, UsesOwn}
 
 owns_is : (t r : ℕ) → Owns t r → owns t r ≡ true
 owns_is t r own = and_from (nat_le (18 + 3 * t) r) (nat_lt r (21 + 3 * t)) (le-leb (18 + 3 * t) r own.0) (lt-ltb r (21 + 3 * t) own.1)
@@ -37,7 +37,7 @@ kept_by : (t r : ℕ) (s u : State) (b : Bool) → sees t r ≡ b → (Owns t r 
 kept_by t r s u true seen same = same_value t r s u (same (who_sees t r seen))
 kept_by t r s u false other same = ap (λ (b : Bool). cond b (u.register r) 0) other ∙ sym (ap (λ (b : Bool). cond b (s.register r) 0) other)
 
-sets : (t rd v w : ℕ) (s u : State) → Owns t rd → v ≡ w → Sets rd v s u → Sets rd w (seen_by t (world_of s)) (seen_by t (world_of u))
+sets : (t rd v w : ℕ) (s u : State) → Owns t rd → v ≡ w → SetsRegister rd v s u → SetsRegister rd w (seen_by t (world_of s)) (seen_by t (world_of u))
 sets t rd v w s u own same h = record {
   written = λ some. own_value t rd u own ∙ h.written some ∙ same;
   lost = λ none. absurd (let least = own.0 in omega arith);
@@ -52,7 +52,7 @@ not_ten : (o r : ℕ) → Owns o r ⊎ (r ≡ 17) → r ≢ 10
 not_ten o r (inl its) same = let a = its.0 in omega arith
 not_ten o r (inr number) same = omega arith
 
-others_keep : (t rd w : ℕ) (s u : State) → Owns t rd → Sets rd w s u → OthersKeep t (record { old = world_of s; new = world_of u })
+others_keep : (t rd w : ℕ) (s u : State) → Owns t rd → SetsRegister rd w s u → OthersKeep t (record { old = world_of s; new = world_of u })
 others_keep t rd w s u own h = λ o r other. kept_by o r s u (sees o r) refl (λ its. h.others r (λ same. apart_from t o rd r own other its same))
 
 calls_keep : (t image_end : ℕ) (a : Addresses) (s u : State) → Calls image_end a s u → OthersKeep t (record { old = world_of s; new = world_of u })
@@ -62,7 +62,7 @@ computes : (t rd v w : ℕ) (a b : Addresses) (s u : State) → Owns t rd → v 
 computes t rd v w a b s u own same next h = record { result = sets t rd v w s u own same h.result; memory = h.memory; onward = next }
 
 -- a thread's step
-pub shared : (t : ℕ) (instr : Instr) (image_end : ℕ) (a b : Addresses) (s u : State) → Uses t instr → b.next ≡ following b.from → Picks instr s u → HasEffect instr image_end a s u → HasEffect instr image_end b (seen_by t (world_of s)) (seen_by t (world_of u))
+pub shared : (t : ℕ) (instr : Instr) (image_end : ℕ) (a b : Addresses) (s u : State) → UsesOwn t instr → b.next ≡ following b.from → Picks instr s u → HasEffect instr image_end a s u → HasEffect instr image_end b (seen_by t (world_of s)) (seen_by t (world_of u))
 shared t (Imm op rd rs1 imm) image_end a b s u own next picks h = computes t rd _ _ a b s u own.0 (ap (λ (x : ℕ). computed_imm op x imm) (sym (own_value t rs1 s own.1))) next h
 shared t (Op op rd rs1 rs2) image_end a b s u own next picks h = computes t rd _ _ a b s u own.0 (ap (λ (x : ℕ). computed op x (s.register rs2)) (sym (own_value t rs1 s own.1)) ∙ ap (λ (x : ℕ). computed op (share_of t s rs1) x) (sym (own_value t rs2 s own.2))) next h
 shared t (Load op rd rs1 imm) image_end a b s u own next picks h = computes t rd _ _ a b s u own.0 (ap (λ (x : ℕ). loaded op s.memory (plus x imm)) (sym (own_value t rs1 s own.1))) next h
@@ -84,7 +84,7 @@ shared t (Counter rd csr) image_end a b s u own next picks h = absurd own
 all_keep : (t : ℕ) (s u : State) → ((r : ℕ) → u.register r ≡ s.register r) → OthersKeep t (record { old = world_of s; new = world_of u })
 all_keep t s u same = λ o r other. same_value o r s u (same r)
 
-pub others_stay : (t : ℕ) (instr : Instr) (image_end : ℕ) (a : Addresses) (s u : State) → Uses t instr → HasEffect instr image_end a s u → OthersKeep t (record { old = world_of s; new = world_of u })
+pub others_stay : (t : ℕ) (instr : Instr) (image_end : ℕ) (a : Addresses) (s u : State) → UsesOwn t instr → HasEffect instr image_end a s u → OthersKeep t (record { old = world_of s; new = world_of u })
 others_stay t (Imm op rd rs1 imm) image_end a s u own h = others_keep t rd _ s u own.0 h.result
 others_stay t (Op op rd rs1 rs2) image_end a s u own h = others_keep t rd _ s u own.0 h.result
 others_stay t (Load op rd rs1 imm) image_end a s u own h = others_keep t rd _ s u own.0 h.result
@@ -101,7 +101,7 @@ others_stay t Ebreak image_end a s u own h = absurd own
 others_stay t (Counter rd csr) image_end a s u own h = absurd own
 
 -- ADDI x0, x0, 0 does nothing, as a jump without a link
-nothing_by : (s u : State) (v r : ℕ) → Sets 0 v s u → u.register r ≡ s.register r
+nothing_by : (s u : State) (v r : ℕ) → SetsRegister 0 v s u → u.register r ≡ s.register r
 nothing_by s u v zero h = h.lost refl
 nothing_by s u v (suc r) h = h.others (suc r) (omega arith)
 

@@ -10,8 +10,8 @@ use Rattle.rept_isa.specs.Operands.{is_call}
 use Rattle.rept_steps.specs.declared.slice.Slice.{Slice}
 use Rattle.rept_steps.specs.declared.threads.ThreadRows.{ThreadRows}
 use Rattle.rept_turns.specs.declared.turn.Turn.{Turn}
-use Rattle.rept_turns.specs.Turns.{all_rows, rows_in, steps_before, turn_at, slices_from, AreSome, AreInOrder, AreApart}
-use Rattle.rept_play.specs.Shares.{Uses}
+use Rattle.rept_turns.specs.Turns.{all_rows, rows_in, steps_before, turn_at, slices_from, AreSome, AreInOrder, AreTurnsApart}
+use Rattle.rept_play.specs.Shares.{UsesOwn}
 
 -- where slot s of thread t stands
 abbrev pub address_in : ℕ → ℕ → ℕ
@@ -29,9 +29,9 @@ abbrev pub row_in : List Instr → ℕ → ℕ → StepRow
 row_in code t i = record { at = address_in t (i % 16); instr = instr_in code t (i % 16); next = address_in t ((i + 1) % 16); call = is_call (instr_in code t (i % 16)); short = false }
 
 -- each of the 15 instructions of the four threads can be spelled and uses the thread's own registers
-pub record IsCode (code : List Instr) : Type 0 where
+pub record IsPlayCode (code : List Instr) : Type 0 where
   pub size : length code ≡ 60
-  pub uses : (t s : ℕ) → t < 4 → s < 15 → Uses t (drawn_in code t s)
+  pub uses : (t s : ℕ) → t < 4 → s < 15 → UsesOwn t (drawn_in code t s)
   pub spelled : (t s : ℕ) → t < 4 → s < 15 → InRange (drawn_in code t s)
 
 -- of these rows of a thread only the last may be a call
@@ -40,11 +40,11 @@ CallsLast code t s = (i : ℕ) → s.first ≤ i → i < s.first + s.count → i
 
 -- code and turns that can be played
 pub record IsPlayable (code : List Instr) (turns : List Turn) : Type 0 where
-  pub slots : IsCode code
+  pub slots : IsPlayCode code
   pub threads : All (λ turn. turn.thread < 4) turns
   pub some : AreSome turns
   pub order : AreInOrder turns
-  pub apart : AreApart turns
+  pub apart : AreTurnsApart turns
   pub calls : (t : ℕ) → All (CallsLast code t) (slices_from t 0 turns)
   pub few : all_rows turns ≤ 65536
 

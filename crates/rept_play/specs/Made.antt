@@ -8,7 +8,7 @@ use Rattle.rept_play.specs.Drawn.{made_instr, drawn_turns, start_registers}
 use Rattle.rept_play.specs.Played.{IsPlayed}
 
 -- the code and turns of the seed, which streams can tell from time 0 on, and their play
-pub record IsMade (seed : ℕ) (sizes : Sizes) (made : Made) : Type 0 where
+pub record IsPlayMade (seed : ℕ) (sizes : Sizes) (made : Made) : Type 0 where
   pub size : length made.code.items ≡ 60
   pub code_drawn : (t s : ℕ) → t < 4 → s < 15 → drawn_in made.code.items t s ≡ made_instr seed t s
   pub turns_drawn : made.turns.items ≡ drawn_turns sizes seed sizes.turns

@@ -1,7 +1,7 @@
 -- What a played run is: its rows and slices, and that it has an execution. This project's own.
 use Rattle.std.specs.Prelude.{◌≡◌, ℕ, ◌-◌, ◌<◌, ◌≤◌, if◌then◌else◌, List, length, Option, None, Some, slice_get, slice_index}
 use Rattle.rept_isa.specs.declared.instr.Instr.{Instr}
-use Rattle.rept_steps.specs.Course.{Course, row_of, row_at, IsSound}
+use Rattle.rept_steps.specs.Course.{Course, row_of, row_at, IsSoundCourse}
 use Rattle.rept_steps.specs.Runs.{course_of}
 use Rattle.rept_steps.specs.declared.run.Run.{Run}
 use Rattle.rept_order.specs.History.{World, Ending, History, IsExecution}
@@ -12,13 +12,13 @@ use Rattle.rept_play.specs.Shares.{sees}
 use Rattle.rept_play.specs.Code.{row_in}
 
 -- an ending of which all that was saved is what the play left: registers of the four threads, and bytes
-pub record IsLeft (D : Ending) (played : Played) : Type 0 where
+pub record IsPlayLeft (D : Ending) (played : Played) : Type 0 where
   pub registers : (t s v : ℕ) → 0 < s → slice_get (D.registers t) s ≡ Some v → (t < 4) × ((if sees t s then slice_index played.registers s else 0) ≡ v)
   pub inside : (a v : ℕ) → D.dump a ≡ Some v → (131072 ≤ a) × (a < 131104)
   pub bytes : (a v : ℕ) → D.dump a ≡ Some v → slice_index played.bytes.items (a - 131072) ≡ v
 
 -- the threads have their shares of these registers, and memory is all 0
-pub record IsFirst (from : List ℕ) (w : World) : Type 0 where
+pub record IsFirstWorld (from : List ℕ) (w : World) : Type 0 where
   pub registers : (t s : ℕ) → w.register t s ≡ (if sees t s then slice_index from s else 0)
   pub memory : (a : ℕ) → w.memory a ≡ 0
 
@@ -26,7 +26,7 @@ pub record IsFirst (from : List ℕ) (w : World) : Type 0 where
 pub record IsExecutedFrom (from : List ℕ) (C : Course) (D : Ending) : Type 0 where
   pub history : History
   pub execution : IsExecution C D history
-  pub first : IsFirst from (history.world 0)
+  pub first : IsFirstWorld from (history.world 0)
 
 -- the course of a run of whose begin something may not be told
 abbrev pub course_until : Option ℕ → Run → Course
@@ -40,6 +40,6 @@ pub record IsPlayed (code : List Instr) (turns : List Turn) (from : List ℕ) (p
   pub rows : (t i : ℕ) → i < rows_in t turns → row_at (course_of played.run) (row_of t i) ≡ Some (row_in code t i)
   pub told : played.run.dark ≡ None
   pub none_skipped : played.run.skipped ≡ 0
-  pub sound : IsSound (course_of played.run)
+  pub sound : IsSoundCourse (course_of played.run)
   pub left : (length played.registers ≡ 32) × (length played.bytes.items ≡ 32)
-  pub execution : (dark : Option ℕ) (D : Ending) → IsLeft D played → IsExecutedFrom from (course_until dark played.run) D
+  pub execution : (dark : Option ℕ) (D : Ending) → IsPlayLeft D played → IsExecutedFrom from (course_until dark played.run) D

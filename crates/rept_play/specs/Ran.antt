@@ -18,7 +18,7 @@ pub record GoesBy (instr : Instr) (s t : State) : Type 0 where
   pub effect : (image_end : ℕ) → HasEffect instr image_end (of_word at next) s t
   pub picks : Picks instr s t
 
-pub record Ran (code : List Instr) (turns : List Turn) (k : ℕ) (machine : Machine) : Type 0 where
+pub record RanTurns (code : List Instr) (turns : List Turn) (k : ℕ) (machine : Machine) : Type 0 where
   pub words : AreWords code turns (code_of machine)
   pub base : base_of machine ≡ 65536
   pub pc : pc_of machine ≡ 65536 + 4 * k
@@ -28,6 +28,6 @@ pub record Ran (code : List Instr) (turns : List Turn) (k : ℕ) (machine : Mach
   pub goes : (j : ℕ) (turn : Turn) → j < k → turn_at turns j ≡ Some turn → GoesBy (played_at code turns turn j) (states j) (states (suc j))
 
 -- a machine that hasn't run yet: these registers, and a memory of zeros
-pub record IsStart (from : List ℕ) (s : State) : Type 0 where
+pub record IsStartState (from : List ℕ) (s : State) : Type 0 where
   pub registers : (r : ℕ) → s.register r ≡ (if r == 0 then 0 else slice_index from r)
   pub memory : (a : ℕ) → s.memory a ≡ 0

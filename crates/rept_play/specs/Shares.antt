@@ -23,10 +23,10 @@ abbrev pub world_of : State → World
 world_of s = record { register = λ t. share_of t s; memory = s.memory }
 
 -- the instruction computes, loads or stores, with the thread's own registers alone, or is a call
-abbrev pub Uses : ℕ → Instr → Type 0
-Uses t (Imm op rd rs1 imm) = Owns t rd × Owns t rs1
-Uses t (Op op rd rs1 rs2) = Owns t rd × Owns t rs1 × Owns t rs2
-Uses t (Load op rd rs1 imm) = Owns t rd × Owns t rs1
-Uses t (Store op rs1 rs2 imm) = Owns t rs1 × Owns t rs2
-Uses t Ecall = Unit {0}
-Uses t _ = ⊥
+abbrev pub UsesOwn : ℕ → Instr → Type 0
+UsesOwn t (Imm op rd rs1 imm) = Owns t rd × Owns t rs1
+UsesOwn t (Op op rd rs1 rs2) = Owns t rd × Owns t rs1 × Owns t rs2
+UsesOwn t (Load op rd rs1 imm) = Owns t rd × Owns t rs1
+UsesOwn t (Store op rs1 rs2 imm) = Owns t rs1 × Owns t rs2
+UsesOwn t Ecall = Unit {0}
+UsesOwn t _ = ⊥

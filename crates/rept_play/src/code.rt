@@ -5,7 +5,7 @@ ghost use Rattle.rept_isa.specs.declared.instr.Instr.{Instr};
 ghost use Rattle.rept_isa.specs.Range.{InRange};
 ghost use Rattle.rept_isa.specs.Words.{IsWord};
 ghost use Rattle.rept_isa.specs.Operands.{is_call};
-ghost use Rattle.rept_play.specs.Code.{IsCode, instr_in, played_in, row_in};
+ghost use Rattle.rept_play.specs.Code.{IsPlayCode, instr_in, played_in, row_in};
 
 use rept_isa::{ImmOp, Instr, Reg, StepRow, encode};
 
@@ -21,7 +21,7 @@ fn zero() -> Reg
 
 /// The word that the machine runs in the place of a thread's slot: that of its instruction, and for the jump one that does nothing.
 pub fn word_in(code: &[Instr], thread: u32, slot: u32) -> u32
-    requires code { IsCode code.now }
+    requires code { IsPlayCode code.now }
     requires thread { thread < 4 }
     requires slot { slot < 16 }
     ensures { IsWord result (played_in code.now thread slot) }
@@ -48,7 +48,7 @@ fn is_call(instr: &Instr) -> bool
 
 /// Row `step` of a thread.
 pub fn row_in(code: &[Instr], thread: u32, step: u32) -> StepRow
-    requires code { IsCode code.now }
+    requires code { IsPlayCode code.now }
     requires thread { thread < 4 }
     requires step { step < 65536 }
     ensures { result ≡ row_in code.now thread step }

@@ -3,7 +3,7 @@
 ghost use Rattle.std.specs.Prelude.{◌≡◌, ◌<◌, ◌≤◌, pos};
 ghost use Rattle.rept_isa.specs.Range.{InRange};
 ghost use Rattle.rept_play.specs.Drawn.{draw, slot_of, instr_of, made_instr};
-ghost use Rattle.rept_play.specs.Shares.{Uses, Owns};
+ghost use Rattle.rept_play.specs.Shares.{UsesOwn, Owns};
 
 use rept_isa::{ImmOp, Instr, LoadOp, RegOp, StoreOp, register};
 
@@ -112,7 +112,7 @@ pub fn made_instr(seed: u32, thread: u32, slot: u32) -> Instr
     requires thread { thread < 4 }
     requires slot { slot < 15 }
     ensures value { result ≡ made_instr seed thread slot }
-    ensures uses { Uses thread result }
+    ensures uses { UsesOwn thread result }
     ensures range { InRange result }
 {
     if slot == 7 {

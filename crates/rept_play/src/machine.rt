@@ -6,7 +6,7 @@ ghost use Rattle.rept_machine.specs.Machine.{state_of};
 ghost use Rattle.rept_turns.specs.declared.turn.Turn.{Turn};
 ghost use Rattle.rept_turns.specs.Turns.{all_rows};
 ghost use Rattle.rept_play.specs.Code.{IsPlayable, AreWords};
-ghost use Rattle.rept_play.specs.Ran.{Ran, IsStart};
+ghost use Rattle.rept_play.specs.Ran.{RanTurns, IsStartState};
 
 use crate::code::word_in;
 use crate::count::{all_rows, steps_before, thread_at};
@@ -31,8 +31,8 @@ pub fn program(alloc: Global, code: &[Instr], turns: &[Turn]) -> Result<Vec<u32>
 
 /// Makes one step more. The code never halts, so nothing but memory can be wanting.
 fn step(machine: &mut Machine<'_>) -> Result<(), AllocError>
-    requires { (code : List Instr) × (turns : List Turn) × (k : ℕ) × IsPlayable code turns × (k < all_rows turns) × Ran code turns k machine.old }
-    ensures { OnOk result ((code : List Instr) (turns : List Turn) (k : ℕ) → IsPlayable code turns → k < all_rows turns → (ran : Ran code turns k machine.old) → (next : Ran code turns (k + 1) machine.new) × (next.states 0 ≡ ran.states 0)) }
+    requires { (code : List Instr) × (turns : List Turn) × (k : ℕ) × IsPlayable code turns × (k < all_rows turns) × RanTurns code turns k machine.old }
+    ensures { OnOk result ((code : List Instr) (turns : List Turn) (k : ℕ) → IsPlayable code turns → k < all_rows turns → (ran : RanTurns code turns k machine.old) → (next : RanTurns code turns (k + 1) machine.new) × (next.states 0 ≡ ran.states 0)) }
 {
     match machine.step() {
         Ok(_) => Ok(()),
@@ -50,7 +50,7 @@ pub fn run<'a>(
     registers: [u32; 32],
 ) -> Result<Machine<'a>, AllocError>
     requires { (code : List Instr) × (turns : List Turn) × IsPlayable code turns × AreWords code turns words.now }
-    ensures { IfOk result (λ machine. (code : List Instr) (turns : List Turn) → IsPlayable code turns → AreWords code turns words.now → (ran : Ran code turns (all_rows turns) machine) × IsStart registers (ran.states 0)) }
+    ensures { IfOk result (λ machine. (code : List Instr) (turns : List Turn) → IsPlayable code turns → AreWords code turns words.now → (ran : RanTurns code turns (all_rows turns) machine) × IsStartState registers (ran.states 0)) }
 {
     let mut machine = Machine::new(alloc, words, 0x1_0000, 0x1_0000, registers);
     for k in 0..words.len() {
@@ -69,16 +69,4 @@ pub fn registers_of(machine: &Machine<'_>) -> [u32; 32]
         registers[usize::from(r)] = machine.reg(register(r));
     }
     registers
-}
-
-/// The 32 bytes from 0x20000 on.
-pub fn bytes_of(alloc: Global, machine: &Machine<'_>) -> Result<Vec<u8>, AllocError>
-    ensures size { IfOk result (λ bytes. length bytes.items ≡ 32) }
-    ensures value { IfOk result (λ bytes. (i : ℕ) → i < 32 → slice_index bytes.items i ≡ (state_of machine.now).memory (131072 + i)) }
-{
-    let mut bytes = Vec::new(alloc);
-    for i in 0..32 {
-        bytes.push(machine.byte(0x2_0000 + i))?;
-    }
-    Ok(bytes)
 }

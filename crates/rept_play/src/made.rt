@@ -2,7 +2,7 @@
 
 ghost use Rattle.std.specs.Prelude.{◌≡◌, ◌≤◌, IfOk};
 ghost use Rattle.rept_play.specs.Drawn.{start_registers};
-ghost use Rattle.rept_play.specs.Made.{IsMade};
+ghost use Rattle.rept_play.specs.Made.{IsPlayMade};
 
 use crate::draw::draw;
 use crate::playing::{Played, play};
@@ -44,7 +44,7 @@ pub fn make_play(alloc: Global, seed: u32, sizes: Sizes) -> Result<Made, OutOfMe
     requires streams { 1 ≤ sizes.streams }
     requires fewer { sizes.streams ≤ sizes.threads }
     requires turns { sizes.turns ≤ 64 }
-    ensures { IfOk result (λ made. IsMade seed sizes made) }
+    ensures { IfOk result (λ made. IsPlayMade seed sizes made) }
 {
     let code = made_code(alloc, seed)?;
     let turns = made_turns(alloc, seed, sizes)?;

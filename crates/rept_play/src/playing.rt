@@ -4,9 +4,10 @@ ghost use Rattle.std.specs.Prelude.{IfOk};
 ghost use Rattle.rept_play.specs.Code.{IsPlayable};
 ghost use Rattle.rept_play.specs.Played.{IsPlayed};
 
-use crate::machine::{bytes_of, program, registers_of, run};
+use crate::machine::{program, registers_of, run};
 use crate::threads::threads_of;
 use rept_isa::Instr;
+use rept_make::saved_bytes;
 use rept_steps::Run;
 use rept_turns::Turn;
 use std::alloc::{AllocError as OutOfMemory, Global};
@@ -37,7 +38,7 @@ pub fn play(
     let words = program(alloc, code, turns)?;
     let machine = run(alloc, words.as_slice(), registers)?;
     let threads = threads_of(alloc, code, turns)?;
-    let bytes = bytes_of(alloc, &machine)?;
+    let bytes = saved_bytes(alloc, &machine, 32)?;
     Ok(Played {
         run: Run {
             threads,

@@ -3,7 +3,7 @@
 ghost use Rattle.std.specs.Prelude.{◌≡◌, ◌<◌, ◌≤◌, ◌/◌, ◌%◌, ℕ, length, slice_index_or, IfOk};
 ghost use Rattle.rept_isa.specs.declared.instr.Instr.{Instr};
 ghost use Rattle.rept_turns.specs.Turns.{rows_in, all_rows};
-ghost use Rattle.rept_play.specs.Code.{IsCode, IsPlayable, drawn_in};
+ghost use Rattle.rept_play.specs.Code.{IsPlayCode, IsPlayable, drawn_in};
 ghost use Rattle.rept_play.specs.Drawn.{thread_end, stream_end, last_end, last_begin, to_call, drawn_thread, drawn_stream, drawn_early, begin_of, next_turn, drawn_turns, made_instr};
 
 use crate::count::rows_in;
@@ -153,7 +153,7 @@ pub fn made_turns(alloc: Global, seed: u32, sizes: Sizes) -> Result<Vec<Turn>, O
 
 /// The code of a seed.
 pub fn made_code(alloc: Global, seed: u32) -> Result<Vec<Instr>, OutOfMemory>
-    ensures code { IfOk result (λ code. IsCode code.items) }
+    ensures code { IfOk result (λ code. IsPlayCode code.items) }
     ensures drawn { IfOk result (λ code. (t s : ℕ) → t < 4 → s < 15 → drawn_in code.items t s ≡ made_instr seed t s) }
 {
     let mut code = Vec::new(alloc);

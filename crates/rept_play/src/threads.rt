@@ -3,7 +3,7 @@
 ghost use Rattle.std.specs.Prelude.{◌≡◌, ◌<◌, ◌≤◌, ℕ, length, slice_get, Some, IfOk};
 ghost use Rattle.rept_steps.specs.declared.threads.ThreadRows.{ThreadRows};
 ghost use Rattle.rept_turns.specs.Turns.{rows_in, slices_from};
-ghost use Rattle.rept_play.specs.Code.{IsCode, IsPlayable, IsThread, AreThreads, row_in};
+ghost use Rattle.rept_play.specs.Code.{IsPlayCode, IsPlayable, IsThread, AreThreads, row_in};
 
 use crate::code::row_in;
 use crate::count::rows_in;
@@ -14,7 +14,7 @@ use std::alloc::{AllocError as OutOfMemory, Global};
 
 /// The first rows of a thread.
 fn steps_of(alloc: Global, code: &[Instr], thread: u32, count: u32) -> Result<Steps, OutOfMemory>
-    requires code { IsCode code.now }
+    requires code { IsPlayCode code.now }
     requires thread { thread < 4 }
     requires few { count ≤ 65536 }
     ensures size { IfOk result (λ steps. length steps ≡ count) }

@@ -7,7 +7,7 @@ use Rattle.std.specs.Io.KnownBytes.{Consumes, Keeps}
 use Rattle.rept_ports.specs.Causes.{OneFault}
 use Rattle.rept_ports.specs.Port.{Port}
 use Rattle.rept_ports.specs.Taken.{Taken, TakesByte}
-use Rattle.rept_ports.specs.Lines.{lines_from, whole_from, lines_of, whole_lines, Holds, IsFound, IsLast, Gives, LineStep, Took, said_of, to_come}
+use Rattle.rept_ports.specs.Lines.{lines_from, whole_from, lines_of, whole_lines, HoldsLine, IsFound, IsLastLine, GivesLine, LineStep, Took, said_of, to_come}
 use Rattle.rept_ports.specs.declared.lines.limits.LineFault.{LineFault}
 use Rattle.rept_ports.specs.declared.lines.limits.LineFault.TheVariants.{ReadFault, TooMuchInput}
 use Rattle.rept_ports.specs.declared.lines.found.Found.{Found}
@@ -36,7 +36,7 @@ pub record SoFar (old new : Taken) (source source' : Port) (items : List ℕ) (i
   pub count : new.count ≡ old.count + length got
   pub calm : source'.faults ≡ source.faults
   pub front : List ℕ
-  pub holds : Holds items is_long front
+  pub holds : HoldsLine items is_long front
   pub going : new.ended ≡ false
   pub fewer : to_come new + length front ≤ to_come old
   pub lines : (more : List ℕ) → lines_of ((old.pending ++ got) ++ more) ≡ lines_from front (new.pending ++ more)
@@ -109,7 +109,7 @@ module _ (old mid new : Taken) (source source' source'' : Port) (items : List �
   whole_on got b e more = ap whole_lines (regroup old.pending so_far.got got more) ∙ so_far.whole (got ++ more) ∙ ap (whole_from so_far.front) (sym (append_assoc mid.pending got more) ∙ ap (λ w. w ++ more) e)
 
   -- the line goes on
-  pub one_more : (b : ℕ) (items' : List ℕ) (is_long' : Bool) → TakesByte mid new source' source'' (Ok (Some b)) → b ≢ 10 → Holds items' is_long' (so_far.front ++ b ∷ []) → SoFar old new source source'' items' is_long'
+  pub one_more : (b : ℕ) (items' : List ℕ) (is_long' : Bool) → TakesByte mid new source' source'' (Ok (Some b)) → b ≢ 10 → HoldsLine items' is_long' (so_far.front ++ b ∷ []) → SoFar old new source source'' items' is_long'
   one_more b items' is_long' t ne h = record {
     got = so_far.got ++ t.0;
     consumed = Consumes-trans source.bytes source'.bytes source''.bytes so_far.got t.0 so_far.consumed t.1;
@@ -130,7 +130,7 @@ module _ (old mid new : Taken) (source source' source'' : Port) (items : List �
     within = within;
   }
 
-  gives : (t : TakesByte mid new source' source'' (Ok (Some 10))) → Gives (old.pending ++ (so_far.got ++ t.0)) new (strip_carriage_return so_far.front)
+  gives : (t : TakesByte mid new source' source'' (Ok (Some 10))) → GivesLine (old.pending ++ (so_far.got ++ t.0)) new (strip_carriage_return so_far.front)
   gives t = record { next = λ more. lines_on t.0 10 t.2 more; whole = λ more. whole_on t.0 10 t.2 more; going = t.6 }
 
   -- the line ends
@@ -176,7 +176,7 @@ module _ (old mid new : Taken) (source source' source'' : Port) (items : List �
   }
 
   -- the input ends
-  pub at_its_end : (r : Found) (items' : List ℕ) → TakesByte mid new source' source'' (Ok None) → IsLast r items' so_far.front → LineStep old new source source'' (said_of (Ok r) items')
+  pub at_its_end : (r : Found) (items' : List ℕ) → TakesByte mid new source' source'' (Ok None) → IsLastLine r items' so_far.front → LineStep old new source source'' (said_of (Ok r) items')
   at_its_end found.End items' t h =
       record { got = so_far.got; took = took_none t; calm = t.5 ∙ so_far.calm; nothing = nothing_left t h; none_pending = t.3; at_end = t.1; ended = t.6 }
     where
@@ -221,10 +221,10 @@ module _ (old mid new : Taken) (source source' source'' : Port) (items : List �
     none_whole = whole_none t.0;
   }
 
-pub pushed : (items front : List ℕ) (b : ℕ) (is_long : Bool) (items' : List ℕ) → Holds items is_long front → items' ≡ items ++ b ∷ [] → Holds items' is_long (front ++ b ∷ [])
+pub pushed : (items front : List ℕ) (b : ℕ) (is_long : Bool) (items' : List ℕ) → HoldsLine items is_long front → items' ≡ items ++ b ∷ [] → HoldsLine items' is_long (front ++ b ∷ [])
 pushed items front b false items' h e = e ∙ ap (λ w. w ++ b ∷ []) h
 pushed items front b true items' h e = omega (arith, length-append front (b ∷ []), h)
 
-pub overflowed : (items front : List ℕ) (b : ℕ) (is_long : Bool) (items' : List ℕ) → Holds items is_long front → length items ≡ 257 → Holds items' true (front ++ b ∷ [])
+pub overflowed : (items front : List ℕ) (b : ℕ) (is_long : Bool) (items' : List ℕ) → HoldsLine items is_long front → length items ≡ 257 → HoldsLine items' true (front ++ b ∷ [])
 overflowed items front b false items' h e = omega (arith, length-append front (b ∷ []), ap length h)
 overflowed items front b true items' h e = omega (arith, length-append front (b ∷ []), h)

@@ -33,9 +33,9 @@ abbrev pub given : List ℕ → Option (List ℕ)
 given line = if nat_lt 256 (length line) then None else Some line
 
 -- items are the bytes of the line so far, or there are too many
-abbrev pub Holds : List ℕ → Bool → List ℕ → Type 0
-Holds items false front = items ≡ front
-Holds items true front = 257 < length front
+abbrev pub HoldsLine : List ℕ → Bool → List ℕ → Type 0
+HoldsLine items false front = items ≡ front
+HoldsLine items true front = 257 < length front
 
 -- what was found is this line
 abbrev pub IsFound : Found → List ℕ → List ℕ → Type 0
@@ -44,19 +44,19 @@ IsFound found.Long items line = given line ≡ None
 IsFound found.End items line = ⊥
 
 -- what was found after the last newline
-abbrev pub IsLast : Found → List ℕ → List ℕ → Type 0
-IsLast found.Text items front = (given front ≡ Some items) × (0 < length front)
-IsLast found.Long items front = (given front ≡ None) × (0 < length front)
-IsLast found.End items front = front ≡ []
+abbrev pub IsLastLine : Found → List ℕ → List ℕ → Type 0
+IsLastLine found.Text items front = (given front ≡ Some items) × (0 < length front)
+IsLastLine found.Long items front = (given front ≡ None) × (0 < length front)
+IsLastLine found.End items front = front ≡ []
 
 -- however the input goes on, its lines are this one and those of what is pending then
-pub record Gives (before : List ℕ) (new : Taken) (line : List ℕ) : Type 0 where
+pub record GivesLine (before : List ℕ) (new : Taken) (line : List ℕ) : Type 0 where
   pub next : (more : List ℕ) → lines_of (before ++ more) ≡ line ∷ lines_of (new.pending ++ more)
   pub whole : (more : List ℕ) → whole_lines (before ++ more) ≡ line ∷ whole_lines (new.pending ++ more)
   pub going : new.ended ≡ false
 
 -- the input ended, and this is its last line, without a newline
-pub record Ends (before : List ℕ) (new : Taken) (left : Option (List ℕ)) (line : List ℕ) : Type 0 where
+pub record EndsInLine (before : List ℕ) (new : Taken) (left : Option (List ℕ)) (line : List ℕ) : Type 0 where
   pub last : lines_of before ≡ line ∷ []
   pub none_whole : whole_lines before ≡ []
   pub all : new.pending ≡ []
@@ -68,10 +68,10 @@ abbrev pub to_come : Taken → ℕ
 to_come t = (1048576 - t.count) + length t.pending
 
 -- what was said of the next line: `None` at the end of the input; `Some None` of a long line
-abbrev pub Said : Type 0
-Said = Result (Option (Option (List ℕ))) LineFault
+abbrev pub SaidLine : Type 0
+SaidLine = Result (Option (Option (List ℕ))) LineFault
 
-abbrev pub said_of : Result Found LineFault → List ℕ → Said
+abbrev pub said_of : Result Found LineFault → List ℕ → SaidLine
 said_of (Ok found.Text) items = Ok (Some (Some items))
 said_of (Ok found.Long) items = Ok (Some None)
 said_of (Ok found.End) items = Ok None
@@ -101,7 +101,7 @@ pub record FindsLine (old new : Taken) (source source' : Port) (said : Option (L
   pub fewer : to_come new < to_come old
   pub line : List ℕ
   pub told : given line ≡ said
-  pub next : Gives (old.pending ++ got) new line ⊎ Ends (old.pending ++ got) new source'.bytes line
+  pub next : GivesLine (old.pending ++ got) new line ⊎ EndsInLine (old.pending ++ got) new source'.bytes line
 
 -- a read failed, and no whole line is left of the bytes that were taken
 pub record FailsRead (old new : Taken) (source source' : Port) : Type 0 where
@@ -121,7 +121,7 @@ pub record PassesLimit (old new : Taken) (source source' : Port) : Type 0 where
   pub none_whole : whole_lines (old.pending ++ got) ≡ []
 
 -- the next line, with the bytes that were taken for it
-abbrev pub LineStep : Taken → Taken → Port → Port → Said → Type 0
+abbrev pub LineStep : Taken → Taken → Port → Port → SaidLine → Type 0
 LineStep old new source source' (Ok None) = EndsInput old new source source'
 LineStep old new source source' (Ok (Some said)) = FindsLine old new source source' said
 LineStep old new source source' (Err ReadFault) = FailsRead old new source source'

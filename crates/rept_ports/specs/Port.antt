@@ -8,9 +8,9 @@ pub record Port : Type 0 where
   pub faults : ℕ
 
 -- before a call and after it
-pub record Move (T : Type 0) : Type 0 where
+pub record PortMove (T : Type 0) : Type 0 where
   pub before : T
   pub after : T
 
-abbrev pub move : {T : Type 0} → T → T → Move T
+abbrev pub move : {T : Type 0} → T → T → PortMove T
 move before after = record { before = before; after = after }

@@ -11,11 +11,11 @@ IsExtent moments i window = (m w : ℕ) → moments.next m w ≡ true → moment
 abbrev pub IsBar : Moments → ℕ → ℕ → Type 0
 IsBar moments i m = (w : ℕ) → moments.next m w ≡ true → moments.falls i m w ≡ true
 
--- a number of some that stand one after the other: of those before it each has its next numbers among all of them
-pub record IsLeaving (moments : Moments) (least most n : ℕ) : Type 0 where
+-- a number from the least on, before the end of a window: of those from the least on to before it each has its next numbers in the window
+pub record IsLeaving (moments : Moments) (known : Window) (least n : ℕ) : Type 0 where
   pub from : least ≤ n
-  pub to : n ≤ most
-  pub inside : (m w : ℕ) → least ≤ m → m < n → moments.next m w ≡ true → (least ≤ w) × (w ≤ most)
+  pub to : n < known.to
+  pub inside : (m w : ℕ) → least ≤ m → m < n → moments.next m w ≡ true → (known.from ≤ w) × (w < known.to)
 
 -- the second number is next to the first, and nothing that isn't told falls between
 pub record IsLit (moments : Moments) (m w : ℕ) : Type 0 where

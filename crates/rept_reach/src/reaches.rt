@@ -33,11 +33,12 @@ pub trait Reaches: Paths {
         requires row { IsSome ((Self.timeline self.now).legs.row row) }
         ensures { IsExtent (Self.timeline self.now).moments row result };
 
-    /// A number from one on, up to another one, before which no number from there on has a next one that isn't among these.
-    fn leaving_from(&self, least: u32, most: u32) -> u32
-        requires order { least ≤ most }
-        requires inside { most ≤ (Self.timeline self.now).moments.end }
-        ensures { IsLeaving (Self.timeline self.now).moments least most result };
+    /// A number from one of a window on, before the window's end, before which no number from there on has a next one outside the window.
+    fn leaving_from(&self, least: u32, known: Window) -> u32
+        requires since { known.from ≤ least }
+        requires order { least < known.to }
+        requires inside { known.to ≤ (Self.timeline self.now).moments.end + 1 }
+        ensures { IsLeaving (Self.timeline self.now).moments known least result };
 
     /// A number up to which, but no further than another one, each number after those of a window is next to an earlier one that isn't below the window.
     fn reached_up(&self, known: Window, most: u32) -> u32

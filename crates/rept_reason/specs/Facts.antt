@@ -4,7 +4,8 @@ use Rattle.rept_reason.specs.declared.fact.Fact.{Fact}
 use Rattle.rept_reason.specs.declared.fact.Cell.{Cell}
 use Rattle.rept_reason.specs.declared.fact.Cell.TheVariants.{Register, Byte}
 use Rattle.rept_partial.specs.declared.flat.Flat.{Flat}
-use Rattle.rept_partial.specs.declared.flat.Flat.TheVariants.{Unknown, Known}
+use Rattle.rept_partial.specs.declared.flat.Flat.TheVariants.{Unknown}
+pub use Rattle.rept_partial.specs.Flats.{flat}
 
 -- the value of each cell at each point, where it is known
 abbrev pub Knowledge : Type 0
@@ -42,11 +43,6 @@ register_known K p r = if r == 0 then Some 0 else K p (Register r)
 -- a fact on a register other than x0
 abbrev pub register_fact : Knowledge → ℕ → ℕ → Option ℕ
 register_fact K p r = if r == 0 then None else K p (Register r)
-
--- a value that is there is known
-abbrev pub flat : Option ℕ → Flat
-flat None = Unknown
-flat (Some v) = Known v
 
 -- what is known at a point of the register in an operand's place; nothing where the form has no such place
 abbrev pub operand : Knowledge → ℕ → Option ℕ → Flat

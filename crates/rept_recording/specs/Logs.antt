@@ -7,11 +7,11 @@ use Rattle.rept_recording.specs.declared.logs.LogRefusal.{LogRefusal}
 use Rattle.rept_recording.specs.declared.logs.LogRefusal.TheVariants.{OneHart, SeveralHarts}
 
 -- The trace tells the last steps of the log over the executable: of several harts where its first line has a space, else of one.
-pub record IsRecorded (exe log trace : List ℕ) : Type 0 where
-  pub several_harts : NamesHarts log → several.IsRecorded exe log trace
-  pub one_hart : (NamesHarts log → ⊥) → one.IsRecorded exe log trace
+pub record IsRecordedLog (exe log trace : List ℕ) : Type 0 where
+  pub several_harts : NamesHarts log → several.IsRecordedSeveralHarts exe log trace
+  pub one_hart : (NamesHarts log → ⊥) → one.IsRecordedOneHart exe log trace
 
 -- why there is none
-abbrev pub IsRefused : List ℕ → List ℕ → LogRefusal → Type 0
-IsRefused exe log (SeveralHarts refusal) = NamesHarts log × several.IsRefused exe log refusal
-IsRefused exe log (OneHart refusal) = (NamesHarts log → ⊥) × one.IsRefused exe log refusal
+abbrev pub IsRefusedLog : List ℕ → List ℕ → LogRefusal → Type 0
+IsRefusedLog exe log (SeveralHarts refusal) = NamesHarts log × several.IsRefusedSeveralHarts exe log refusal
+IsRefusedLog exe log (OneHart refusal) = (NamesHarts log → ⊥) × one.IsRefusedOneHart exe log refusal

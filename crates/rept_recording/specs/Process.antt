@@ -1,6 +1,6 @@
 -- A process that writes the trace of a log: what its words ask for, and the number that it ends with. This project's own.
 use Rattle.std.specs.Prelude.{ℕ, List, [], ◌∷◌, Result, Ok, Err, OnOk, IfErr}
-use Rattle.rept_ports.specs.Port.{Port, Move}
+use Rattle.rept_ports.specs.Port.{Port, PortMove}
 use Rattle.rept_ports.specs.Shelves.{Loads}
 use Rattle.rept_ports.specs.declared.arguments.Unreadable.{Unreadable}
 use Rattle.rept_ports.specs.declared.arguments.Unreadable.TheVariants as unreadable
@@ -20,7 +20,7 @@ asked (Err unreadable.NotText) = Err stop.Usage
 asked (Err unreadable.OutOfMemory) = Err stop.OutOfMemory
 
 -- the trace was written, or this is why not
-pub record Records {T : Type 0} (from : Inputs) (out : Move Port) (result : Result T Stop) : Type 0 where
+pub record IsTraceWritten {T : Type 0} (from : Inputs) (out : PortMove Port) (result : Result T Stop) : Type 0 where
   pub ok : OnOk result (WritesTrace from out)
   pub err : IfErr result (Ends from out)
   pub loads : Loads from.shelf.before from.shelf.after result

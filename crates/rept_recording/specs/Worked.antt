@@ -2,10 +2,10 @@
 use Rattle.std.specs.Prelude.{◌≡◌, ◌⊎◌, ℕ, ◌<◌, ◌≤◌, List, length, Some, IfSome}
 use Rattle.std.specs.Io.KnownBytes.{Appends}
 use Rattle.rept_ports.specs.Causes.{OneFault, AppendsPrefix}
-use Rattle.rept_ports.specs.Port.{Port, Move}
+use Rattle.rept_ports.specs.Port.{Port, PortMove}
 use Rattle.rept_ports.specs.Shelves.{Shelved, Files, LoadFails}
 use Rattle.rept_ports.specs.declared.traits.LoadFault.TheVariants as load
-use Rattle.rept_recording.specs.Logs.{IsRecorded, IsRefused}
+use Rattle.rept_recording.specs.Logs.{IsRecordedLog, IsRefusedLog}
 use Rattle.rept_recording.specs.declared.work.InputStop.{InputStop}
 use Rattle.rept_recording.specs.declared.work.InputStop.TheVariants as input
 use Rattle.rept_recording.specs.declared.stop.Stop.{Stop}
@@ -21,10 +21,10 @@ log_limit = 268435456
 -- what a trace is made from: the executable's name, and the shelf and the input before the call and after it
 pub record Inputs : Type 0 where
   pub name : List ℕ
-  pub shelf : Move Shelved
-  pub input : Move Port
+  pub shelf : PortMove Shelved
+  pub input : PortMove Port
 
-abbrev pub inputs_of : List ℕ → Move Shelved → Move Port → Inputs
+abbrev pub inputs_of : List ℕ → PortMove Shelved → PortMove Port → Inputs
 inputs_of name shelf input = record { name = name; shelf = shelf; input = input }
 
 -- no call of the shelf failed, and none of the input
@@ -44,21 +44,21 @@ pub record IsLoaded (from : Inputs) : Type 0 where
   pub file : IfSome from.shelf.before.files (λ files. (exe : List ℕ) × IsFile files from.name exe)
 
 -- the executable was loaded and the whole log was read; where both are told, P holds of them
-pub record AreRead (from : Inputs) (P : List ℕ → List ℕ → Type 0) : Type 0 where
+pub record AreInputsRead (from : Inputs) (P : List ℕ → List ℕ → Type 0) : Type 0 where
   pub loaded : IsLoaded from
   pub input_calm : IsInputCalm from
   pub hold : IfSome from.shelf.before.files (λ files. IfSome from.input.before.bytes (λ log. (exe : List ℕ) × IsFile files from.name exe × (length log ≤ log_limit) × P exe log))
 
 -- the trace is that of the log that the input has left, over the executable of this name
 abbrev pub Makes : Inputs → List ℕ → Type 0
-Makes from trace = AreRead from (λ exe log. IsRecorded exe log trace)
+Makes from trace = AreInputsRead from (λ exe log. IsRecordedLog exe log trace)
 
 -- the input is as it was
 abbrev pub IsUnread : Inputs → Type 0
 IsUnread from = from.input.after ≡ from.input.before
 
 -- Why the input isn't read to its end: a read failed, the log has more bytes than its limit, or memory ran out.
-abbrev pub ReadStops : Move Port → InputStop → Type 0
+abbrev pub ReadStops : PortMove Port → InputStop → Type 0
 ReadStops port input.Failed = OneFault port.before.faults port.after.faults
 ReadStops port input.TooMuch = (port.after.faults ≡ port.before.faults) × IfSome port.before.bytes (λ log. log_limit < length log)
 ReadStops port input.OutOfMemory = port.after.faults ≡ port.before.faults
@@ -73,24 +73,24 @@ Stops from stop.NoFile = LoadFails from.shelf.before from.shelf.after from.name 
 Stops from stop.TooLarge = LoadFails from.shelf.before from.shelf.after from.name exe_limit load.TooLarge × IsUnread from
 Stops from stop.InputFault = IsLoaded from × ReadStops from.input input.Failed
 Stops from stop.TooMuchInput = IsLoaded from × ReadStops from.input input.TooMuch
-Stops from (stop.Refused refusal) = AreRead from (λ exe log. IsRefused exe log refusal)
+Stops from (stop.Refused refusal) = AreInputsRead from (λ exe log. IsRefusedLog exe log refusal)
 Stops from stop.OutputFault = ⊥
 Stops from stop.OutOfMemory = IsInputCalm from
 
 -- a trace was made, and all of it was written, without a fault
-pub record WritesTrace (from : Inputs) (out : Move Port) : Type 0 where
+pub record WritesTrace (from : Inputs) (out : PortMove Port) : Type 0 where
   pub trace : List ℕ
   pub made : Makes from trace
   pub written : Appends out.before.bytes out.after.bytes trace
   pub calm : out.after.faults ≡ out.before.faults
 
 -- a trace was made, and one write failed: a part of the trace that begins it was written
-pub record FailsToWrite (from : Inputs) (out : Move Port) : Type 0 where
+pub record FailsToWrite (from : Inputs) (out : PortMove Port) : Type 0 where
   pub trace : List ℕ
   pub made : Makes from trace
   pub written : AppendsPrefix out.before.bytes out.after.bytes trace
   pub fault : OneFault out.before.faults out.after.faults
 
 -- No trace was made, and the output is as it was; or the output failed.
-abbrev pub Ends : Inputs → Move Port → Stop → Type 0
+abbrev pub Ends : Inputs → PortMove Port → Stop → Type 0
 Ends from out s = (Stops from s × (out.after ≡ out.before)) ⊎ ((s ≡ stop.OutputFault) × FailsToWrite from out)

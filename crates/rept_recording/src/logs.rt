@@ -1,7 +1,7 @@
 //! Logs of one hart and of several.
 
 ghost use Rattle.std.specs.Prelude.{◌<◌, ◌^◌, length, IfOk, IfErr};
-ghost use Rattle.rept_recording.specs.Logs.{IsRecorded, IsRefused};
+ghost use Rattle.rept_recording.specs.Logs.{IsRecordedLog, IsRefusedLog};
 
 use rept_hartlog::names_harts;
 use rept_word::Text;
@@ -22,8 +22,8 @@ pub enum LogRefusal {
 /// The trace of a log over an executable. The log is one of several harts where its first line has a space, and else one of one hart.
 pub fn record(alloc: Global, exe: &[u8], log: &[u8]) -> Result<Text, LogRefusal>
     requires { length log.now < 2 ^ 32 }
-    ensures ok { IfOk result (λ trace. IsRecorded exe.now log.now trace) }
-    ensures err { IfErr result (λ refusal. IsRefused exe.now log.now refusal) }
+    ensures ok { IfOk result (λ trace. IsRecordedLog exe.now log.now trace) }
+    ensures err { IfErr result (λ refusal. IsRefusedLog exe.now log.now refusal) }
 {
     if names_harts(log) {
         return match rept_hartlog::record(alloc, exe, log) {

@@ -4,7 +4,7 @@ ghost use Rattle.std.specs.Prelude.{◌≡◌, map, string_bytes, MatchResult, E
 ghost use Rattle.std.specs.Process.{exit_status};
 ghost use Rattle.std.specs.Result.{result_map_both};
 ghost use Rattle.rept_ports.specs.Port.{move};
-ghost use Rattle.rept_recording.specs.Process.{Records, asked, number_of_end};
+ghost use Rattle.rept_recording.specs.Process.{IsTraceWritten, asked, number_of_end};
 ghost use Rattle.rept_recording.specs.Worked.{inputs_of};
 
 use crate::stop::Stop;
@@ -39,7 +39,7 @@ pub fn answer<H: Shelf, S: Source, K: Sink>(
     out: &mut K,
 ) -> Result<(), Stop>
     ensures { MatchResult (asked (result_map_both (λ v. map string_bytes v.items) (λ e. e) words.now))
-        (λ name. Records (inputs_of name (move (H.port shelf.old) (H.port shelf.new)) (move (S.port input.old) (S.port input.new))) (move (K.port out.old) (K.port out.new)) result)
+        (λ name. IsTraceWritten (inputs_of name (move (H.port shelf.old) (H.port shelf.new)) (move (S.port input.old) (S.port input.new))) (move (K.port out.old) (K.port out.new)) result)
         (λ stop. (result ≡ Err stop) × (shelf.new ≡ shelf.old) × (input.new ≡ input.old) × (out.new ≡ out.old)) }
 {
     let name = match name_of(words) {

@@ -6,7 +6,7 @@ use Rattle.std.specs.Int.Bits.{bit_xor}
 use Rattle.std.specs.Prelude.{Option, None, Some, option_map, nat_eq, MatchBool}
 use Rattle.rept_ports.specs.Port.{move}
 use Rattle.rept_remote.specs.Escapes.{unescaped}
-use Rattle.rept_remote.specs.Steps.{Stands}
+use Rattle.rept_remote.specs.Steps.{UnescapesByte}
 
 -- the bytes that are left, with the first one of a pair
 abbrev pub pending : Bool → List ℕ → List ℕ
@@ -50,7 +50,7 @@ module _ (whole items : List ℕ) (byte : ℕ) (rest : List ℕ) where
   by_byte false items' escaped' e h so_far = rw (h.0, h.1) (pushed e so_far)
 
   -- one byte more
-  pub stood : (is_escaped : Bool) (items' : List ℕ) (escaped' : Bool) → Stands is_escaped byte (move items items') escaped' → SoFar whole items is_escaped (byte ∷ rest) → SoFar whole items' escaped' rest
+  pub stood : (is_escaped : Bool) (items' : List ℕ) (escaped' : Bool) → UnescapesByte is_escaped byte (move items items') escaped' → SoFar whole items is_escaped (byte ∷ rest) → SoFar whole items' escaped' rest
   stood true items' escaped' h so_far = rw (h.0, h.1) (pushed_second so_far)
   stood false items' escaped' h so_far = by_byte (nat_eq byte 125) items' escaped' refl h so_far
 
@@ -58,7 +58,7 @@ count_by_byte : (first : Bool) (items items' : List ℕ) (byte : ℕ) (escaped' 
 count_by_byte true items items' byte escaped' h = omega (arith, ap length h.0)
 count_by_byte false items items' byte escaped' h = omega (arith, ap length h.0, length-append items (byte ∷ []))
 
-pub one_at_most : (is_escaped : Bool) (items items' : List ℕ) (byte : ℕ) (escaped' : Bool) → Stands is_escaped byte (move items items') escaped' → length items' ≤ length items + 1
+pub one_at_most : (is_escaped : Bool) (items items' : List ℕ) (byte : ℕ) (escaped' : Bool) → UnescapesByte is_escaped byte (move items items') escaped' → length items' ≤ length items + 1
 one_at_most true items items' byte escaped' h = omega (arith, ap length h.0, length-append items (bit_xor byte 32 ∷ []))
 one_at_most false items items' byte escaped' h = count_by_byte (nat_eq byte 125) items items' byte escaped' h
 

@@ -9,7 +9,7 @@ use Rattle.rept_ports.specs.Causes.{OneFault}
 use Rattle.rept_ports.specs.Port.{Port, move}
 use Rattle.rept_remote.specs.Frames.{IsCutPacket, arrived, brought, has_call, has_end, asks}
 use Rattle.rept_remote.specs.Reading.{Passed, most_input, taking}
-use Rattle.rept_remote.specs.Steps.{Halts, IsOpen, TakesArrival, TakesByte, TakesDigits, TakesPacket, ending_of}
+use Rattle.rept_remote.specs.Steps.{IsOpenPacket, StopsAfter, TakesArrival, TakesByte, TakesDigits, TakesPacket, ending_of}
 use Rattle.rept_remote.specs.declared.bytes.NoByte.{NoByte}
 use Rattle.rept_remote.specs.declared.bytes.NoByte.TheVariants as none
 use Rattle.rept_remote.specs.declared.arrival.Arrival.{Arrival}
@@ -29,7 +29,7 @@ module _ (a b c : ℕ) (s t u : Port) (g h : List ℕ) (first : Passed (taking (
     calm = next.calm ∙ first.calm;
   }
 
-  pub halts_after : (why : NoByte) → Halts (taking (move b c) (move t u) h) why → Halts (taking (move a c) (move s u) (g ++ h)) why
+  pub halts_after : (why : NoByte) → StopsAfter (taking (move b c) (move t u) h) why → StopsAfter (taking (move a c) (move s u) (g ++ h)) why
   halts_after none.End next = record { passed = passed_more next.passed; at_end = next.at_end }
   halts_after none.ReadFault next = record {
     took = record {
@@ -48,8 +48,8 @@ module _ (a b c : ℕ) (s t u : Port) (g h : List ℕ) (first : Passed (taking (
   }
 
 -- the same, where no byte came
-pub halts_here : (a b c : ℕ) (s t u : Port) (g : List ℕ) → Passed (taking (move a b) (move s t) g) → (why : NoByte) → Halts (taking (move b c) (move t u) []) why → Halts (taking (move a c) (move s u) g) why
-halts_here a b c s t u g first why next = subst (λ got. Halts (taking (move a c) (move s u) got) why) (append-nil g) (halts_after a b c s t u g [] first why next)
+pub halts_here : (a b c : ℕ) (s t u : Port) (g : List ℕ) → Passed (taking (move a b) (move s t) g) → (why : NoByte) → StopsAfter (taking (move b c) (move t u) []) why → StopsAfter (taking (move a c) (move s u) g) why
+halts_here a b c s t u g first why next = subst (λ got. StopsAfter (taking (move a c) (move s u) got) why) (append-nil g) (halts_after a b c s t u g [] first why next)
 
 none_with : (p : ℕ → Bool) (xs : List ℕ) (y : ℕ) → list_any p xs ≡ false → p y ≡ false → list_any p (xs ++ y ∷ []) ≡ false
 none_with p xs y h k = rw (list_any-append p xs (y ∷ []), h, k) refl
@@ -91,7 +91,7 @@ module _ (a b c : ℕ) (s t u : Port) (noise : List ℕ) (quiet : has_call noise
   arrival_comes carried what h =
       ((noise ++ 36 ∷ []) ++ h.0, passed_more a b c s t u (noise ++ 36 ∷ []) h.0 before h.2, record { noise = noise; part = 36 ∷ h.0; parts = append_assoc noise (36 ∷ []) h.0; quiet = quiet; arrives = inl h.1 })
 
-  cut : (part : List ℕ) → IsOpen part → IsCutPacket ((noise ++ 36 ∷ []) ++ part)
+  cut : (part : List ℕ) → IsOpenPacket part → IsCutPacket ((noise ++ 36 ∷ []) ++ part)
   cut part open_part = record {
     noise = noise;
     body = open_part.body;

@@ -3,7 +3,7 @@ use Rattle.std.proofs.Common.{◌≡◌, ℕ, List, [], ◌∷◌, ◌++◌, len
 use Rattle.std.proofs.lemmas.List.Folds.{list_any-append}
 use Rattle.std.proofs.lemmas.List.{append-nil}
 use Rattle.std.specs.List.{list_any}
-use Rattle.rept_remote.specs.Frames.{Arrived, Arrives, HasNone, IsPacket, IsPart, IsShortEnd, has_call, has_end, asks, is_end}
+use Rattle.rept_remote.specs.Frames.{Arrived, Arrives, HasNoArrival, IsPacketOf, IsPart, IsShortEnd, has_call, has_end, asks, is_end}
 
 first_false : (a b : Bool) → (a || b) ≡ false → a ≡ false
 first_false true b e = cc
@@ -55,7 +55,7 @@ begins part what (inr (inl h)) = record { call = 45; after = []; parts = h.0; ca
 begins part what (inr (inr h)) = record { call = 3; after = []; parts = h.0; calls = refl }
 
 -- a packet, and what comes after it
-onward : (part : List ℕ) (what : Arrived) (h : IsPacket part what) (x : List ℕ) → part ++ x ≡ 36 ∷ (h.body ++ 35 ∷ (h.high ∷ h.low ∷ x))
+onward : (part : List ℕ) (what : Arrived) (h : IsPacketOf part what) (x : List ℕ) → part ++ x ≡ 36 ∷ (h.body ++ 35 ∷ (h.high ∷ h.low ∷ x))
 onward part what h x = ap (λ z. z ++ x) h.parts ∙ ap (λ z. 36 ∷ z) (append_assoc h.body (35 ∷ h.high ∷ h.low ∷ []) x)
 
 record OneReading (p q : List ℕ) (v w : Arrived) (x y : List ℕ) : Type 0 where
@@ -63,7 +63,7 @@ record OneReading (p q : List ℕ) (v w : Arrived) (x y : List ℕ) : Type 0 whe
   what : v ≡ w
   rest : x ≡ y
 
-packets : (p q x y : List ℕ) (v w : Arrived) → IsPacket p v → IsPacket q w → p ++ x ≡ q ++ y → OneReading p q v w x y
+packets : (p q x y : List ℕ) (v w : Arrived) → IsPacketOf p v → IsPacketOf q w → p ++ x ≡ q ++ y → OneReading p q v w x y
 packets p q x y v w h k e =
     let inner = tails 36 36 _ _ (sym (onward p v h x) ∙ e ∙ onward q w k y) in
     let same = parted is_end 35 35 (h.high ∷ h.low ∷ x) (k.high ∷ k.low ∷ y) refl refl h.body k.body h.plain k.plain inner in
@@ -111,7 +111,7 @@ whole part x body (byte ∷ digits) v (inl h) plain short e =
 whole part x body tail v (inr (inl h)) plain short e = let u = heads 45 36 _ _ (sym (ap (λ z. z ++ x) h.0) ∙ e) in omega arith
 whole part x body tail v (inr (inr h)) plain short e = let u = heads 3 36 _ _ (sym (ap (λ z. z ++ x) h.0) ∙ e) in omega arith
 
-pub no_reading : (p q x : List ℕ) (v : Arrived) → Arrives p v → HasNone q → p ++ x ≡ q → ⊥
+pub no_reading : (p q x : List ℕ) (v : Arrived) → Arrives p v → HasNoArrival q → p ++ x ≡ q → ⊥
 no_reading p q x v h (inl quiet) e =
     let b : Begins h.part = begins h.part v h.arrives in
     passing asks h.noise b.call (b.after ++ x) b.calls (ap has_call (sym (spread p h.noise h.part x b h.parts) ∙ e) ∙ quiet)

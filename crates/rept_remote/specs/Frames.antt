@@ -50,7 +50,7 @@ abbrev pub brought : List ℕ → ℕ → ℕ → Arrived
 brought body high low = if is_checked body (digits_value high low) then (if nat_lt 4096 (length body) then large else carried (unescaped body)) else broken
 
 -- the bytes of a packet
-pub record IsPacket (bytes : List ℕ) (what : Arrived) : Type 0 where
+pub record IsPacketOf (bytes : List ℕ) (what : Arrived) : Type 0 where
   pub body : List ℕ
   pub high : ℕ
   pub low : ℕ
@@ -70,7 +70,7 @@ pub record CarriesBytes (bytes carried : List ℕ) : Type 0 where
 
 -- the bytes of one arrival: a packet, `-`, or the byte of an interrupt
 abbrev pub IsPart : List ℕ → Arrived → Type 0
-IsPart bytes what = IsPacket bytes what ⊎ ((bytes ≡ 45 ∷ []) × (what ≡ again)) ⊎ ((bytes ≡ 3 ∷ []) × (what ≡ interrupt))
+IsPart bytes what = IsPacketOf bytes what ⊎ ((bytes ≡ 45 ∷ []) × (what ≡ again)) ⊎ ((bytes ≡ 3 ∷ []) × (what ≡ interrupt))
 
 -- these bytes are an arrival, after others that ask for nothing, as `+` does
 pub record Arrives (bytes : List ℕ) (what : Arrived) : Type 0 where
@@ -96,8 +96,8 @@ pub record IsCutPacket (bytes : List ℕ) : Type 0 where
   pub short : IsShortEnd tail
 
 -- they are no arrival: nothing that asks for anything, or a packet that isn't whole
-abbrev pub HasNone : List ℕ → Type 0
-HasNone bytes = (has_call bytes ≡ false) ⊎ IsCutPacket bytes
+abbrev pub HasNoArrival : List ℕ → Type 0
+HasNoArrival bytes = (has_call bytes ≡ false) ⊎ IsCutPacket bytes
 
 -- these bytes are these arrivals, one after the other
 pub data AreArrivals : List ℕ → List Arrived → Type 0 where

@@ -1,10 +1,10 @@
 -- Parts of a packet, as the reader takes them.
 use Rattle.std.specs.Prelude.{◌≡◌, ℕ, ◌≤◌, ◌<◌, List, [], ◌∷◌, ◌++◌, length, Bool, true, false, ◌==◌, MatchBool, Result, Ok, Err}
 use Rattle.std.specs.Int.Bits.{bit_xor}
-use Rattle.rept_ports.specs.Port.{Port, Move}
+use Rattle.rept_ports.specs.Port.{Port, PortMove}
 use Rattle.rept_remote.specs.Escapes.{checksum}
-use Rattle.rept_remote.specs.Frames.{Arrives, IsPacket, IsShortEnd, arrived, has_call, has_end, asks}
-use Rattle.rept_remote.specs.Reading.{Failed, Overran, Passed, Stops, Taking, TakingEnded, taking}
+use Rattle.rept_remote.specs.Frames.{Arrives, IsPacketOf, IsShortEnd, arrived, has_call, has_end, asks}
+use Rattle.rept_remote.specs.Reading.{Passed, ReadFailed, ReadOverran, Stops, Taking, TakingEnded, taking}
 use Rattle.rept_remote.specs.declared.arrival.Arrival.{Arrival}
 use Rattle.rept_remote.specs.declared.arrival.Ending.{Ending}
 use Rattle.rept_remote.specs.declared.arrival.Ending.TheVariants as ending
@@ -13,60 +13,60 @@ use Rattle.rept_remote.specs.declared.bytes.NoByte.TheVariants as none
 use Rattle.rept_remote.specs.declared.frame.Body.{Body}
 
 -- why no more came after these bytes
-abbrev pub Halts : Taking → NoByte → Type 0
-Halts t none.End = TakingEnded t
-Halts t none.ReadFault = Failed t
-Halts t none.TooMuchInput = Overran t
+abbrev pub StopsAfter : Taking → NoByte → Type 0
+StopsAfter t none.End = TakingEnded t
+StopsAfter t none.ReadFault = ReadFailed t
+StopsAfter t none.TooMuchInput = ReadOverran t
 
 -- one byte
-abbrev pub TakesByte : Move ℕ → Move Port → Result ℕ NoByte → Type 0
+abbrev pub TakesByte : PortMove ℕ → PortMove Port → Result ℕ NoByte → Type 0
 TakesByte count source (Ok byte) = Passed (taking count source (byte ∷ []))
-TakesByte count source (Err why) = Halts (taking count source []) why
+TakesByte count source (Err why) = StopsAfter (taking count source []) why
 
 -- the first byte that asks for something
-abbrev pub TakesCall : Move ℕ → Move Port → Result ℕ NoByte → Type 0
+abbrev pub TakesCall : PortMove ℕ → PortMove Port → Result ℕ NoByte → Type 0
 TakesCall count source (Ok byte) = (noise : List ℕ) × (has_call noise ≡ false) × (asks byte ≡ true) × Passed (taking count source (noise ++ byte ∷ []))
-TakesCall count source (Err why) = (noise : List ℕ) × (has_call noise ≡ false) × Halts (taking count source noise) why
+TakesCall count source (Err why) = (noise : List ℕ) × (has_call noise ≡ false) × StopsAfter (taking count source noise) why
 
 -- the kept bytes are those between `$` and `#`, or these are too many
-abbrev pub Holds : List ℕ → Bool → List ℕ → Type 0
-Holds kept false body = (kept ≡ body) × (length body ≤ 4096)
-Holds kept true body = 4096 < length body
+abbrev pub HoldsBody : List ℕ → Bool → List ℕ → Type 0
+HoldsBody kept false body = (kept ≡ body) × (length body ≤ 4096)
+HoldsBody kept true body = 4096 < length body
 
 -- what is known of the bytes between `$` and `#`
 pub record IsBody (kept : List ℕ) (told : Body) (body : List ℕ) : Type 0 where
   pub plain : has_end body ≡ false
-  pub holds : Holds kept told.is_large body
+  pub holds : HoldsBody kept told.is_large body
   pub sum : told.sum ≡ checksum body
 
 -- all up to the first `#`
-abbrev pub TakesBody : Move ℕ → Move Port → List ℕ → Result Body NoByte → Type 0
+abbrev pub TakesBody : PortMove ℕ → PortMove Port → List ℕ → Result Body NoByte → Type 0
 TakesBody count source kept (Ok told) = (body : List ℕ) × IsBody kept told body × Passed (taking count source (body ++ 35 ∷ []))
-TakesBody count source kept (Err why) = (body : List ℕ) × (has_end body ≡ false) × Halts (taking count source body) why
+TakesBody count source kept (Err why) = (body : List ℕ) × (has_end body ≡ false) × StopsAfter (taking count source body) why
 
 -- the two digits after it
-abbrev pub TakesDigits : Move ℕ → Move Port → Result (ℕ × ℕ) NoByte → Type 0
+abbrev pub TakesDigits : PortMove ℕ → PortMove Port → Result (ℕ × ℕ) NoByte → Type 0
 TakesDigits count source (Ok digits) = Passed (taking count source (digits.0 ∷ digits.1 ∷ []))
-TakesDigits count source (Err why) = (part : List ℕ) × (length part ≤ 1) × Halts (taking count source part) why
+TakesDigits count source (Err why) = (part : List ℕ) × (length part ≤ 1) × StopsAfter (taking count source part) why
 
 -- a byte that comes, after the first byte of a pair or not; whether it is such a first byte then
-abbrev pub Stands : Bool → ℕ → Move (List ℕ) → Bool → Type 0
-Stands true byte kept result = (kept.after ≡ kept.before ++ bit_xor byte 32 ∷ []) × (result ≡ false)
-Stands false byte kept result = MatchBool (byte == 125) ((kept.after ≡ kept.before) × (result ≡ true)) ((kept.after ≡ kept.before ++ byte ∷ []) × (result ≡ false))
+abbrev pub UnescapesByte : Bool → ℕ → PortMove (List ℕ) → Bool → Type 0
+UnescapesByte true byte kept result = (kept.after ≡ kept.before ++ bit_xor byte 32 ∷ []) × (result ≡ false)
+UnescapesByte false byte kept result = MatchBool (byte == 125) ((kept.after ≡ kept.before) × (result ≡ true)) ((kept.after ≡ kept.before ++ byte ∷ []) × (result ≡ false))
 
 -- what comes after `$` up to the end of the packet, or a part of that
-pub record IsOpen (part : List ℕ) : Type 0 where
+pub record IsOpenPacket (part : List ℕ) : Type 0 where
   pub body : List ℕ
   pub tail : List ℕ
   pub parts : part ≡ body ++ tail
   pub plain : has_end body ≡ false
   pub short : IsShortEnd tail
 
-abbrev pub TakesPacket : Move ℕ → Move Port → List ℕ → Result Arrival NoByte → Type 0
-TakesPacket count source bytes (Ok what) = (part : List ℕ) × IsPacket (36 ∷ part) (arrived what bytes) × Passed (taking count source part)
-TakesPacket count source bytes (Err why) = (part : List ℕ) × IsOpen part × Halts (taking count source part) why
+abbrev pub TakesPacket : PortMove ℕ → PortMove Port → List ℕ → Result Arrival NoByte → Type 0
+TakesPacket count source bytes (Ok what) = (part : List ℕ) × IsPacketOf (36 ∷ part) (arrived what bytes) × Passed (taking count source part)
+TakesPacket count source bytes (Err why) = (part : List ℕ) × IsOpenPacket part × StopsAfter (taking count source part) why
 
-abbrev pub TakesArrival : Move ℕ → Move Port → List ℕ → Result Arrival Ending → Type 0
+abbrev pub TakesArrival : PortMove ℕ → PortMove Port → List ℕ → Result Arrival Ending → Type 0
 TakesArrival count source bytes (Ok what) = (got : List ℕ) × Passed (taking count source got) × Arrives got (arrived what bytes)
 TakesArrival count source bytes (Err why) = (got : List ℕ) × Stops (taking count source got) why
 

@@ -25,9 +25,9 @@ pub struct Packets {
 
 impl Model for Packets {
     ghost use Rattle.std.specs.Prelude.{◌≤◌};
-    ghost use Rattle.rept_remote.specs.Reading.{Reader, most_input};
+    ghost use Rattle.rept_remote.specs.Reading.{PacketReader, most_input};
 
-    ghost Value = { Reader };
+    ghost Value = { PacketReader };
 
     ghost view = { λ s. record { carried = s.carried.items; count = s.count; over = s.over } };
 

@@ -3,7 +3,7 @@
 ghost use Rattle.std.specs.Prelude.{◌≡◌, ◌≤◌, ◌<◌, length, None, Some, MatchBool};
 ghost use Rattle.rept_ports.specs.Port.{move};
 ghost use Rattle.rept_remote.specs.Escapes.{unescaped};
-ghost use Rattle.rept_remote.specs.Steps.{Stands};
+ghost use Rattle.rept_remote.specs.Steps.{UnescapesByte};
 
 use crate::frame::Kept;
 
@@ -23,7 +23,7 @@ pub fn unescape(bytes: &[u8], carried: &mut Kept) -> bool
 /// One byte more, which is the second one of a pair where the one before it was the first. Whether it is itself the first byte of a pair.
 fn stand(carried: &mut Kept, is_escaped: bool, byte: u8) -> bool
     requires { length carried.old.items < 4096 }
-    ensures { Stands is_escaped byte (move carried.old.items carried.new.items) result }
+    ensures { UnescapesByte is_escaped byte (move carried.old.items carried.new.items) result }
 {
     if is_escaped {
         carried.push(byte ^ 0x20);

@@ -52,7 +52,7 @@ abbrev pub on_byte : ℕ → When → ℕ → ℕ → ℕ → Drawn
 on_byte rule when base v k = record { rule = rule; when = when; cell = Byte (beside base k); value = byte_of v k; slot = k }
 
 -- only registers x1 to x31 are concluded on
-pub record Says (d : Drawn) (rule : ℕ) (when : When) (r v : ℕ) : Type 0 where
+pub record IsOnRegister (d : Drawn) (rule : ℕ) (when : When) (r v : ℕ) : Type 0 where
   pub named : 0 < r
   pub in_file : r < 32
   pub is : d ≡ on_register rule when r v
@@ -84,22 +84,22 @@ equates Beq Taken = true
 equates Bne NotTaken = true
 equates _ turn = false
 
-pub data Concludes (row : StepRow) (s : Seen) (d : Drawn) : Type 0 where
+pub data ConcludesByRow (row : StepRow) (s : Seen) (d : Drawn) : Type 0 where
   -- 7: the destination has the result that follows from what is known of the operands
-  result : (rd v : ℕ) → written_by row.instr ≡ Some rd → forward_of row.instr (from_of row) (seen_operand s (first_read row.instr)) (seen_operand s (second_read row.instr)) ≡ Known v → Says d 7 After rd v → Concludes row s d
+  result : (rd v : ℕ) → written_by row.instr ≡ Some rd → forward_of row.instr (from_of row) (seen_operand s (first_read row.instr)) (seen_operand s (second_read row.instr)) ≡ Known v → IsOnRegister d 7 After rd v → ConcludesByRow row s d
   -- 8: a load of known bytes at a known base
-  load : (op : LoadOp) (rd rs1 : ℕ) (imm : ℤ) (b : ℕ) (memory : ℕ → ℕ) → row.instr ≡ Load op rd rs1 imm → IsKnown s Before rs1 b → AreKnown s Before (plus b imm) (load_width op) memory → Says d 8 After rd (loaded op memory (plus b imm)) → Concludes row s d
+  load : (op : LoadOp) (rd rs1 : ℕ) (imm : ℤ) (b : ℕ) (memory : ℕ → ℕ) → row.instr ≡ Load op rd rs1 imm → IsKnown s Before rs1 b → AreKnown s Before (plus b imm) (load_width op) memory → IsOnRegister d 8 After rd (loaded op memory (plus b imm)) → ConcludesByRow row s d
   -- 9: a store of a known value at a known base gives each of its bytes
-  store : (op : StoreOp) (rs1 rs2 : ℕ) (imm : ℤ) (b v k : ℕ) → row.instr ≡ Store op rs1 rs2 imm → IsKnown s Before rs1 b → IsKnown s Before rs2 v → k < store_width op → d ≡ on_byte 9 After (plus b imm) v k → Concludes row s d
+  store : (op : StoreOp) (rs1 rs2 : ℕ) (imm : ℤ) (b v k : ℕ) → row.instr ≡ Store op rs1 rs2 imm → IsKnown s Before rs1 b → IsKnown s Before rs2 v → k < store_width op → d ≡ on_byte 9 After (plus b imm) v k → ConcludesByRow row s d
   -- 10 to 13: an operand, from the known result and what is known of the other operand
-  solved : (rule rd r v w : ℕ) (side : Side) → solving_rule row.instr ≡ Some rule → written_by row.instr ≡ Some rd → operand_of row.instr side ≡ Some r → IsKnown s After rd v → solve_of row.instr side v (seen_operand s (operand_of row.instr (opposite side))) ≡ Known w → Says d rule Before r w → Concludes row s d
+  solved : (rule rd r v w : ℕ) (side : Side) → solving_rule row.instr ≡ Some rule → written_by row.instr ≡ Some rd → operand_of row.instr side ≡ Some r → IsKnown s After rd v → solve_of row.instr side v (seen_operand s (operand_of row.instr (opposite side))) ≡ Known w → IsOnRegister d rule Before r w → ConcludesByRow row s d
   -- 14: a branch whose operands were equal, and one of them is known
-  equal_second : (op : _) (rs1 rs2 : ℕ) (imm : ℤ) (v : ℕ) → row.instr ≡ Branch op rs1 rs2 imm → equates op (turn_of row) ≡ true → IsKnown s Before rs1 v → Says d 14 Before rs2 v → Concludes row s d
-  equal_first : (op : _) (rs1 rs2 : ℕ) (imm : ℤ) (v : ℕ) → row.instr ≡ Branch op rs1 rs2 imm → equates op (turn_of row) ≡ true → IsKnown s Before rs2 v → Says d 14 Before rs1 v → Concludes row s d
+  equal_second : (op : _) (rs1 rs2 : ℕ) (imm : ℤ) (v : ℕ) → row.instr ≡ Branch op rs1 rs2 imm → equates op (turn_of row) ≡ true → IsKnown s Before rs1 v → IsOnRegister d 14 Before rs2 v → ConcludesByRow row s d
+  equal_first : (op : _) (rs1 rs2 : ℕ) (imm : ℤ) (v : ℕ) → row.instr ≡ Branch op rs1 rs2 imm → equates op (turn_of row) ≡ true → IsKnown s Before rs2 v → IsOnRegister d 14 Before rs1 v → ConcludesByRow row s d
   -- 15: the bytes that a load read at a known base, as the low ones of the value that it loaded
-  load_back : (op : LoadOp) (rd rs1 : ℕ) (imm : ℤ) (b v k : ℕ) → row.instr ≡ Load op rd rs1 imm → written_by row.instr ≡ Some rd → IsKnown s Before rs1 b → IsKnown s After rd v → k < load_width op → d ≡ on_byte 15 Before (plus b imm) v k → Concludes row s d
+  load_back : (op : LoadOp) (rd rs1 : ℕ) (imm : ℤ) (b v k : ℕ) → row.instr ≡ Load op rd rs1 imm → written_by row.instr ≡ Some rd → IsKnown s Before rs1 b → IsKnown s After rd v → k < load_width op → d ≡ on_byte 15 Before (plus b imm) v k → ConcludesByRow row s d
   -- 16: the source of a store of a word at a known base, from its four bytes
-  store_back : (rs1 rs2 : ℕ) (imm : ℤ) (b : ℕ) (memory : ℕ → ℕ) → row.instr ≡ Store Sw rs1 rs2 imm → IsKnown s Before rs1 b → AreKnown s After (plus b imm) 4 memory → Says d 16 Before rs2 (word_at memory (plus b imm)) → Concludes row s d
+  store_back : (rs1 rs2 : ℕ) (imm : ℤ) (b : ℕ) (memory : ℕ → ℕ) → row.instr ≡ Store Sw rs1 rs2 imm → IsKnown s Before rs1 b → AreKnown s After (plus b imm) 4 memory → IsOnRegister d 16 Before rs2 (word_at memory (plus b imm)) → ConcludesByRow row s d
   -- 18: of a copy and its source, the one from the other
-  copy : (rd source v : ℕ) → written_by row.instr ≡ Some rd → copied row.instr ≡ Some source → IsKnown s Before source v → Says d 18 After rd v → Concludes row s d
-  copy_back : (rd source v : ℕ) → written_by row.instr ≡ Some rd → copied row.instr ≡ Some source → IsKnown s After rd v → Says d 18 Before source v → Concludes row s d
+  copy : (rd source v : ℕ) → written_by row.instr ≡ Some rd → copied row.instr ≡ Some source → IsKnown s Before source v → IsOnRegister d 18 After rd v → ConcludesByRow row s d
+  copy_back : (rd source v : ℕ) → written_by row.instr ≡ Some rd → copied row.instr ≡ Some source → IsKnown s After rd v → IsOnRegister d 18 Before source v → ConcludesByRow row s d

@@ -56,21 +56,21 @@ writes_word atomic.Maxu rd s = true
 -- a store may write the bytes of its access, over the range of its base before the row; a call those of the table of calls, over the
 -- ranges of its number (x17) and its arguments (x10 to x15) before the row, and of its answer (x10) after it; an atomic instruction
 -- its word, over the range of its address before the row, unless it is an LR or has failed; no other row writes memory
-abbrev pub may_write : Instr → Seen → ℕ → ℕ → Bool
-may_write (Store op rs1 rs2 imm) s image_end a = hits (access_of (range_of s Before rs1) imm (store_width op)) a
-may_write (Amo op rd rs1 rs2) s image_end a = writes_word op rd s && hits (access_of (range_of s Before rs1) (pos 0) 4) a
-may_write Ecall s image_end a = call_hits (changed (only_value (s.range Before 17)) (s.range Before) (s.range After 10) image_end) a
-may_write (Lui rd imm) s image_end a = false
-may_write (Auipc rd imm) s image_end a = false
-may_write (Jal rd imm) s image_end a = false
-may_write (Jalr rd rs1 imm) s image_end a = false
-may_write (Branch op rs1 rs2 imm) s image_end a = false
-may_write (Load op rd rs1 imm) s image_end a = false
-may_write (Imm op rd rs1 imm) s image_end a = false
-may_write (Op op rd rs1 rs2) s image_end a = false
-may_write Fence s image_end a = false
-may_write Ebreak s image_end a = false
-may_write (Counter rd csr) s image_end a = false
+abbrev pub instr_may_write : Instr → Seen → ℕ → ℕ → Bool
+instr_may_write (Store op rs1 rs2 imm) s image_end a = hits (access_of (range_of s Before rs1) imm (store_width op)) a
+instr_may_write (Amo op rd rs1 rs2) s image_end a = writes_word op rd s && hits (access_of (range_of s Before rs1) (pos 0) 4) a
+instr_may_write Ecall s image_end a = call_hits (changed (only_value (s.range Before 17)) (s.range Before) (s.range After 10) image_end) a
+instr_may_write (Lui rd imm) s image_end a = false
+instr_may_write (Auipc rd imm) s image_end a = false
+instr_may_write (Jal rd imm) s image_end a = false
+instr_may_write (Jalr rd rs1 imm) s image_end a = false
+instr_may_write (Branch op rs1 rs2 imm) s image_end a = false
+instr_may_write (Load op rd rs1 imm) s image_end a = false
+instr_may_write (Imm op rd rs1 imm) s image_end a = false
+instr_may_write (Op op rd rs1 rs2) s image_end a = false
+instr_may_write Fence s image_end a = false
+instr_may_write Ebreak s image_end a = false
+instr_may_write (Counter rd csr) s image_end a = false
 
 abbrev pub register_at : When → ℕ → RegisterAt
 register_at when r = record { when = when; register = r }
@@ -114,9 +114,9 @@ pub record IsKnownCall (s : Seen) (register : ℕ → ℕ) (answer : ℕ) : Type
   pub answered : IsExact (s.range After 10) answer
 
 -- a store of known base writes all of its bytes
-abbrev pub is_sure : Instr → Seen → Bool
-is_sure (Store op rs1 rs2 imm) s = is_register rs1 && is_some (s.register Before rs1)
-is_sure _ s = false
+abbrev pub instr_is_sure : Instr → Seen → Bool
+instr_is_sure (Store op rs1 rs2 imm) s = is_register rs1 && is_some (s.register Before rs1)
+instr_is_sure _ s = false
 
 -- as many byte facts as the row has bytes
 abbrev pub places_of : Instr → ℕ

@@ -12,7 +12,7 @@ use Rattle.rept_view.specs.declared.drawn.When.TheVariants.{Before, After}
 use Rattle.rept_view.specs.Seen.{Seen, IsLawful}
 
 -- x5 and x6 before the row, x7 after it, and the words of the bytes before and after it
-pub record Shown : Type 0 where
+pub record SampleShown : Type 0 where
   pub first : Option ℕ
   pub second : Option ℕ
   pub outcome : Option ℕ
@@ -29,25 +29,25 @@ register_before first second r = if r == 0 then Some 0 else if r == 5 then as_wo
 abbrev pub register_after : Option ℕ → ℕ → Option ℕ
 register_after outcome r = if r == 0 then Some 0 else if r == 7 then as_word outcome else None
 
-abbrev pub register_shown : Shown → When → ℕ → Option ℕ
+abbrev pub register_shown : SampleShown → When → ℕ → Option ℕ
 register_shown s Before r = register_before s.first s.second r
 register_shown s After r = register_after s.outcome r
 
-abbrev pub word_shown : Shown → When → Option ℕ
+abbrev pub word_shown : SampleShown → When → Option ℕ
 word_shown s Before = s.before
 word_shown s After = s.after
 
 -- a byte of the word at 0x20000
-abbrev pub byte_at : Option ℕ → ℕ → Option ℕ
-byte_at None a = None
-byte_at (Some w) a = if nat_le 131072 a && nat_lt a 131076 then Some (byte_of w (a - 131072)) else None
+abbrev pub sample_byte : Option ℕ → ℕ → Option ℕ
+sample_byte None a = None
+sample_byte (Some w) a = if nat_le 131072 a && nat_lt a 131076 then Some (byte_of w (a - 131072)) else None
 
 abbrev pub range_by : Flat → Range
 range_by Unknown = from_to 0 4294967295
 range_by (Known v) = from_to v v
 
-abbrev pub shown : Shown → Seen
-shown s = record { register = register_shown s; byte = λ when a. byte_at (word_shown s when) a; range = λ when r. range_by (flat (register_shown s when r)) }
+abbrev pub shown : SampleShown → Seen
+shown s = record { register = register_shown s; byte = λ when a. sample_byte (word_shown s when) a; range = λ when r. range_by (flat (register_shown s when r)) }
 
 same_some : {x y : ℕ} → Some x ≡ Some y → x ≡ y
 same_some e = cc
@@ -69,16 +69,16 @@ zero_small w e = let f = same_some e in omega (arith, f)
 none_small : (w : ℕ) → None ≡ Some w → w < 2 ^ 32
 none_small w e = absurd (no_some e)
 
-shown_small : (s : Shown) (when : When) (r v : ℕ) → register_shown s when r ≡ Some v → v < 2 ^ 32
+shown_small : (s : SampleShown) (when : When) (r v : ℕ) → register_shown s when r ≡ Some v → v < 2 ^ 32
 shown_small s Before r v e = by_test (r == 0) (Some 0) _ v zero_small (λ w. by_test (r == 5) (as_word s.first) _ w (word_small s.first) (λ u. by_test (r == 6) (as_word s.second) None u (word_small s.second) none_small)) e
 shown_small s After r v e = by_test (r == 0) (Some 0) _ v zero_small (λ w. by_test (r == 7) (as_word s.outcome) None w (word_small s.outcome) none_small) e
 
 exact_ends : (v : ℕ) → v < 2 ^ 32 → ((from_to v v).lo ≡ v) × ((from_to v v).hi ≡ v)
 exact_ends v small = (grind (arith, small), omega (arith, small))
 
-zero_shown : (s : Shown) (w : When) → register_shown s w 0 ≡ Some 0
+zero_shown : (s : SampleShown) (w : When) → register_shown s w 0 ≡ Some 0
 zero_shown s Before = refl
 zero_shown s After = refl
 
-pub shown_lawful : (s : Shown) → IsLawful (shown s)
+pub shown_lawful : (s : SampleShown) → IsLawful (shown s)
 shown_lawful s = record { zero_known = zero_shown s; known = λ when r v e. subst (λ (x : Option ℕ). ((range_by (flat x)).lo ≡ v) × ((range_by (flat x)).hi ≡ v)) (sym e) (exact_ends v (shown_small s when r v e)) }

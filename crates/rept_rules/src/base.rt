@@ -4,9 +4,9 @@ ghost use Rattle.std.specs.Prelude.{◌≡◌, ℕ, ◌+◌, ◌^◌, ◌<◌, m
 ghost use Rattle.rept_alias.specs.Accesses.{call_hits};
 ghost use Rattle.rept_machine.specs.Calls.{may_change};
 ghost use Rattle.rept_view.specs.declared.drawn.Drawn.{Drawn};
-ghost use Rattle.rept_rules.specs.Conclusions.{Concludes};
+ghost use Rattle.rept_rules.specs.Conclusions.{ConcludesByRow};
 ghost use Rattle.rept_rules.specs.Listing.{conclusions};
-ghost use Rattle.rept_rules.specs.MayWrite.{IsKnownCall, may_write};
+ghost use Rattle.rept_rules.specs.MayWrite.{IsKnownCall, instr_may_write};
 
 use crate::draw::{draw_others, draw_result, load_width};
 use crate::rest::add_needs;
@@ -49,8 +49,8 @@ impl RowRules for Base {
         ensures list { result.items ≡ conclusions row.now (V.seen view.now) }
         ensures inline { result.capacity ≡ 16 }
         ensures raised { self.new.draws ≡ min (self.old.draws + 1) 18446744073709551615 }
-        ensures listed { (d : Drawn) → Contains result.items d → Concludes row.now (V.seen view.now) d }
-        ensures all { (d : Drawn) → Concludes row.now (V.seen view.now) d → Contains result.items d }
+        ensures listed { (d : Drawn) → Contains result.items d → ConcludesByRow row.now (V.seen view.now) d }
+        ensures all { (d : Drawn) → ConcludesByRow row.now (V.seen view.now) d → Contains result.items d }
     {
         self.draws = self.draws.saturating_add(1);
         let mut drawn = SmallVec::new(alloc);
@@ -71,7 +71,7 @@ impl RowRules for Base {
     }
 
     fn touched<V: RowView>(row: &StepRow, view: &V, image_end: u64) -> CallAccess
-        ensures hits { (a : ℕ) → a < 2 ^ 32 → call_hits result a ≡ may_write row.now.instr (V.seen view.now) image_end a }
+        ensures hits { (a : ℕ) → a < 2 ^ 32 → call_hits result a ≡ instr_may_write row.now.instr (V.seen view.now) image_end a }
         // Of a call that is known, exactly the bytes of the table of calls.
         ensures exact { row.now.instr ≡ Instr.Ecall → (register : ℕ → ℕ) (answer a : ℕ) → IsKnownCall (V.seen view.now) register answer → a < 2 ^ 32 → call_hits result a ≡ may_change image_end register answer a }
     {

@@ -6,13 +6,13 @@ ghost use Rattle.rept_view.specs.declared.drawn.Drawn.{Drawn};
 ghost use Rattle.rept_view.specs.Seen.{Seen, IsLawful, KnowsMore};
 ghost use Rattle.rept_view.specs.Rules.{AreLawful};
 ghost use Rattle.rept_reason.specs.declared.fact.Cell.TheVariants.{Byte};
-ghost use Rattle.rept_rules.specs.Conclusions.{Concludes};
+ghost use Rattle.rept_rules.specs.Conclusions.{ConcludesByRow};
 ghost use Rattle.rept_rules.specs.Base.{base_rules};
 
 /// What the rules list for a row is exactly what it lets one conclude.
 pub fn conclusions_are_listed()
-    ensures listed { (row : StepRow) (s : Seen) (d : Drawn) → Contains (base_rules.draw row s) d → Concludes row s d }
-    ensures all { (row : StepRow) (s : Seen) (d : Drawn) → Concludes row s d → Contains (base_rules.draw row s) d }
+    ensures listed { (row : StepRow) (s : Seen) (d : Drawn) → Contains (base_rules.draw row s) d → ConcludesByRow row s d }
+    ensures all { (row : StepRow) (s : Seen) (d : Drawn) → ConcludesByRow row s d → Contains (base_rules.draw row s) d }
 {}
 
 /// Where more is known, all that was concluded is concluded again.

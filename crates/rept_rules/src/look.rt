@@ -133,10 +133,7 @@ fn four_bytes(a: Option<u8>, b: Option<u8>, c: Option<u8>, d: Option<u8>) -> Fla
 fn known_byte(byte: Option<u8>) -> Flat
     ensures { result ≡ flat byte }
 {
-    match byte {
-        None => Flat::Unknown,
-        Some(v) => Flat::Known(u32::from(v)),
-    }
+    Flat::of(byte.map(u32::from))
 }
 
 /// The highest of eight bits, repeated.

@@ -6,7 +6,7 @@ ghost use Rattle.rept_havoc.specs.Havoc.{changed};
 ghost use Rattle.rept_machine.specs.Arithmetic.{store_width};
 ghost use Rattle.rept_partial.specs.declared.flat.Flat.{Flat};
 ghost use Rattle.rept_view.specs.declared.drawn.When.TheVariants.{Before, After};
-ghost use Rattle.rept_rules.specs.MayWrite.{is_register, range_of, only_value, is_failure, has_failed, writes_word, may_write, is_sure};
+ghost use Rattle.rept_rules.specs.MayWrite.{is_register, range_of, only_value, is_failure, has_failed, writes_word, instr_may_write, instr_is_sure};
 
 use rept_alias::{Access, CallAccess, access};
 use rept_havoc::havoc;
@@ -17,7 +17,7 @@ use rept_view::{RowView, When};
 
 /// The bytes that the row of this instruction may write, where the program's own memory ends at `image_end`.
 pub fn touched<V: RowView>(instr: &Instr, view: &V, image_end: u64) -> CallAccess
-    ensures { (a : ℕ) → call_hits result a ≡ may_write instr.now (V.seen view.now) image_end a }
+    ensures { (a : ℕ) → call_hits result a ≡ instr_may_write instr.now (V.seen view.now) image_end a }
 {
     match *instr {
         Instr::Store { op, rs1, imm, .. } => stored(op, range_before(view, rs1), imm),
@@ -145,7 +145,7 @@ fn only_value(range: Range) -> Flat
 
 /// Whether the row of this instruction writes all bytes that it may write: a store of known base does.
 pub fn is_sure<V: RowView>(instr: &Instr, view: &V) -> bool
-    ensures { result ≡ is_sure instr.now (V.seen view.now) }
+    ensures { result ≡ instr_is_sure instr.now (V.seen view.now) }
 {
     match *instr {
         Instr::Store { rs1, .. } => is_known(view, rs1),

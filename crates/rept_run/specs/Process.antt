@@ -1,11 +1,11 @@
 -- A process that runs the top call: its words, its ports, and its status. This project's own.
 use Rattle.std.specs.Prelude.{◌≡◌, ℕ, List, [], None, Result, Ok, Err, IfSome}
-use Rattle.rept_ports.specs.Port.{Port, Move}
+use Rattle.rept_ports.specs.Port.{Port, PortMove}
 use Rattle.rept_ports.specs.Shelves.{Files, Shelved}
 use Rattle.rept_ports.specs.declared.arguments.Unreadable.{Unreadable}
 use Rattle.rept_ports.specs.declared.arguments.Unreadable.TheVariants.{NotText, OutOfMemory}
 use Rattle.rept_words.specs.Words.{meaning_of}
-use Rattle.rept_app.specs.Delivered.{Delivers, Says}
+use Rattle.rept_app.specs.Delivered.{Delivers, SaysRefusal}
 use Rattle.rept_app.specs.Promise.{Promise}
 use Rattle.rept_app.specs.Told.{CallInput, CallWrites, call_input}
 use Rattle.rept_app.specs.Top.{FaultsEnd, ShelfCauses, TopCauses, EndsByFiles}
@@ -19,19 +19,19 @@ words_read (Ok words) = words
 words_read (Err why) = []
 
 -- there was memory for the words
-abbrev pub AreRead : Result (List (List ℕ)) Unreadable → Type 0
-AreRead (Ok words) = Unit {0}
-AreRead (Err NotText) = Unit {0}
-AreRead (Err OutOfMemory) = ⊥
+abbrev pub AreWordsRead : Result (List (List ℕ)) Unreadable → Type 0
+AreWordsRead (Ok words) = Unit {0}
+AreWordsRead (Err NotText) = Unit {0}
+AreWordsRead (Err OutOfMemory) = ⊥
 
 -- the words, or why they can't be read; and the shelf, the input and the output before the call and after it
 pub record Process : Type 0 where
   pub words : Result (List (List ℕ)) Unreadable
-  pub shelf : Move Shelved
-  pub input : Move Port
-  pub output : Move Port
+  pub shelf : PortMove Shelved
+  pub input : PortMove Port
+  pub output : PortMove Port
 
-abbrev pub process : Result (List (List ℕ)) Unreadable → Move Shelved → Move Port → Move Port → Process
+abbrev pub process : Result (List (List ℕ)) Unreadable → PortMove Shelved → PortMove Port → PortMove Port → Process
 process words shelf input output = record { words = words; shelf = shelf; input = input; output = output }
 
 -- what the call was given, where its files and this input are told
@@ -40,10 +40,10 @@ given_to p files input = call_input (words_read p.words) files p.shelf (record {
 
 -- The status and the text are those of the top call on the words; without memory for them the line of that.
 pub record Answers (p : Process) (status : Status) : Type 0 where
-  pub promise : AreRead p.words → IfSome p.shelf.before.files (λ files. IfSome p.input.before.bytes (λ input. Promise (given_to p files input) p.output status))
+  pub promise : AreWordsRead p.words → IfSome p.shelf.before.files (λ files. IfSome p.input.before.bytes (λ input. Promise (given_to p files input) p.output status))
   pub causes : TopCauses p.shelf p.input p.output status
   pub once : FaultsEnd (meaning_of (words_read p.words)) p.shelf.before.files → ShelfCauses p.shelf status
   pub usage : status ≡ ends.Usage → meaning_of (words_read p.words) ≡ None
-  pub files : AreRead p.words → IfSome p.shelf.before.files (λ files. EndsByFiles (words_read p.words) files status)
-  pub text : AreRead p.words → IfSome p.shelf.before.files (λ files. IfSome p.input.before.bytes (λ input. Delivers (CallWrites (given_to p files input)) p.output status))
-  pub memory : p.words ≡ Err OutOfMemory → Delivers (Says refusal.OutOfMemory) p.output status
+  pub files : AreWordsRead p.words → IfSome p.shelf.before.files (λ files. EndsByFiles (words_read p.words) files status)
+  pub text : AreWordsRead p.words → IfSome p.shelf.before.files (λ files. IfSome p.input.before.bytes (λ input. Delivers (CallWrites (given_to p files input)) p.output status))
+  pub memory : p.words ≡ Err OutOfMemory → Delivers (SaysRefusal refusal.OutOfMemory) p.output status

@@ -5,14 +5,14 @@ ghost use Rattle.std.specs.Prelude.{◌≡◌, map, string_bytes, IfSome, None, 
 ghost use Rattle.std.specs.Process.{exit_status};
 ghost use Rattle.std.specs.Result.{result_map_both};
 ghost use Rattle.rept_ports.specs.Port.{move};
-ghost use Rattle.rept_app.specs.Delivered.{Delivers, Says};
+ghost use Rattle.rept_app.specs.Delivered.{Delivers, SaysRefusal};
 ghost use Rattle.rept_app.specs.Promise.{Promise};
 ghost use Rattle.rept_app.specs.Status.{number_of_status};
 ghost use Rattle.rept_app.specs.Told.{CallWrites, call_input};
 ghost use Rattle.rept_app.specs.Top.{FaultsEnd, ShelfCauses, TopCauses, EndsByFiles};
 ghost use Rattle.rept_words.specs.Words.{meaning_of};
 ghost use Rattle.rept_app.specs.declared.refusal.Refusal.TheVariants as refusal;
-ghost use Rattle.rept_run.specs.Process.{Answers, AreRead, process, words_read};
+ghost use Rattle.rept_run.specs.Process.{Answers, AreWordsRead, process, words_read};
 
 use rept_app::{Status, rept, tell_no_memory};
 use rept_ports::{DiskShelf, Shelf, Sink, Source, StdSink, StdSource, Unreadable, words_of};
@@ -28,15 +28,15 @@ fn status_on<H: Shelf, S: Source, K: Sink>(
     input: &mut S,
     out: &mut K,
 ) -> Status
-    ensures promise { let read = result_map_both (λ v. map string_bytes v.items) (λ e. e) words in AreRead read → IfSome (H.port shelf.old).files (λ files. IfSome (S.port input.old).bytes (λ left.
+    ensures promise { let read = result_map_both (λ v. map string_bytes v.items) (λ e. e) words in AreWordsRead read → IfSome (H.port shelf.old).files (λ files. IfSome (S.port input.old).bytes (λ left.
         Promise (call_input (words_read read) files (move (H.port shelf.old) (H.port shelf.new)) (record { input = left; left = (S.port input.new).bytes })) (move (K.port out.old) (K.port out.new)) result)) }
     ensures causes { TopCauses (move (H.port shelf.old) (H.port shelf.new)) (move (S.port input.old) (S.port input.new)) (move (K.port out.old) (K.port out.new)) result }
     ensures once { FaultsEnd (meaning_of (words_read (result_map_both (λ v. map string_bytes v.items) (λ e. e) words))) (H.port shelf.old).files → ShelfCauses (move (H.port shelf.old) (H.port shelf.new)) result }
     ensures usage { result ≡ Status.Usage → meaning_of (words_read (result_map_both (λ v. map string_bytes v.items) (λ e. e) words)) ≡ None }
-    ensures files { let read = result_map_both (λ v. map string_bytes v.items) (λ e. e) words in AreRead read → IfSome (H.port shelf.old).files (λ files. EndsByFiles (words_read read) files result) }
-    ensures text { let read = result_map_both (λ v. map string_bytes v.items) (λ e. e) words in AreRead read → IfSome (H.port shelf.old).files (λ files. IfSome (S.port input.old).bytes (λ left.
+    ensures files { let read = result_map_both (λ v. map string_bytes v.items) (λ e. e) words in AreWordsRead read → IfSome (H.port shelf.old).files (λ files. EndsByFiles (words_read read) files result) }
+    ensures text { let read = result_map_both (λ v. map string_bytes v.items) (λ e. e) words in AreWordsRead read → IfSome (H.port shelf.old).files (λ files. IfSome (S.port input.old).bytes (λ left.
         Delivers (CallWrites (call_input (words_read read) files (move (H.port shelf.old) (H.port shelf.new)) (record { input = left; left = (S.port input.new).bytes }))) (move (K.port out.old) (K.port out.new)) result)) }
-    ensures memory { words ≡ Err Unreadable.OutOfMemory → Delivers (Says refusal.OutOfMemory) (move (K.port out.old) (K.port out.new)) result }
+    ensures memory { words ≡ Err Unreadable.OutOfMemory → Delivers (SaysRefusal refusal.OutOfMemory) (move (K.port out.old) (K.port out.new)) result }
 {
     match words {
         Ok(words) => rept(alloc, words.as_slice(), shelf, input, out),

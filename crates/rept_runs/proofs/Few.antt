@@ -19,8 +19,8 @@ use Rattle.rept_path.specs.Gap.{Goal, Edge, gap, row, call_row, crossing, by_flo
 use Rattle.rept_path.proofs.MoveLemmas.{bind_ok}
 use Rattle.rept_slices.specs.Parts.{thread_of, begin_of}
 use Rattle.rept_slices.specs.Order.{put, by_time, head_of}
-use Rattle.rept_slices.specs.Stretches.{Ran, ran}
-use Rattle.rept_slices.specs.Joins.{Note, ThreadGround, Ground, Joined, bridge, with_rows, join, thread, thread_ground, of_thread, rows_in, ran_rows, threads, stand_at}
+use Rattle.rept_slices.specs.Stretches.{RanSlice, ran}
+use Rattle.rept_slices.specs.Joins.{ThreadNote, ThreadGround, JoinGround, JoinedSlice, bridge, with_rows, join, thread, thread_ground, of_thread, rows_in, ran_rows, threads, stand_at}
 use Rattle.rept_slices.specs.Checks.{first_fault}
 use Rattle.rept_slices.specs.Many.{Traces, IsRunOfStreams, processes, left, ground, overlap_fault, unmet, run_by}
 use Rattle.rept_slices.specs.Raw.{note_in, traces}
@@ -28,7 +28,7 @@ use Rattle.rept_dump.specs.Registers.{first_twin, pid_of}
 use Rattle.rept_steps.specs.declared.run.Run.{Run}
 use Rattle.rept_steps.specs.Runs.{course_of}
 use Rattle.rept_timeline.specs.Small.{IsSmall, rows_in as rows_of_threads}
-use Rattle.rept_runs.specs.Told.{Traced, IsTracedRun, AreApart, files_in}
+use Rattle.rept_runs.specs.Told.{Traced, IsTracedRun, AreNotesApart, files_in}
 
 pub ok_same : {A : Type 0} {x y : A} → ◌≡◌ {A = Result A PathFault} (Ok x) (Ok y) → x ≡ y
 ok_same e = cc
@@ -36,11 +36,11 @@ ok_same e = cc
 pub err_ok : {A : Type 0} {x : A} {e : PathFault} → ◌≡◌ {A = Result A PathFault} (Err e) (Ok x) → ⊥
 err_ok h = cc
 
-ran_cons : (r : Ran) (rs : List Ran) → ran_rows (r ∷ rs) ≡ length r.rows + ran_rows rs
-ran_cons r rs = sum_by-cons (λ (q : Ran). length q.rows) r rs
+ran_cons : (r : RanSlice) (rs : List RanSlice) → ran_rows (r ∷ rs) ≡ length r.rows + ran_rows rs
+ran_cons r rs = sum_by-cons (λ (q : RanSlice). length q.rows) r rs
 
-joined_cons : (j : Joined) (js : List Joined) → rows_in (j ∷ js) ≡ length j.rows + rows_in js
-joined_cons j js = sum_by-cons (λ (k : Joined). length k.rows) j js
+joined_cons : (j : JoinedSlice) (js : List JoinedSlice) → rows_in (j ∷ js) ≡ length j.rows + rows_in js
+joined_cons j js = sum_by-cons (λ (k : JoinedSlice). length k.rows) j js
 
 -- where there are rows, there is one at least
 abbrev HasRow : Result (List StepRow) PathFault → Type 0
@@ -99,26 +99,26 @@ gap_some code s goal rows is =
     ]
 
 -- the last slice of a thread leads to the end, so there is room for a row
-end_fits : (e : ThreadGround) (count : ℕ) (r : Ran) (more : List StepRow) → bridge e count r None ≡ Ok more → count + length more ≤ 65536
+end_fits : (e : ThreadGround) (count : ℕ) (r : RanSlice) (more : List StepRow) → bridge e count r None ≡ Ok more → count + length more ≤ 65536
 end_fits e count r more is =
     let fits = gap_some e.code (stand_at e.packets r count) _ more is in
     let some = fits.0 in let room : length more ≤ 65536 - count = omega (arith, fits.1) in
     omega arith
 
 -- the rows of a thread's slices with those of its joins: they are no fewer, and with so many rows of all threads before there is room for them
-record Fits (count : ℕ) (rs : List Ran) (js : List Joined) : Type 0 where
+record Fits (count : ℕ) (rs : List RanSlice) (js : List JoinedSlice) : Type 0 where
   own : ran_rows rs ≤ rows_in js
   none : rs ≡ [] → rows_in js ≡ 0
   room : (rs ≡ []) ⊎ (count + (rows_in js - ran_rows rs) ≤ 65536)
 
-some_nil : {r : Ran} {rs : List Ran} → r ∷ rs ≡ [] → ⊥
+some_nil : {r : RanSlice} {rs : List RanSlice} → r ∷ rs ≡ [] → ⊥
 some_nil e = cc
 
-with_rows_count : (r : Ran) (more : List StepRow) → length (with_rows r more).rows ≡ length r.rows + length more
+with_rows_count : (r : RanSlice) (more : List StepRow) → length (with_rows r more).rows ≡ length r.rows + length more
 with_rows_count r more = let n = length-append r.rows (reverse more) in let m = length-reverse more in omega arith
 
 -- the first slice, where the others fit
-first_fits : (e : ThreadGround) (count : ℕ) (r : Ran) (rs : List Ran) (more : List StepRow) (others : List Joined) (all : ℕ) → bridge e count r (head_of rs) ≡ Ok more → Fits (count + length more) rs others → all ≡ length r.rows + length more + rows_in others → count + (all - (length r.rows + ran_rows rs)) ≤ 65536
+first_fits : (e : ThreadGround) (count : ℕ) (r : RanSlice) (rs : List RanSlice) (more : List StepRow) (others : List JoinedSlice) (all : ℕ) → bridge e count r (head_of rs) ≡ Ok more → Fits (count + length more) rs others → all ≡ length r.rows + length more + rows_in others → count + (all - (length r.rows + ran_rows rs)) ≤ 65536
 first_fits e count r [] more others all led rest n = let room = end_fits e count r more led in let none = rest.none refl in omega arith
 first_fits e count r (q ∷ rs) more others all led rest n =
     let own = rest.own in
@@ -127,29 +127,29 @@ first_fits e count r (q ∷ rs) more others all led rest n =
       | inr room ↦ omega arith
     ]
 
-join_fits : (e : ThreadGround) (count : ℕ) (rs : List Ran) (js : List Joined) → join e count rs ≡ Ok js → Fits count rs js
-join_fits e count [] js is = let n = ap (λ (xs : List Joined). rows_in xs) (ok_same is) in record { own = omega arith; none = λ nil. omega arith; room = inl refl }
+join_fits : (e : ThreadGround) (count : ℕ) (rs : List RanSlice) (js : List JoinedSlice) → join e count rs ≡ Ok js → Fits count rs js
+join_fits e count [] js is = let n = ap (λ (xs : List JoinedSlice). rows_in xs) (ok_same is) in record { own = omega arith; none = λ nil. omega arith; room = inl refl }
 join_fits e count (r ∷ rs) js is =
     let b = bind_ok (bridge e count r (head_of rs)) (λ more. join e (count + length more) rs >>= (λ others. Ok (with_rows r more ∷ others))) js is in
     let c = bind_ok (join e (count + length b.0) rs) (λ others. Ok (with_rows r b.0 ∷ others)) js b.2 in
     let rest = join_fits e (count + length b.0) rs c.0 c.1 in
     let first = with_rows_count r b.0 in
-    let n : length (with_rows r b.0).rows + rows_in c.0 ≡ rows_in js = sym (joined_cons (with_rows r b.0) c.0) ∙ ap (λ (xs : List Joined). rows_in xs) (ok_same c.2) in
+    let n : length (with_rows r b.0).rows + rows_in c.0 ≡ rows_in js = sym (joined_cons (with_rows r b.0) c.0) ∙ ap (λ (xs : List JoinedSlice). rows_in xs) (ok_same c.2) in
     let own = rest.own in
     let all = ran_cons r rs in
     let fits = first_fits e count r rs b.0 c.0 (rows_in js) b.1 rest (omega arith) in
     record { own = omega arith; none = λ nil. absurd (some_nil nil); room = inr (omega arith) }
 
 -- how many rows the slices of these threads have
-own_rows : List Note → List Ran → ℕ
+own_rows : List ThreadNote → List RanSlice → ℕ
 own_rows [] rs = 0
 own_rows (note ∷ notes) rs = ran_rows (of_thread note.process rs) + own_rows notes rs
 
-thread_count : (js : List Joined) → length (thread js).steps ≡ rows_in js
+thread_count : (js : List JoinedSlice) → length (thread js).steps ≡ rows_in js
 thread_count [] = refl
-thread_count (j ∷ js) = let rest = thread_count js in let all = joined_cons j js in let n = length-append j.rows (flat_map (λ (k : Joined). k.rows) js) in omega arith
+thread_count (j ∷ js) = let rest = thread_count js in let all = joined_cons j js in let n = length-append j.rows (flat_map (λ (k : JoinedSlice). k.rows) js) in omega arith
 
-threads_fit : (g : Ground) (count : ℕ) (notes : List Note) (rs : List Ran) (all : List ThreadRows) → threads g count notes rs ≡ Ok all → (rows_of_threads all ≡ 0) ⊎ (rows_of_threads all + count ≤ 65536 + own_rows notes rs)
+threads_fit : (g : JoinGround) (count : ℕ) (notes : List ThreadNote) (rs : List RanSlice) (all : List ThreadRows) → threads g count notes rs ≡ Ok all → (rows_of_threads all ≡ 0) ⊎ (rows_of_threads all + count ≤ 65536 + own_rows notes rs)
 unfolding own_rows
 threads_fit g count [] rs all is = inl (ap (λ (xs : List ThreadRows). rows_of_threads xs) (sym (ok_same is)))
 threads_fit g count (note ∷ notes) rs all is =
@@ -168,7 +168,7 @@ threads_fit g count (note ∷ notes) rs all is =
       | inr room ↦ elim rest [ inl empty ↦ inr (omega arith) | inr few ↦ inr (omega arith) ]
     ]
 
-pub threads_count : (g : Ground) (count : ℕ) (notes : List Note) (rs : List Ran) (all : List ThreadRows) → threads g count notes rs ≡ Ok all → length all ≡ length notes
+pub threads_count : (g : JoinGround) (count : ℕ) (notes : List ThreadNote) (rs : List RanSlice) (all : List ThreadRows) → threads g count notes rs ≡ Ok all → length all ≡ length notes
 threads_count g count [] rs all is = ap (λ (xs : List ThreadRows). length xs) (sym (ok_same is))
 threads_count g count (note ∷ notes) rs all is =
     let own = of_thread note.process rs in
@@ -179,7 +179,7 @@ threads_count g count (note ∷ notes) rs all is =
     omega arith
 
 -- the slices of a thread in order have as many rows as in any
-put_count : (time : Ran → ℕ) (x : Ran) (ys : List Ran) → ran_rows (put time x ys) ≡ length x.rows + ran_rows ys
+put_count : (time : RanSlice → ℕ) (x : RanSlice) (ys : List RanSlice) → ran_rows (put time x ys) ≡ length x.rows + ran_rows ys
 put_count time x [] = ran_cons x []
 put_count time x (y ∷ ys) = by_place (nat_le (time x) (time y)) (put_count time x ys)
   where
@@ -187,35 +187,35 @@ put_count time x (y ∷ ys) = by_place (nat_le (time x) (time y)) (put_count tim
     by_place true rest = ran_cons x (y ∷ ys)
     by_place false rest = let there = ran_cons y (put time x ys) in let here = ran_cons y ys in omega arith
 
-time_count : (time : Ran → ℕ) (xs : List Ran) → ran_rows (by_time time xs) ≡ ran_rows xs
+time_count : (time : RanSlice → ℕ) (xs : List RanSlice) → ran_rows (by_time time xs) ≡ ran_rows xs
 time_count time [] = refl
 time_count time (x ∷ xs) = let rest = time_count time xs in let all = ran_cons x xs in let n = put_count time x (by_time time xs) in omega arith
 
 -- one slice more is a slice of this process or not
-abbrev own_of : ℕ → List Ran → ℕ
-own_of process rs = ran_rows (filter (λ (r : Ran). thread_of r.told == process) rs)
+abbrev own_of : ℕ → List RanSlice → ℕ
+own_of process rs = ran_rows (filter (λ (r : RanSlice). thread_of r.told == process) rs)
 
-own_is : (process : ℕ) (rs : List Ran) → ran_rows (of_thread process rs) ≡ own_of process rs
-own_is process rs = time_count (λ (r : Ran). begin_of r.told) (filter (λ (r : Ran). thread_of r.told == process) rs)
+own_is : (process : ℕ) (rs : List RanSlice) → ran_rows (of_thread process rs) ≡ own_of process rs
+own_is process rs = time_count (λ (r : RanSlice). begin_of r.told) (filter (λ (r : RanSlice). thread_of r.told == process) rs)
 
-own_more : (process : ℕ) (r : Ran) (rs : List Ran) → thread_of r.told ≡ process → ran_rows (of_thread process (r ∷ rs)) ≡ length r.rows + ran_rows (of_thread process rs)
+own_more : (process : ℕ) (r : RanSlice) (rs : List RanSlice) → thread_of r.told ≡ process → ran_rows (of_thread process (r ∷ rs)) ≡ length r.rows + ran_rows (of_thread process rs)
 own_more process r rs same =
-    let here : own_of process (r ∷ rs) ≡ length r.rows + own_of process rs = rw (eqb_refl_at (thread_of r.told) process same) (ran_cons r (filter (λ (q : Ran). thread_of q.told == process) rs)) in
+    let here : own_of process (r ∷ rs) ≡ length r.rows + own_of process rs = rw (eqb_refl_at (thread_of r.told) process same) (ran_cons r (filter (λ (q : RanSlice). thread_of q.told == process) rs)) in
     own_is process (r ∷ rs) ∙ here ∙ ap (λ (n : ℕ). length r.rows + n) (sym (own_is process rs))
   where
     eqb_refl_at : (a b : ℕ) → a ≡ b → eqb a b ≡ true
     eqb_refl_at a b e = elim (eqb_tells a b) [ inl t ↦ t.0 | inr t ↦ absurd (t.1 e) ]
 
-own_other : (process : ℕ) (r : Ran) (rs : List Ran) → thread_of r.told ≢ process → ran_rows (of_thread process (r ∷ rs)) ≡ ran_rows (of_thread process rs)
+own_other : (process : ℕ) (r : RanSlice) (rs : List RanSlice) → thread_of r.told ≢ process → ran_rows (of_thread process (r ∷ rs)) ≡ ran_rows (of_thread process rs)
 own_other process r rs other =
     let here : own_of process (r ∷ rs) ≡ own_of process rs = rw (ne_eqb (thread_of r.told) process other) refl in
     own_is process (r ∷ rs) ∙ here ∙ sym (own_is process rs)
 
-abbrev processes_in : List Note → List ℕ
-processes_in notes = map (λ (n : Note). n.process) notes
+abbrev processes_in : List ThreadNote → List ℕ
+processes_in notes = map (λ (n : ThreadNote). n.process) notes
 
 -- no thread of these has the slice
-own_none : (notes : List Note) (r : Ran) (rs : List Ran) → list_any (λ m. m == thread_of r.told) (processes_in notes) ≡ false → own_rows notes (r ∷ rs) ≡ own_rows notes rs
+own_none : (notes : List ThreadNote) (r : RanSlice) (rs : List RanSlice) → list_any (λ m. m == thread_of r.told) (processes_in notes) ≡ false → own_rows notes (r ∷ rs) ≡ own_rows notes rs
 unfolding own_rows
 own_none [] r rs none = refl
 own_none (note ∷ notes) r rs none =
@@ -239,7 +239,7 @@ no_twin n ns none = by_any (list_any (λ m. m == n) ns) refl none
     by_any false e h = (e, h)
 
 -- one thread at most has it
-own_once : (notes : List Note) (r : Ran) (rs : List Ran) → first_twin (processes_in notes) ≡ None → own_rows notes (r ∷ rs) ≤ length r.rows + own_rows notes rs
+own_once : (notes : List ThreadNote) (r : RanSlice) (rs : List RanSlice) → first_twin (processes_in notes) ≡ None → own_rows notes (r ∷ rs) ≤ length r.rows + own_rows notes rs
 unfolding own_rows
 own_once [] r rs apart = omega arith
 own_once (note ∷ notes) r rs apart =
@@ -255,12 +255,12 @@ own_once (note ∷ notes) r rs apart =
           omega arith
     ]
 
-own_nothing : (notes : List Note) → own_rows notes [] ≡ 0
+own_nothing : (notes : List ThreadNote) → own_rows notes [] ≡ 0
 unfolding own_rows
 own_nothing [] = refl
 own_nothing (note ∷ notes) = let rest = own_nothing notes in omega arith
 
-own_few : (notes : List Note) (rs : List Ran) → first_twin (processes_in notes) ≡ None → own_rows notes rs ≤ ran_rows rs
+own_few : (notes : List ThreadNote) (rs : List RanSlice) → first_twin (processes_in notes) ≡ None → own_rows notes rs ≤ ran_rows rs
 own_few notes [] apart = let none = own_nothing notes in omega arith
 own_few notes (r ∷ rs) apart = let rest = own_few notes rs apart in let all = ran_cons r rs in let first = own_once notes r rs apart in omega arith
 
@@ -298,7 +298,7 @@ notes_count [] = refl
 notes_count (desc ∷ descs) = let rest = notes_count descs in omega arith
 
 -- such a run is small
-pub run_small : (t : Traced) (run : Run) → IsTracedRun t run → AreApart t.notes → IsSmall (course_of run)
+pub run_small : (t : Traced) (run : Run) → IsTracedRun t run → AreNotesApart t.notes → IsSmall (course_of run)
 run_small t run is apart =
     let packets = is.2.0 in
     let its = is.2.2 in

@@ -17,8 +17,8 @@ use Rattle.rept_steps.specs.Runs.{course_of}
 use Rattle.rept_path.specs.declared.fault.PathFault.{PathFault}
 use Rattle.rept_path.specs.declared.fault.PathFault.TheVariants.{OutOfMemory}
 use Rattle.rept_order.specs.History.{History, IsExecution}
-use Rattle.rept_runs.specs.Told.{Traced, traced, AreApart, IsTracedRun, HasNoTracedRun}
-use Rattle.rept_runs.specs.Opened.{CrashBytes, HasNotes, HasNoNotes, HasNoRunOf, HasDump, IsOpened, Refuses, Executes, traced_in, ending_of}
+use Rattle.rept_runs.specs.Told.{Traced, traced, AreNotesApart, IsTracedRun, HasNoTracedRun}
+use Rattle.rept_runs.specs.Opened.{OneFileBytes, HasNotes, HasNoNotes, HasNoOpenedRun, HasDump, IsOpenedRun, Refuses, Executes, traced_in, ending_of}
 use Rattle.rept_runs.specs.declared.fault.RunFault.{RunFault}
 use Rattle.rept_runs.specs.declared.fault.RunFault.TheVariants as faults
 
@@ -42,35 +42,35 @@ apart_by_twin : (descs ds : List (List ℕ)) (o : Option ℕ) → first_twin (ma
 apart_by_twin descs ds (Some pid) e h = absurd (ok_err h)
 apart_by_twin descs ds None e h = (ok_descs h, e)
 
-apart_by_count : (descs ds : List (List ℕ)) → Ok descs ≡ by_count ds → AreApart descs
+apart_by_count : (descs ds : List (List ℕ)) → Ok descs ≡ by_count ds → AreNotesApart descs
 apart_by_count descs ds h =
     elim (cases_lt most_threads (length ds)) [
       | inl over ↦ absurd (ok_err (said_at (lt-ltb most_threads (length ds) over)))
       | inr few ↦
           let its = apart_by_twin descs ds (first_twin (map pid_of ds)) refl (said_at (le-ltb most_threads (length ds) few)) in
-          subst (λ (xs : List (List ℕ)). AreApart xs) (sym its.0) (record { few = few; apart = its.1 })
+          subst (λ (xs : List (List ℕ)). AreNotesApart xs) (sym its.0) (record { few = few; apart = its.1 })
     ]
   where
     -- what is said where the count passes the limit, or doesn't
     said_at : {b : Bool} → nat_lt most_threads (length ds) ≡ b → Ok descs ≡ cond b (Err (TooManyThreads (length ds))) (by_twin (first_twin (map pid_of ds)) ds)
     said_at e = h ∙ ap (λ (b : Bool). cond b (Err (TooManyThreads (length ds))) (by_twin (first_twin (map pid_of ds)) ds)) e
 
-apart_by_size : (descs ds : List (List ℕ)) (o : Option ℕ) → Ok descs ≡ by_size o ds → AreApart descs
+apart_by_size : (descs ds : List (List ℕ)) (o : Option ℕ) → Ok descs ≡ by_size o ds → AreNotesApart descs
 apart_by_size descs ds (Some size) h = absurd (ok_err h)
 apart_by_size descs ds None h = apart_by_count descs ds h
 
-apart_of : (descs : List (List ℕ)) (statuses : List Note) → Ok descs ≡ all_registers statuses → AreApart descs
+apart_of : (descs : List (List ℕ)) (statuses : List Note) → Ok descs ≡ all_registers statuses → AreNotesApart descs
 apart_of descs [] h = absurd (ok_err h)
 apart_of descs (note ∷ notes) h = apart_by_size descs (descs_of (note ∷ notes)) (first_short (note ∷ notes)) h
 
-pub notes_apart : (b : CrashBytes) (descs : List (List ℕ)) → HasNotes b descs → AreApart descs
+pub notes_apart : (b : OneFileBytes) (descs : List (List ℕ)) → HasNotes b descs → AreNotesApart descs
 notes_apart b descs h =
     elim h.said [
       | inl cut ↦ absurd (ok_err cut.2)
       | inr whole ↦ apart_of descs (filter is_status whole.0) whole.2
     ]
 
-module _ (b : CrashBytes) where
+module _ (b : OneFileBytes) where
   pub notes_once : (a d : List (List ℕ)) → HasNotes b a → HasNotes b d → a ≡ d
   notes_once a d h k = ok_descs (all_said_once (length b.core) (segments b.core) (Ok a) (Ok d) h.said k.said)
 
@@ -100,21 +100,21 @@ module _ (b : CrashBytes) where
     in_bytes : traced dump descs b.trace b.from ≡ traced_in b descs
     in_bytes = ap (λ (p : Program). record { program = p; notes = descs; trace = b.trace; from = b.from }) its.exe
 
-    pub run_told : (run : Run) → IsTracedRun (traced dump descs b.trace b.from) run → IsOpened b descs run
+    pub run_told : (run : Run) → IsTracedRun (traced dump descs b.trace b.from) run → IsOpenedRun b descs run
     run_told run is = record { notes = its.notes; told = subst (λ (t : Traced). IsTracedRun t run) in_bytes is }
 
-    pub run_back : (d : List (List ℕ)) (run : Run) → IsOpened b d run → IsTracedRun (traced dump descs b.trace b.from) run
+    pub run_back : (d : List (List ℕ)) (run : Run) → IsOpenedRun b d run → IsTracedRun (traced dump descs b.trace b.from) run
     run_back d run is = subst (λ (t : Traced). IsTracedRun t run) (sym in_bytes) (subst (λ (xs : List (List ℕ)). IsTracedRun (traced_in b xs) run) (notes_once d descs is.notes its.notes) is.told)
 
     pub refusal_told : (e : PathFault) → (e ≡ OutOfMemory) ⊎ HasNoTracedRun (traced dump descs b.trace b.from) e → (faults.Trace e ≡ faults.Trace OutOfMemory) ⊎ Refuses b (faults.Trace e)
     refusal_told e (inl none) = inl (ap faults.Trace none)
     refusal_told e (inr why) = inr (inr (descs, e, record { notes = its.notes; refused = subst (λ (t : Traced). HasNoTracedRun t e) in_bytes why }, refl))
 
-    pub refusal_back : (d : List (List ℕ)) (e : PathFault) → HasNoRunOf b d e → HasNoTracedRun (traced dump descs b.trace b.from) e
+    pub refusal_back : (d : List (List ℕ)) (e : PathFault) → HasNoOpenedRun b d e → HasNoTracedRun (traced dump descs b.trace b.from) e
     refusal_back d e why = subst (λ (t : Traced). HasNoTracedRun t e) (sym in_bytes) (subst (λ (xs : List (List ℕ)). HasNoTracedRun (traced_in b xs) e) (notes_once d descs why.notes its.notes) why.refused)
 
     -- executions of the files are those of the run
-    pub executions : (run : Run) → IsOpened b descs run → ((d : List (List ℕ)) (other : Run) → IsOpened b d other → run ≡ other) → (h : History) → Executes b h ↔ ((d : List (List ℕ)) × HasDump b d dump × IsExecution (course_of run) (ending_of b d) h)
+    pub executions : (run : Run) → IsOpenedRun b descs run → ((d : List (List ℕ)) (other : Run) → IsOpenedRun b d other → run ≡ other) → (h : History) → Executes b h ↔ ((d : List (List ℕ)) × HasDump b d dump × IsExecution (course_of run) (ending_of b d) h)
     executions run opened only h = (there, back)
       where
         there : Executes b h → (d : List (List ℕ)) × HasDump b d dump × IsExecution (course_of run) (ending_of b d) h
@@ -123,7 +123,7 @@ module _ (b : CrashBytes) where
             (descs, its, subst (λ (r : Run). IsExecution (course_of r) (ending_of b descs) h) (sym (only x.0 x.1 x.2)) (subst (λ (d : List (List ℕ)). IsExecution (course_of x.1) (ending_of b d) h) same x.3))
 
         back : ((d : List (List ℕ)) × HasDump b d dump × IsExecution (course_of run) (ending_of b d) h) → Executes b h
-        back x = (x.0, run, subst (λ (d : List (List ℕ)). IsOpened b d run) (notes_once descs x.0 its.notes x.1.notes) opened, x.2)
+        back x = (x.0, run, subst (λ (d : List (List ℕ)). IsOpenedRun b d run) (notes_once descs x.0 its.notes x.1.notes) opened, x.2)
 
 pub refused_alike : (e other : PathFault) (fault : RunFault) → fault ≡ faults.Trace other → (e ≡ OutOfMemory) ⊎ (e ≡ other) → (faults.Trace e ≡ faults.Trace OutOfMemory) ⊎ (faults.Trace e ≡ fault)
 refused_alike e other fault is (inl none) = inl (ap faults.Trace none)

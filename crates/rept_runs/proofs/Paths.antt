@@ -19,8 +19,8 @@ use Rattle.rept_path.specs.Moves.{Stand, ◌>>=◌}
 use Rattle.rept_path.specs.Gap.{Goal, Edge, gap, row, call_row, crossing, by_flow, by_successor}
 use Rattle.rept_path.proofs.MoveLemmas.{bind_ok}
 use Rattle.rept_slices.specs.Order.{head_of}
-use Rattle.rept_slices.specs.Stretches.{Ran, ran}
-use Rattle.rept_slices.specs.Joins.{Note, ThreadGround, Ground, Joined, bridge, with_rows, join, slices, thread, thread_ground, of_thread, rows_in, ran_rows, threads, stand_at}
+use Rattle.rept_slices.specs.Stretches.{RanSlice, ran}
+use Rattle.rept_slices.specs.Joins.{ThreadNote, ThreadGround, JoinGround, JoinedSlice, bridge, with_rows, join, slices, thread, thread_ground, of_thread, rows_in, ran_rows, threads, stand_at}
 use Rattle.rept_slices.specs.Many.{left, ground}
 use Rattle.rept_slices.specs.Raw.{note_in, traces}
 use Rattle.rept_moments.specs.Seen.{rows_in as rows_of_slices, alone_by}
@@ -100,16 +100,16 @@ led_ends a own more led =
     let n = length-append (own ++ reverse led.rest) (led.row ∷ []) in
     subst (EndsAt a) (sym back) (record { some = omega arith; ends = end_at (own ++ reverse led.rest) led.row a led.next })
 
-join_count : (e : ThreadGround) (count : ℕ) (rs : List Ran) (js : List Joined) → join e count rs ≡ Ok js → length js ≡ length rs
-join_count e count [] js is = ap (λ (xs : List Joined). length xs) (sym (ok_same is))
+join_count : (e : ThreadGround) (count : ℕ) (rs : List RanSlice) (js : List JoinedSlice) → join e count rs ≡ Ok js → length js ≡ length rs
+join_count e count [] js is = ap (λ (xs : List JoinedSlice). length xs) (sym (ok_same is))
 join_count e count (r ∷ rs) js is =
     let b = bind_ok (bridge e count r (head_of rs)) (λ more. join e (count + length more) rs >>= (λ others. Ok (with_rows r more ∷ others))) js is in
     let c = bind_ok (join e (count + length b.0) rs) (λ others. Ok (with_rows r b.0 ∷ others)) js b.2 in
     let rest = join_count e (count + length b.0) rs c.0 c.1 in
-    let n = ap (λ (xs : List Joined). length xs) (ok_same c.2) in
+    let n = ap (λ (xs : List JoinedSlice). length xs) (ok_same c.2) in
     omega arith
 
-slices_count : (first : ℕ) (js : List Joined) → length (slices first js) ≡ length js
+slices_count : (first : ℕ) (js : List JoinedSlice) → length (slices first js) ≡ length js
 slices_count first [] = refl
 slices_count first (j ∷ js) = let rest = slices_count (first + length j.rows) js in omega arith
 
@@ -118,7 +118,7 @@ no_more [] e = refl
 no_more (x ∷ xs) e = absurd (omega arith)
 
 -- the rows of a thread of one slice
-joined_one : (e : ThreadGround) (count : ℕ) (rs : List Ran) (js : List Joined) (s : Slice) → join e count rs ≡ Ok js → slices 0 js ≡ s ∷ [] → EndsAt e.pc (thread js).steps
+joined_one : (e : ThreadGround) (count : ℕ) (rs : List RanSlice) (js : List JoinedSlice) (s : Slice) → join e count rs ≡ Ok js → slices 0 js ≡ s ∷ [] → EndsAt e.pc (thread js).steps
 joined_one e count [] js s is one =
     let n = join_count e count [] js is in
     let m = slices_count 0 js in
@@ -128,8 +128,8 @@ joined_one e count (r ∷ []) js s is one =
     let b = bind_ok (bridge e count r None) (λ more. join e (count + length more) [] >>= (λ others. Ok (with_rows r more ∷ others))) js is in
     let c = bind_ok (join e (count + length b.0) []) (λ others. Ok (with_rows r b.0 ∷ others)) js b.2 in
     let none : [] ≡ c.0 = ok_same c.1 in
-    let whole : js ≡ with_rows r b.0 ∷ [] = sym (ok_same c.2) ∙ ap (λ (xs : List Joined). with_rows r b.0 ∷ xs) (sym none) in
-    let rows : (thread js).steps ≡ r.rows ++ reverse b.0 = ap (λ (xs : List Joined). (thread xs).steps) whole ∙ append-nil (r.rows ++ reverse b.0) in
+    let whole : js ≡ with_rows r b.0 ∷ [] = sym (ok_same c.2) ∙ ap (λ (xs : List JoinedSlice). with_rows r b.0 ∷ xs) (sym none) in
+    let rows : (thread js).steps ≡ r.rows ++ reverse b.0 = ap (λ (xs : List JoinedSlice). (thread xs).steps) whole ∙ append-nil (r.rows ++ reverse b.0) in
     subst (EndsAt e.pc) (sym rows) (led_ends e.pc r.rows b.0 (gap_leads e.code (stand_at e.packets r count) _ b.0 b.1))
 joined_one e count (r ∷ q ∷ rs) js s is one =
     let n = join_count e count (r ∷ q ∷ rs) js is in
@@ -147,12 +147,12 @@ nil_more : {x : ThreadRows} {xs : List ThreadRows} → [] ≡ x ∷ xs → ⊥
 nil_more e = cc
 
 -- the only note, and how its thread ends
-record Only (notes : List Note) (rows : List StepRow) : Type 0 where
-  note : Note
+record Only (notes : List ThreadNote) (rows : List StepRow) : Type 0 where
+  note : ThreadNote
   is : notes ≡ note ∷ []
   ends : EndsAt note.pc rows
 
-threads_one : (g : Ground) (count : ℕ) (notes : List Note) (rs : List Ran) (th : ThreadRows) (s : Slice) → threads g count notes rs ≡ Ok (th ∷ []) → th.slices ≡ s ∷ [] → Only notes th.steps
+threads_one : (g : JoinGround) (count : ℕ) (notes : List ThreadNote) (rs : List RanSlice) (th : ThreadRows) (s : Slice) → threads g count notes rs ≡ Ok (th ∷ []) → th.slices ≡ s ∷ [] → Only notes th.steps
 threads_one g count [] rs th s is one = absurd (nil_more (ok_same is))
 threads_one g count (note ∷ notes) rs th s is one =
     let own = of_thread note.process rs in
@@ -164,7 +164,7 @@ threads_one g count (note ∷ notes) rs th s is one =
     let k = ap (λ (xs : List ThreadRows). length xs) none in
     record {
       note = note;
-      is = ap (λ (xs : List Note). note ∷ xs) (no_more notes (omega arith));
+      is = ap (λ (xs : List ThreadNote). note ∷ xs) (no_more notes (omega arith));
       ends = subst (λ (x : ThreadRows). EndsAt note.pc x.steps) same (joined_one (thread_ground g.code g.packets note) count own b.0 s b.1 (ap (λ (x : ThreadRows). x.slices) same ∙ one));
     }
 
@@ -194,14 +194,14 @@ alone_of (th ∷ []) None rows e = of_slices th.slices refl e
 alone_of (th ∷ other ∷ all) dark rows e = absurd (none_some e)
 
 desc_of : (descs : List (List ℕ)) (rows : List StepRow) → Only (map note_in descs) rows → EndsPath descs rows
-desc_of [] rows only = absurd (let n = ap (λ (xs : List Note). length xs) only.is in omega arith)
+desc_of [] rows only = absurd (let n = ap (λ (xs : List ThreadNote). length xs) only.is in omega arith)
 desc_of (desc ∷ []) rows only =
     let same : note_in desc ≡ only.note = first_note only.is in
-    record { desc = desc; is = refl; some = only.ends.some; ends = subst (λ (n : Note). EndBefore rows n.pc) (sym same) only.ends.ends }
+    record { desc = desc; is = refl; some = only.ends.some; ends = subst (λ (n : ThreadNote). EndBefore rows n.pc) (sym same) only.ends.ends }
   where
-    first_note : {x y : Note} {xs ys : List Note} → x ∷ xs ≡ y ∷ ys → x ≡ y
+    first_note : {x y : ThreadNote} {xs ys : List ThreadNote} → x ∷ xs ≡ y ∷ ys → x ≡ y
     first_note e = cc
-desc_of (desc ∷ other ∷ descs) rows only = absurd (let n = ap (λ (xs : List Note). length xs) only.is in omega arith)
+desc_of (desc ∷ other ∷ descs) rows only = absurd (let n = ap (λ (xs : List ThreadNote). length xs) only.is in omega arith)
 
 pub path_ends : (t : Traced) (run : Run) (rows : List StepRow) → IsTracedRun t run → path_rows run ≡ Some rows → EndsPath t.notes rows
 path_ends t run rows is one =

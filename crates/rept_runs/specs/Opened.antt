@@ -22,30 +22,30 @@ use Rattle.rept_runs.specs.declared.fault.RunFault.TheVariants as faults
 use Rattle.rept_runs.specs.declared.opening.CrashFiles.{CrashFiles}
 
 -- the bytes of the executable, the core file and the trace, and the number of the packet of each stream from which on its window may begin
-pub record CrashBytes : Type 0 where
+pub record OneFileBytes : Type 0 where
   pub exe : List ℕ
   pub core : List ℕ
   pub trace : List ℕ
   pub from : ℕ
 
-abbrev pub bytes_of : CrashFiles → CrashBytes
+abbrev pub bytes_of : CrashFiles → OneFileBytes
 bytes_of files = record { exe = files.exe.now; core = files.core.now; trace = files.trace.now; from = files.from }
 
 -- why the executable is refused, and why the core file is as an image; None where it is accepted
-abbrev pub executable_fault : CrashBytes → Option ElfFault
+abbrev pub executable_fault : OneFileBytes → Option ElfFault
 executable_fault b = first_failure (checks want.Exec b.exe)
 
-abbrev pub core_image_fault : CrashBytes → Option ElfFault
+abbrev pub core_image_fault : OneFileBytes → Option ElfFault
 core_image_fault b = first_failure (checks want.Core b.core)
 
 -- both are accepted, and the notes of the core file are these, one of each thread
-pub record HasNotes (b : CrashBytes) (descs : List (List ℕ)) : Type 0 where
+pub record HasNotes (b : OneFileBytes) (descs : List (List ℕ)) : Type 0 where
   pub executable : executable_fault b ≡ None
   pub core_image : core_image_fault b ≡ None
   pub said : SaysOfAll (length b.core) (segments b.core) (Ok descs)
 
 -- the dump is of these files and these notes
-pub record HasDump (b : CrashBytes) (descs : List (List ℕ)) (dump : Dump) : Type 0 where
+pub record HasDump (b : OneFileBytes) (descs : List (List ℕ)) (dump : Dump) : Type 0 where
   pub notes : HasNotes b descs
   pub exe : exe_of dump ≡ OneFile b.exe
   pub core : core_of dump ≡ segments b.core
@@ -53,29 +53,29 @@ pub record HasDump (b : CrashBytes) (descs : List (List ℕ)) (dump : Dump) : Ty
   pub count : threads_of dump ≡ length descs
 
 -- what the run of these notes is told by
-abbrev pub traced_in : CrashBytes → List (List ℕ) → Traced
+abbrev pub traced_in : OneFileBytes → List (List ℕ) → Traced
 traced_in b descs = record { program = OneFile b.exe; notes = descs; trace = b.trace; from = b.from }
 
 -- The files tell this run, of the threads of these notes.
-pub record IsOpened (b : CrashBytes) (descs : List (List ℕ)) (run : Run) : Type 0 where
+pub record IsOpenedRun (b : OneFileBytes) (descs : List (List ℕ)) (run : Run) : Type 0 where
   pub notes : HasNotes b descs
   pub told : IsTracedRun (traced_in b descs) run
 
 -- Why the notes of the threads can't be had: the first of these.
-abbrev pub HasNoNotes : CrashBytes → RunFault → Type 0
+abbrev pub HasNoNotes : OneFileBytes → RunFault → Type 0
 HasNoNotes b (faults.Executable fault) = executable_fault b ≡ Some fault
 HasNoNotes b (faults.CoreImage fault) = (executable_fault b ≡ None) × (core_image_fault b ≡ Some fault)
 HasNoNotes b (faults.Core fault) = (executable_fault b ≡ None) × (core_image_fault b ≡ None) × SaysOfAll (length b.core) (segments b.core) (Err fault)
 HasNoNotes b (faults.Trace fault) = ⊥
 
 -- The trace tells no run of the threads of these notes, and this is why.
-pub record HasNoRunOf (b : CrashBytes) (descs : List (List ℕ)) (fault : PathFault) : Type 0 where
+pub record HasNoOpenedRun (b : OneFileBytes) (descs : List (List ℕ)) (fault : PathFault) : Type 0 where
   pub notes : HasNotes b descs
   pub refused : HasNoTracedRun (traced_in b descs) fault
 
 -- Why the files tell no run: there are no notes, or the trace tells no run of their threads.
-abbrev pub Refuses : CrashBytes → RunFault → Type 0
-Refuses b e = HasNoNotes b e ⊎ ((descs : List (List ℕ)) × (fault : PathFault) × HasNoRunOf b descs fault × (e ≡ faults.Trace fault))
+abbrev pub Refuses : OneFileBytes → RunFault → Type 0
+Refuses b e = HasNoNotes b e ⊎ ((descs : List (List ℕ)) × (fault : PathFault) × HasNoOpenedRun b descs fault × (e ≡ faults.Trace fault))
 
 -- the values of x0 to x31 in the descriptor of a register note
 abbrev pub value_in : List ℕ → ℕ → ℕ
@@ -89,9 +89,9 @@ values_by None = []
 values_by (Some desc) = values_in desc
 
 -- how the run ended: with the registers of the notes, and with the bytes that the core file saved or the program can't have changed
-abbrev pub ending_of : CrashBytes → List (List ℕ) → Ending
+abbrev pub ending_of : OneFileBytes → List (List ℕ) → Ending
 ending_of b descs = record { registers = λ t. values_by (slice_get descs t); dump = crash_byte (contents (OneFile b.exe)) (segments b.core); image_end = (contents (OneFile b.exe)).end }
 
 -- an execution that the files tell
-abbrev pub Executes : CrashBytes → History → Type 0
-Executes b h = (descs : List (List ℕ)) × (run : Run) × IsOpened b descs run × IsExecution (course_of run) (ending_of b descs) h
+abbrev pub Executes : OneFileBytes → History → Type 0
+Executes b h = (descs : List (List ℕ)) × (run : Run) × IsOpenedRun b descs run × IsExecution (course_of run) (ending_of b descs) h

@@ -9,7 +9,7 @@ use Rattle.rept_trace.specs.Streams.{StreamFile, AreStreams, AreNoStreams}
 use Rattle.rept_trace.specs.declared.fault.TraceFault.{TraceFault}
 use Rattle.rept_path.specs.declared.fault.PathFault.{PathFault}
 use Rattle.rept_path.specs.declared.fault.PathFault.TheVariants.{Packet}
-use Rattle.rept_slices.specs.Raw.{Files, note_in, IsRunOf, HasNoRun}
+use Rattle.rept_slices.specs.Raw.{RawFiles, note_in, IsRunOfFiles, HasNoRun}
 
 -- what a run is told by: the files of the program, the descriptors of the register notes, one of each thread, the bytes of the trace, and the number of the packet of each stream from which on its window may begin
 pub record Traced : Type 0 where
@@ -23,12 +23,12 @@ abbrev pub traced : Dump → List (List ℕ) → List ℕ → ℕ → Traced
 traced dump descs trace from = record { program = exe_of dump; notes = descs; trace = trace; from = from }
 
 -- with what the trace is a file of
-abbrev pub files_in : Traced → StreamFile → Files
+abbrev pub files_in : Traced → StreamFile → RawFiles
 files_in t file = record { contents = contents t.program; file = file; notes = map note_in t.notes; from = t.from }
 
 -- The trace is a file of streams, and they tell this run.
 abbrev pub IsTracedRun : Traced → Run → Type 0
-IsTracedRun t run = (file : StreamFile) × AreStreams t.trace file × IsRunOf (files_in t file) run
+IsTracedRun t run = (file : StreamFile) × AreStreams t.trace file × IsRunOfFiles (files_in t file) run
 
 -- The trace is no file of streams, and this is why; or it is one, and this is why they tell no run.
 abbrev pub HasNoTracedRun : Traced → PathFault → Type 0
@@ -37,6 +37,6 @@ HasNoTracedRun t fault =
     ⊎ ((file : StreamFile) × AreStreams t.trace file × HasNoRun (files_in t file) fault)
 
 -- the notes of few threads, no two of one process
-pub record AreApart (descs : List (List ℕ)) : Type 0 where
+pub record AreNotesApart (descs : List (List ℕ)) : Type 0 where
   pub few : length descs ≤ most_threads
   pub apart : first_twin (map pid_of descs) ≡ None

@@ -16,13 +16,5 @@ pub fn is_several(trace: &[u8]) -> bool
 pub fn one_path(run: &Run) -> Option<&Steps>
     ensures { MatchOption result (path_rows run.now ≡ None) (λ steps. path_rows run.now ≡ Some steps.now) }
 {
-    let threads = run.threads.all();
-    if run.dark.is_some() || threads.len() != 1 {
-        return None;
-    }
-    let slices = threads[0].slices.all();
-    if slices.len() != 1 {
-        return None;
-    }
-    Some(&threads[0].steps)
+    rept_moments::one_path(run)
 }

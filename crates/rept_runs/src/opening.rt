@@ -1,13 +1,13 @@
 //! The run that the files of a crash tell.
 
 ghost use Rattle.std.specs.Prelude.{◌≡◌, ◌⊎◌, ◌<◌, ◌^◌, ◌↔◌, ℕ, List, length, IfOk, IfErr, MatchResult};
-ghost use Rattle.rept_steps.specs.Course.{IsSound};
+ghost use Rattle.rept_steps.specs.Course.{IsSoundCourse};
 ghost use Rattle.rept_steps.specs.Runs.{course_of};
 ghost use Rattle.rept_steps.specs.declared.run.Run as runs;
 ghost use Rattle.rept_path.specs.declared.fault.PathFault.TheVariants.{OutOfMemory};
 ghost use Rattle.rept_order.specs.History.{History, IsExecution};
 ghost use Rattle.rept_timeline.specs.Small.{IsSmall};
-ghost use Rattle.rept_runs.specs.Opened.{bytes_of, HasDump, HasNoNotes, IsOpened, Refuses, Executes, ending_of};
+ghost use Rattle.rept_runs.specs.Opened.{bytes_of, HasDump, HasNoNotes, IsOpenedRun, Refuses, Executes, ending_of};
 ghost use Rattle.rept_runs.specs.declared.fault.RunFault as faults;
 
 use crate::fault::RunFault;
@@ -64,13 +64,13 @@ fn read_threads<'a>(files: CrashFiles<'a>) -> Result<Dump<'a>, RunFault>
 /// A run is sound, and as small as an analysis wants it, and its executions are those of the files.
 pub fn open_run<'a>(alloc: Global, files: CrashFiles<'a>) -> Result<Opened<'a>, RunFault>
     requires { length files.trace.now < 2 ^ 32 }
-    ensures ok { IfOk result (λ o. (descs : List (List ℕ)) × HasDump (bytes_of files.entry) descs o.dump × IsOpened (bytes_of files.entry) descs o.run) }
+    ensures ok { IfOk result (λ o. (descs : List (List ℕ)) × HasDump (bytes_of files.entry) descs o.dump × IsOpenedRun (bytes_of files.entry) descs o.run) }
     ensures err { IfErr result (λ e. (e ≡ RunFault.Trace OutOfMemory) ⊎ Refuses (bytes_of files.entry) e) }
 
     // There is no other run, and no other refusal.
-    ensures only_run { (descs : List (List ℕ)) (other : runs.Run) → IsOpened (bytes_of files.entry) descs other → MatchResult result (λ o. o.run ≡ other) (λ e. e ≡ RunFault.Trace OutOfMemory) }
+    ensures only_run { (descs : List (List ℕ)) (other : runs.Run) → IsOpenedRun (bytes_of files.entry) descs other → MatchResult result (λ o. o.run ≡ other) (λ e. e ≡ RunFault.Trace OutOfMemory) }
     ensures only_refusal { (fault : faults.RunFault) → Refuses (bytes_of files.entry) fault → MatchResult result (λ _. ⊥) (λ e. (e ≡ RunFault.Trace OutOfMemory) ⊎ (e ≡ fault)) }
-    ensures sound { IfOk result (λ o. IsSound (course_of o.run)) }
+    ensures sound { IfOk result (λ o. IsSoundCourse (course_of o.run)) }
     ensures small { IfOk result (λ o. IsSmall (course_of o.run)) }
 
     // What the files tell as an execution is one of this run, and the other way round.

@@ -2,13 +2,13 @@
 
 ghost use Rattle.std.specs.Prelude.{◌≡◌, ◌⊎◌, ◌<◌, ◌^◌, ℕ, List, length, IfOk, IfErr, MatchResult};
 ghost use Rattle.rept_dump.specs.Dump.{HasThreads, threads_of};
-ghost use Rattle.rept_steps.specs.Course.{IsSound};
+ghost use Rattle.rept_steps.specs.Course.{IsSoundCourse};
 ghost use Rattle.rept_steps.specs.Runs.{course_of};
 ghost use Rattle.rept_steps.specs.declared.run.Run.{Run};
 ghost use Rattle.rept_path.specs.declared.fault.PathFault.{PathFault};
 ghost use Rattle.rept_path.specs.declared.fault.PathFault.TheVariants.{OutOfMemory};
 ghost use Rattle.rept_timeline.specs.Small.{IsSmall};
-ghost use Rattle.rept_runs.specs.Told.{traced, AreApart, IsTracedRun, HasNoTracedRun};
+ghost use Rattle.rept_runs.specs.Told.{traced, AreNotesApart, IsTracedRun, HasNoTracedRun};
 
 use rept_dump::Dump;
 use rept_path::PathFault;
@@ -29,8 +29,8 @@ pub fn read_run(alloc: Global, trace: &[u8], dump: &Dump<'_>, from: u32) -> Resu
     // There is no other run, and no other refusal.
     ensures only_run { (descs : List (List ℕ)) (other : Run) → HasThreads dump.now descs → threads_of dump.now ≡ length descs → IsTracedRun (traced dump.now descs trace.now from) other → MatchResult result (λ run. run ≡ other) (λ e. e ≡ OutOfMemory) }
     ensures only_refusal { (descs : List (List ℕ)) (fault : PathFault) → HasThreads dump.now descs → threads_of dump.now ≡ length descs → HasNoTracedRun (traced dump.now descs trace.now from) fault → MatchResult result (λ _. ⊥) (λ e. (e ≡ OutOfMemory) ⊎ (e ≡ fault)) }
-    ensures sound { (descs : List (List ℕ)) → HasThreads dump.now descs → threads_of dump.now ≡ length descs → IfOk result (λ run. IsSound (course_of run)) }
-    ensures small { (descs : List (List ℕ)) → HasThreads dump.now descs → threads_of dump.now ≡ length descs → AreApart descs → IfOk result (λ run. IsSmall (course_of run)) }
+    ensures sound { (descs : List (List ℕ)) → HasThreads dump.now descs → threads_of dump.now ≡ length descs → IfOk result (λ run. IsSoundCourse (course_of run)) }
+    ensures small { (descs : List (List ℕ)) → HasThreads dump.now descs → threads_of dump.now ≡ length descs → AreNotesApart descs → IfOk result (λ run. IsSmall (course_of run)) }
 {
     match Streams::open(trace) {
         Ok(streams) => rebuild_many(alloc, streams, dump, from),

@@ -5,7 +5,7 @@ use Rattle.std.proofs.lemmas.Bool.Decides.{nat_tests}
 use Rattle.rept_isa.specs.declared.instr.Instr.{Instr}
 use Rattle.rept_isa.specs.Numbers.{word}
 use Rattle.rept_isa.specs.Words.{field}
-use Rattle.rept_rvc.specs.Halves.{quadrant, function, rd_field, rs2_field, rs1_popular, rs2_popular, addi4spn_immediate, word_offset, lwsp_offset, swsp_offset, addi16sp_immediate, lui_immediate, StandsAt, IsShift, IsMove, IsHalf}
+use Rattle.rept_rvc.specs.Halves.{quadrant, function, rd_field, rs2_field, rs1_popular, rs2_popular, addi4spn_immediate, word_offset, lwsp_offset, swsp_offset, addi16sp_immediate, lui_immediate, StandsAt, IsShift, IsMoveHalf, IsHalf}
 use Rattle.rept_rvc.specs.Halves.IsHalf.{c_addi4spn, c_lw, c_sw, c_addi, c_jal, c_li, c_addi16sp, c_lui, c_srli, c_srai, c_andi, c_sub, c_xor, c_or, c_and, c_j, c_beqz, c_bnez, c_slli, c_lwsp, c_jr, c_mv, c_ebreak, c_jalr, c_add, c_swsp}
 use Rattle.rept_isa.specs.declared.instr.Instr.TheVariants.{Lui, Jalr, Load, Store, Imm, Op, Ebreak}
 use Rattle.rept_isa.specs.declared.instr.LoadOp.TheVariants.{Lw}
@@ -105,12 +105,12 @@ slli half at = choose (IsHalf half) (field half 12 1) 0 (Some (Imm Slli (rd_fiel
 lwsp : (half : ℕ) → StandsAt half 2 2 → IfSome (read_lwsp half) (IsHalf half)
 lwsp half at = choose (IsHalf half) (rd_field half) 0 None (Some (Load Lw (rd_field half) 2 (pos (lwsp_offset half)))) (λ e. tt) (λ some. c_lwsp at some refl)
 
-jump : (half link : ℕ) → link < 2 → IsMove half link → rs2_field half ≡ 0 → IfSome (read_jump link half) (IsHalf half)
+jump : (half link : ℕ) → link < 2 → IsMoveHalf half link → rs2_field half ≡ 0 → IfSome (read_jump link half) (IsHalf half)
 jump half zero small at none = choose (IsHalf half) (rd_field half) 0 None (Some (Jalr 0 (rd_field half) (pos 0))) (λ e. tt) (λ some. c_jr at some none refl)
 jump half (suc zero) small at none = choose (IsHalf half) (rd_field half) 0 (Some Ebreak) (Some (Jalr 1 (rd_field half) (pos 0))) (λ e. c_ebreak at e none refl) (λ some. c_jalr at some none refl)
 jump half (suc (suc k)) small at none = absurd (omega arith)
 
-linked : (half link : ℕ) → link < 2 → IsMove half link → IfSome (read_linked link half) (IsHalf half)
+linked : (half link : ℕ) → link < 2 → IsMoveHalf half link → IfSome (read_linked link half) (IsHalf half)
 linked half zero small at = choose (IsHalf half) (rs2_field half) 0 (read_jump 0 half) (Some (Op Add (rd_field half) 0 (rs2_field half))) (λ none. jump half 0 small at none) (λ some. c_mv at some refl)
 linked half (suc zero) small at = choose (IsHalf half) (rs2_field half) 0 (read_jump 1 half) (Some (Op Add (rd_field half) (rd_field half) (rs2_field half))) (λ none. jump half 1 small at none) (λ some. c_add at some refl)
 linked half (suc (suc k)) small at = absurd (omega arith)

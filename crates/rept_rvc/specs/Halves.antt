@@ -80,8 +80,8 @@ abbrev pub IsRegister : ℕ → ℕ → Type 0
 IsRegister half kind = (IsShift half 3) × (field half 12 1 ≡ 0) × (field half 5 2 ≡ kind)
 
 -- jumps by a register, moves and sums: bit 12 tells them apart
-abbrev pub IsMove : ℕ → ℕ → Type 0
-IsMove half link = (StandsAt half 2 4) × (field half 12 1 ≡ link)
+abbrev pub IsMoveHalf : ℕ → ℕ → Type 0
+IsMoveHalf half link = (StandsAt half 2 4) × (field half 12 1 ≡ link)
 
 -- the half spells the instruction
 pub data IsHalf (half : ℕ) (i : Instr) : Type 0 where
@@ -106,9 +106,9 @@ pub data IsHalf (half : ℕ) (i : Instr) : Type 0 where
   c_bnez : StandsAt half 1 7 → i ≡ Branch Bne (rs1_popular half) 0 (branch_offset half) → IsHalf half i
   c_slli : StandsAt half 2 0 → field half 12 1 ≡ 0 → i ≡ Imm Slli (rd_field half) (rd_field half) (pos (field half 2 5)) → IsHalf half i
   c_lwsp : StandsAt half 2 2 → ¬ (rd_field half ≡ 0) → i ≡ Load Lw (rd_field half) 2 (pos (lwsp_offset half)) → IsHalf half i
-  c_jr : IsMove half 0 → ¬ (rd_field half ≡ 0) → rs2_field half ≡ 0 → i ≡ Jalr 0 (rd_field half) (pos 0) → IsHalf half i
-  c_mv : IsMove half 0 → ¬ (rs2_field half ≡ 0) → i ≡ Op Add (rd_field half) 0 (rs2_field half) → IsHalf half i
-  c_ebreak : IsMove half 1 → rd_field half ≡ 0 → rs2_field half ≡ 0 → i ≡ Ebreak → IsHalf half i
-  c_jalr : IsMove half 1 → ¬ (rd_field half ≡ 0) → rs2_field half ≡ 0 → i ≡ Jalr 1 (rd_field half) (pos 0) → IsHalf half i
-  c_add : IsMove half 1 → ¬ (rs2_field half ≡ 0) → i ≡ Op Add (rd_field half) (rd_field half) (rs2_field half) → IsHalf half i
+  c_jr : IsMoveHalf half 0 → ¬ (rd_field half ≡ 0) → rs2_field half ≡ 0 → i ≡ Jalr 0 (rd_field half) (pos 0) → IsHalf half i
+  c_mv : IsMoveHalf half 0 → ¬ (rs2_field half ≡ 0) → i ≡ Op Add (rd_field half) 0 (rs2_field half) → IsHalf half i
+  c_ebreak : IsMoveHalf half 1 → rd_field half ≡ 0 → rs2_field half ≡ 0 → i ≡ Ebreak → IsHalf half i
+  c_jalr : IsMoveHalf half 1 → ¬ (rd_field half ≡ 0) → rs2_field half ≡ 0 → i ≡ Jalr 1 (rd_field half) (pos 0) → IsHalf half i
+  c_add : IsMoveHalf half 1 → ¬ (rs2_field half ≡ 0) → i ≡ Op Add (rd_field half) (rd_field half) (rs2_field half) → IsHalf half i
   c_swsp : StandsAt half 2 6 → i ≡ Store Sw 2 (rs2_field half) (pos (swsp_offset half)) → IsHalf half i

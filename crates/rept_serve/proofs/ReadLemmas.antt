@@ -4,7 +4,7 @@ use Rattle.std.proofs.lemmas.Bool.Decides.{nat_tests}
 use Rattle.std.proofs.lemmas.List.{append-nil, length-append}
 use Rattle.std.proofs.Math.Seq.{take-append_seam, take-append-add}
 use Rattle.std.specs.Io.KnownBytes.{Consumes, IsAtEnd}
-use Rattle.rept_ports.specs.Lines.{lines_of, whole_lines, given, Gives, Ends, LineStep, Said, EndsInput, FindsLine, FailsRead, PassesLimit}
+use Rattle.rept_ports.specs.Lines.{lines_of, whole_lines, given, GivesLine, EndsInLine, LineStep, SaidLine, EndsInput, FindsLine, FailsRead, PassesLimit}
 use Rattle.rept_ports.specs.Bounded.{LinesOn, IsSame, fault_in}
 use Rattle.rept_ports.specs.Port.{Port}
 use Rattle.rept_ports.specs.Taken.{Taken}
@@ -114,7 +114,7 @@ module _ (input : List ℕ) (source : Port) (intake : Taken) (done : List (List 
     counted got n = omega (arith, n, r.count, length-append r.taken got)
 
     -- one more line was given
-    one_line : (said : Option (List ℕ)) (t : FindsLine intake intake' source source' said) → Gives (intake.pending ++ t.got) intake' t.line ⊎ Ends (intake.pending ++ t.got) intake' source'.bytes t.line → ReadTo input source'.bytes intake' (done ++ t.line ∷ [])
+    one_line : (said : Option (List ℕ)) (t : FindsLine intake intake' source source' said) → GivesLine (intake.pending ++ t.got) intake' t.line ⊎ EndsInLine (intake.pending ++ t.got) intake' source'.bytes t.line → ReadTo input source'.bytes intake' (done ++ t.line ∷ [])
     one_line said t (inl g) = record {
       taken = r.taken ++ t.got;
       from = on t.got t.took.consumed;
@@ -170,44 +170,44 @@ ended_before input left intake done r e = let a = r.all e in (a.1, all_read inpu
 
 -- what a call of `next_line` did, before any fault
 module _ {S : Type 0} (port : S → Port) (lines lines' : BoundedLines S) (none : lines.fault ≡ None) where
-  abbrev Steps : Said → Type 0
+  abbrev Steps : SaidLine → Type 0
   Steps said = LineStep lines.intake lines'.intake (port lines.source.now) (port lines'.source.now) said × (lines'.fault ≡ fault_in said)
 
-  abbrev By : Said → Type 0
+  abbrev By : SaidLine → Type 0
   By said = MatchBool lines.intake.ended ((said ≡ Ok None) × IsSame lines lines') (Steps said)
 
-  on_by : (said : Said) (f : Option LineFault) → f ≡ None → MatchOption f (By said) (λ e. (said ≡ Err e) × IsSame lines lines') → By said
+  on_by : (said : SaidLine) (f : Option LineFault) → f ≡ None → MatchOption f (By said) (λ e. (said ≡ Err e) × IsSame lines lines') → By said
   on_by said None e h = h
   on_by said (Some f) e h = let bad : ⊥ = cc in absurd bad
 
-  not_ended : (said : Said) (b : Bool) → (said ≡ Ok None → ⊥) → MatchBool b ((said ≡ Ok None) × IsSame lines lines') (Steps said) → (b ≡ false) × Steps said
+  not_ended : (said : SaidLine) (b : Bool) → (said ≡ Ok None → ⊥) → MatchBool b ((said ≡ Ok None) × IsSame lines lines') (Steps said) → (b ≡ false) × Steps said
   not_ended said true ne h = absurd (ne h.0)
   not_ended said false ne h = (refl, h)
 
-  stepped : (said : Said) → (said ≡ Ok None → ⊥) → LinesOn port lines lines' said → (lines.intake.ended ≡ false) × Steps said
+  stepped : (said : SaidLine) → (said ≡ Ok None → ⊥) → LinesOn port lines lines' said → (lines.intake.ended ≡ false) × Steps said
   stepped said ne h = not_ended said lines.intake.ended ne (on_by said lines.fault none h)
 
-  some_is_no_end : (x : Option (List ℕ)) (said : Said) → said ≡ Ok (Some x) → said ≡ Ok None → ⊥
+  some_is_no_end : (x : Option (List ℕ)) (said : SaidLine) → said ≡ Ok (Some x) → said ≡ Ok None → ⊥
   some_is_no_end x said e h = cc
 
-  fault_is_no_end : (f : LineFault) (said : Said) → said ≡ Err f → said ≡ Ok None → ⊥
+  fault_is_no_end : (f : LineFault) (said : SaidLine) → said ≡ Err f → said ≡ Ok None → ⊥
   fault_is_no_end f said e h = cc
 
   -- the end had not been seen, and this was said
-  abbrev pub Came : Said → Type 0
+  abbrev pub Came : SaidLine → Type 0
   Came said = (lines.intake.ended ≡ false) × LineStep lines.intake lines'.intake (port lines.source.now) (port lines'.source.now) said × (lines'.fault ≡ fault_in said)
 
-  pub line_came : (said : Said) (x : Option (List ℕ)) → said ≡ Ok (Some x) → LinesOn port lines lines' said → Came (Ok (Some x))
+  pub line_came : (said : SaidLine) (x : Option (List ℕ)) → said ≡ Ok (Some x) → LinesOn port lines lines' said → Came (Ok (Some x))
   line_came said x e h = let t = stepped said (some_is_no_end x said e) h in subst Came e (t.0, t.1.0, t.1.1)
 
-  pub fault_came : (said : Said) (f : LineFault) → said ≡ Err f → LinesOn port lines lines' said → Came (Err f)
+  pub fault_came : (said : SaidLine) (f : LineFault) → said ≡ Err f → LinesOn port lines lines' said → Came (Err f)
   fault_came said f e h = let t = stepped said (fault_is_no_end f said e) h in subst Came e (t.0, t.1.0, t.1.1)
 
-  pub end_came : (said : Said) → said ≡ Ok None → LinesOn port lines lines' said
+  pub end_came : (said : SaidLine) → said ≡ Ok None → LinesOn port lines lines' said
       → MatchBool lines.intake.ended (Unit {0}) (EndsInput lines.intake lines'.intake (port lines.source.now) (port lines'.source.now))
-  end_came said e h = by_end lines.intake.ended ((said : Said) × (said ≡ Ok None) × IsSame lines lines') (wider lines.intake.ended (on_by said lines.fault none h))
+  end_came said e h = by_end lines.intake.ended ((said : SaidLine) × (said ≡ Ok None) × IsSame lines lines') (wider lines.intake.ended (on_by said lines.fault none h))
     where
-      wider : (b : Bool) → MatchBool b ((said ≡ Ok None) × IsSame lines lines') (Steps said) → MatchBool b ((said : Said) × (said ≡ Ok None) × IsSame lines lines') (Steps (Ok None))
+      wider : (b : Bool) → MatchBool b ((said ≡ Ok None) × IsSame lines lines') (Steps said) → MatchBool b ((said : SaidLine) × (said ≡ Ok None) × IsSame lines lines') (Steps (Ok None))
       wider true k = (said, k.0, k.1)
       wider false k = subst Steps e (k.0, k.1)
 

@@ -5,7 +5,7 @@ use Rattle.std.specs.List.{list_any}
 use Rattle.std.specs.Io.KnownBytes.{Appends}
 use Rattle.rept_ports.specs.Causes.{OneFault, AppendsPrefix}
 use Rattle.rept_ports.specs.Lines.{lines_of, whole_lines}
-use Rattle.rept_ports.specs.Port.{Port, Move}
+use Rattle.rept_ports.specs.Port.{Port, PortMove}
 use Rattle.rept_session.specs.Session.{IsSession, is_quit_line}
 use Rattle.rept_session.specs.Shown.{SessionTold}
 use Rattle.rept_session.specs.Texts.{last_of}
@@ -70,7 +70,7 @@ Wrote t reading text served.OutputFault = ⊥
 
 -- The output is what it was, followed by such a text; or it failed once, and what follows is a prefix of the answers to the first
 -- lines.
-abbrev pub Serves : SessionTold → Reading → Move Port → Served → Type 0
+abbrev pub Serves : SessionTold → Reading → PortMove Port → Served → Type 0
 Serves t reading out result =
     ((text : List ℕ) × Wrote t reading text result × Appends out.before.bytes out.after.bytes text)
     ⊎ ((result ≡ served.OutputFault) × ((whole : List ℕ) × FirstAnswers t reading.input whole × AppendsPrefix out.before.bytes out.after.bytes whole))
@@ -80,6 +80,6 @@ abbrev pub CountsAt : ℕ → ℕ → Served → Served → Type 0
 CountsAt before now expected result = ((result ≡ expected) × OneFault before now) ⊎ ((result ≡ expected → ⊥) × (now ≡ before))
 
 -- a fault of the input or the output ends the session, and no other is counted
-pub record IsCaused (source sink : Move Port) (result : Served) : Type 0 where
+pub record IsServeCaused (source sink : PortMove Port) (result : Served) : Type 0 where
   pub input : CountsAt source.before.faults source.after.faults served.ReadFault result
   pub output : CountsAt sink.before.faults sink.after.faults served.OutputFault result

@@ -2,10 +2,10 @@
 
 ghost use Rattle.std.specs.Prelude.{◌≡◌, false, IfOk, IfSome};
 ghost use Rattle.rept_ports.specs.Port.{move};
-ghost use Rattle.rept_session.specs.Shown.{IsAt, SameReasons, session_told};
+ghost use Rattle.rept_session.specs.Shown.{IsThreadPoint, SameReasons, session_told};
 ghost use Rattle.rept_session.specs.Texts.{refusal_line};
-ghost use Rattle.rept_serve.specs.Replies.{IsAnswer, Replies, said_of_line};
-ghost use Rattle.rept_serve.specs.Serving.{Serves, IsCaused};
+ghost use Rattle.rept_serve.specs.Replies.{IsAnswer, RepliesToLine, said_of_line};
+ghost use Rattle.rept_serve.specs.Serving.{Serves, IsServeCaused};
 
 use rept_ports::{BoundedLines, Line, LineFault, Sink, Source, write_all};
 use rept_session::{Answer, BadCommand, Findings, ThreadPoint, answer_line, last_of, refusal_text};
@@ -48,7 +48,7 @@ fn answer_to<F: Findings>(
     cursor: ThreadPoint,
     line: Line<'_>,
 ) -> Result<Answer, OutOfMemory>
-    requires { IsAt (F.shown findings.old) cursor }
+    requires { IsThreadPoint (F.shown findings.old) cursor }
     ensures answer { IfOk result (λ answer. IsAnswer (session_told (F.shown findings.old) skipped (F.reasons findings.old)) cursor (said_of_line line.entry) answer) }
     ensures same { F.shown findings.new ≡ F.shown findings.old }
     ensures same_reasons { SameReasons (F.reasons findings.old) (F.reasons findings.new) }
@@ -82,8 +82,8 @@ fn reply<F: Findings, K: Sink>(
     line: Line<'_>,
     out: &mut K,
 ) -> Next
-    requires { IsAt (F.shown findings.old) cursor }
-    ensures came { Replies (session_told (F.shown findings.old) skipped (F.reasons findings.old)) cursor (said_of_line line.entry) (move (K.port out.old) (K.port out.new)) result }
+    requires { IsThreadPoint (F.shown findings.old) cursor }
+    ensures came { RepliesToLine (session_told (F.shown findings.old) skipped (F.reasons findings.old)) cursor (said_of_line line.entry) (move (K.port out.old) (K.port out.new)) result }
     ensures same { F.shown findings.new ≡ F.shown findings.old }
     ensures same_reasons { SameReasons (F.reasons findings.old) (F.reasons findings.new) }
 {
@@ -110,7 +110,7 @@ pub fn serve<F: Findings, S: Source, K: Sink>(
     out: &mut K,
 ) -> Served
     ensures text { IfSome (S.port input.old).bytes (λ bytes. Serves (session_told (F.shown findings.old) skipped (F.reasons findings.old)) (record { input = bytes; left = (S.port input.new).bytes }) (move (K.port out.old) (K.port out.new)) result) }
-    ensures causes { IsCaused (move (S.port input.old) (S.port input.new)) (move (K.port out.old) (K.port out.new)) result }
+    ensures causes { IsServeCaused (move (S.port input.old) (S.port input.new)) (move (K.port out.old) (K.port out.new)) result }
     ensures same { F.shown findings.new ≡ F.shown findings.old }
     ensures same_reasons { SameReasons (F.reasons findings.old) (F.reasons findings.new) }
 {

@@ -13,7 +13,7 @@ use Rattle.rept_session.specs.declared.verb.Single.{Single}
 use Rattle.rept_session.specs.declared.verb.Single.TheVariants as single
 use Rattle.rept_session.specs.declared.verb.Double.{Double}
 use Rattle.rept_session.specs.declared.verb.Double.TheVariants as double
-use Rattle.rept_session.specs.Commands.{IsWithin, begins_with_digit, command_of, command_of_first, command_of_words, double_command, double_verb, goto_command, thread_command, is_count, lone_command, single_command, single_verb, verb_of, why_command, with_number, with_register}
+use Rattle.rept_session.specs.Commands.{IsCommandWithin, begins_with_digit, command_of, command_of_first, command_of_words, double_command, double_verb, goto_command, thread_command, is_count, lone_command, single_command, single_verb, verb_of, why_command, with_number, with_register}
 use Rattle.rept_number.specs.Numbers.{number_of_word}
 use Rattle.rept_session.specs.Registers.{register_of}
 use Rattle.rept_session.specs.Words.{words_in}
@@ -25,16 +25,16 @@ either P false x y p q = q refl
 
 module _ (last threads : ℕ) where
   abbrev Good : Result Command BadCommand → Type 0
-  Good r = IfOk r (IsWithin last threads)
+  Good r = IfOk r (IsCommandWithin last threads)
 
   abbrev GoodVerb : Option Verb → Type 0
   GoodVerb None = Unit {0}
-  GoodVerb (Some (Lone c)) = IsWithin last threads c
+  GoodVerb (Some (Lone c)) = IsCommandWithin last threads c
   GoodVerb (Some (One v)) = Unit {0}
   GoodVerb (Some (Two v)) = Unit {0}
 
   abbrev GoodLone : Option Command → Type 0
-  GoodLone o = IfSome o (IsWithin last threads)
+  GoodLone o = IfSome o (IsCommandWithin last threads)
 
   lone : (word : List ℕ) → GoodLone (lone_command word)
   lone word =
@@ -50,11 +50,11 @@ module _ (last threads : ℕ) where
   verb_good None None (Some c) h = tt
   verb_good None None None h = tt
 
-  number_good : (f : ℕ → Command) → ((k : ℕ) → IsWithin last threads (f k)) → (o : Option ℕ) → Good (with_number f o)
+  number_good : (f : ℕ → Command) → ((k : ℕ) → IsCommandWithin last threads (f k)) → (o : Option ℕ) → Good (with_number f o)
   number_good f h None = tt
   number_good f h (Some k) = h k
 
-  register_good : (f : ℕ → Command) → ((k : ℕ) → IsWithin last threads (f k)) → (o : Option ℕ) → Good (with_register f o)
+  register_good : (f : ℕ → Command) → ((k : ℕ) → IsCommandWithin last threads (f k)) → (o : Option ℕ) → Good (with_register f o)
   register_good f h None = tt
   register_good f h (Some k) = h k
 

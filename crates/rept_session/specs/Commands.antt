@@ -133,9 +133,9 @@ number_of_refusal bad.Limit = 5
 number_of_refusal bad.LongLine = 6
 
 -- a command whose point or step is one of the thread, whose thread is one of the run, and whose count is 1 to 256
-abbrev pub IsWithin : ℕ → ℕ → Command → Type 0
-IsWithin last threads (command.Goto i) = i ≤ last
-IsWithin last threads (command.Thread t) = t < threads
-IsWithin last threads (command.Mem address count) = (0 < count) × (count ≤ 256)
-IsWithin last threads (command.List first count) = (first ≤ last) × (0 < count) × (count ≤ 256)
-IsWithin last threads _ = Unit {0}
+abbrev pub IsCommandWithin : ℕ → ℕ → Command → Type 0
+IsCommandWithin last threads (command.Goto i) = i ≤ last
+IsCommandWithin last threads (command.Thread t) = t < threads
+IsCommandWithin last threads (command.Mem address count) = (0 < count) × (count ≤ 256)
+IsCommandWithin last threads (command.List first count) = (first ≤ last) × (0 < count) × (count ≤ 256)
+IsCommandWithin last threads _ = Unit {0}

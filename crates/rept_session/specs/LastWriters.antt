@@ -2,7 +2,7 @@
 use Rattle.std.specs.Prelude.{◌≡◌, ℕ, ◌<◌, ◌≤◌, Option, None, Some}
 use Rattle.rept_report.specs.declared.writer.Writer.{Writer}
 use Rattle.rept_report.specs.declared.writer.Writer.TheVariants as writer
-use Rattle.rept_session.specs.Shown.{IsAt, Shown, moment_at}
+use Rattle.rept_session.specs.Shown.{IsThreadPoint, Shown, moment_at}
 use Rattle.rept_session.specs.Texts.{at}
 use Rattle.rept_session.specs.declared.place.ThreadPoint.{ThreadPoint}
 
@@ -24,10 +24,10 @@ IsNamed s c address step = named_row (writer_at s c address) ≡ Some step
 -- A step that is named at a point was before it, and was the last one at each point since it.
 pub record AreLastWriters (s : Shown) (thread address : ℕ) : Type 0 where
   -- a step of the thread itself is before the point
-  pub before : (step p : ℕ) → IsAt s (at thread p) → (s.point step).thread ≡ thread → IsNamed s (at thread p) address step → (s.point step).point < p
+  pub before : (step p : ℕ) → IsThreadPoint s (at thread p) → (s.point step).thread ≡ thread → IsNamed s (at thread p) address step → (s.point step).point < p
   -- and is named at each point between them
-  pub since : (step q p : ℕ) → IsAt s (at thread p) → (s.point step).thread ≡ thread → IsNamed s (at thread p) address step → (s.point step).point < q → q ≤ p → IsNamed s (at thread q) address step
+  pub since : (step q p : ℕ) → IsThreadPoint s (at thread p) → (s.point step).thread ≡ thread → IsNamed s (at thread p) address step → (s.point step).point < q → q ≤ p → IsNamed s (at thread q) address step
   -- a step of any thread that is named at two points is named at each point between them
-  pub between : (step o q p : ℕ) → IsAt s (at thread p) → IsNamed s (at thread o) address step → IsNamed s (at thread p) address step → o ≤ q → q ≤ p → IsNamed s (at thread q) address step
+  pub between : (step o q p : ℕ) → IsThreadPoint s (at thread p) → IsNamed s (at thread o) address step → IsNamed s (at thread p) address step → o ≤ q → q ≤ p → IsNamed s (at thread q) address step
   -- where no step may have written the byte before a point, none may have before an earlier one
-  pub none : (q p : ℕ) → IsAt s (at thread p) → writer_at s (at thread p) address ≡ writer.None → q ≤ p → writer_at s (at thread q) address ≡ writer.None
+  pub none : (q p : ℕ) → IsThreadPoint s (at thread p) → writer_at s (at thread p) address ≡ writer.None → q ≤ p → writer_at s (at thread q) address ≡ writer.None

@@ -42,8 +42,8 @@ pub record Shown : Type 0 where
   pub symbol : ℕ → Option FunctionSymbol
 
 -- a point that a thread has
-abbrev pub IsAt : Shown → ThreadPoint → Type 0
-IsAt s c = (c.thread < s.threads) × (c.point ≤ length (s.rows c.thread))
+abbrev pub IsThreadPoint : Shown → ThreadPoint → Type 0
+IsThreadPoint s c = (c.thread < s.threads) × (c.point ≤ length (s.rows c.thread))
 
 -- its number
 abbrev pub number : Shown → ThreadPoint → ℕ

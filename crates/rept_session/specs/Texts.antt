@@ -46,11 +46,12 @@ thread_named threads thread = if nat_lt 1 threads then codes " of " ++ decimal t
 abbrev pub of_thread : Shown → ℕ → List ℕ
 of_thread s thread = thread_named s.threads thread
 
--- `xN HEX` or `xN unknown`
+-- `HEX` or `unknown`: the name of the register stands before it, by `value_line`
 abbrev pub value_text : Option ℕ → List ℕ
 value_text None = codes "unknown"
 value_text (Some value) = hex_word value
 
+-- `xN HEX` or `xN unknown`
 abbrev pub value_line : ℕ → Option ℕ → List ℕ
 value_line r value = register_text r ++ codes " " ++ value_text value ++ 10 ∷ []
 

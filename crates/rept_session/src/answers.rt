@@ -1,9 +1,9 @@
 //! Answering a command.
 
 ghost use Rattle.std.specs.Prelude.{◌≡◌, ℕ, ◌<◌, ◌≤◌, ◌++◌, false, length, IfOk, OnOk};
-ghost use Rattle.rept_session.specs.Commands.{IsWithin};
+ghost use Rattle.rept_session.specs.Commands.{IsCommandWithin};
 ghost use Rattle.rept_session.specs.Session.{IsReply, cursor_of, ends, said_at};
-ghost use Rattle.rept_session.specs.Shown.{IsAt, SameReasons, session_told};
+ghost use Rattle.rept_session.specs.Shown.{IsThreadPoint, SameReasons, session_told};
 ghost use Rattle.rept_session.specs.Texts.{IsText, cursor_after, is_quit, last_of, point_after, point_line, range_line, refusal_line, register_line, registers_line, steps_line, stores_line, summary_lines, thread_lines, writer_line};
 
 use crate::command::{BadCommand, Command};
@@ -30,11 +30,11 @@ pub fn answer<F: Findings>(
     cursor: ThreadPoint,
     command: &Command,
 ) -> Result<Answer, OutOfMemory>
-    requires cursor { IsAt (F.shown findings.old) cursor }
-    requires command { IsWithin (length ((F.shown findings.old).rows cursor.thread)) (F.shown findings.old).threads command.now }
+    requires cursor { IsThreadPoint (F.shown findings.old) cursor }
+    requires command { IsCommandWithin (length ((F.shown findings.old).rows cursor.thread)) (F.shown findings.old).threads command.now }
     ensures text { IfOk result (λ answer. IsText (session_told (F.shown findings.old) skipped (F.reasons findings.old)) answer.cursor command.now answer.text) }
     ensures cursor { IfOk result (λ answer. answer.cursor ≡ cursor_after (F.shown findings.old) cursor command.now) }
-    ensures within { IfOk result (λ answer. IsAt (F.shown findings.old) answer.cursor) }
+    ensures within { IfOk result (λ answer. IsThreadPoint (F.shown findings.old) answer.cursor) }
     ensures quit { IfOk result (λ answer. answer.quit ≡ is_quit command.now) }
     ensures same { F.shown findings.new ≡ F.shown findings.old }
     ensures same_reasons { SameReasons (F.reasons findings.old) (F.reasons findings.new) }
@@ -58,10 +58,10 @@ pub fn answer_line<F: Findings>(
     cursor: ThreadPoint,
     line: &[u8],
 ) -> Result<Answer, OutOfMemory>
-    requires { IsAt (F.shown findings.old) cursor }
+    requires { IsThreadPoint (F.shown findings.old) cursor }
     ensures text { IfOk result (λ answer. IsReply (session_told (F.shown findings.old) skipped (F.reasons findings.old)) cursor (said_at (F.shown findings.old) cursor line.now) answer.text) }
     ensures cursor { IfOk result (λ answer. answer.cursor ≡ cursor_of (F.shown findings.old) cursor (said_at (F.shown findings.old) cursor line.now)) }
-    ensures within { IfOk result (λ answer. IsAt (F.shown findings.old) answer.cursor) }
+    ensures within { IfOk result (λ answer. IsThreadPoint (F.shown findings.old) answer.cursor) }
     ensures quit { IfOk result (λ answer. answer.quit ≡ ends (said_at (F.shown findings.old) cursor line.now)) }
     ensures same { F.shown findings.new ≡ F.shown findings.old }
     ensures same_reasons { SameReasons (F.reasons findings.old) (F.reasons findings.new) }
@@ -99,10 +99,10 @@ pub fn refusal_text(alloc: Global, refusal: BadCommand) -> Result<Text, OutOfMem
 
 /// The cursor after a command.
 fn next_cursor<F: Findings>(findings: &F, cursor: ThreadPoint, command: &Command) -> ThreadPoint
-    requires cursor { IsAt (F.shown findings.now) cursor }
-    requires command { IsWithin (length ((F.shown findings.now).rows cursor.thread)) (F.shown findings.now).threads command.now }
+    requires cursor { IsThreadPoint (F.shown findings.now) cursor }
+    requires command { IsCommandWithin (length ((F.shown findings.now).rows cursor.thread)) (F.shown findings.now).threads command.now }
     ensures value { result ≡ cursor_after (F.shown findings.now) cursor command.now }
-    ensures within { IsAt (F.shown findings.now) result }
+    ensures within { IsThreadPoint (F.shown findings.now) result }
 {
     match command {
         Command::Thread(thread) => last_of(findings, *thread),
@@ -121,7 +121,7 @@ fn next_cursor<F: Findings>(findings: &F, cursor: ThreadPoint, command: &Command
 pub fn last_of<F: Findings>(findings: &F, thread: u32) -> ThreadPoint
     requires { thread < (F.shown findings.now).threads }
     ensures value { result ≡ last_of (F.shown findings.now) thread }
-    ensures within { IsAt (F.shown findings.now) result }
+    ensures within { IsThreadPoint (F.shown findings.now) result }
 {
     ThreadPoint {
         thread,
@@ -132,7 +132,7 @@ pub fn last_of<F: Findings>(findings: &F, thread: u32) -> ThreadPoint
 /// The point after a command that leaves the cursor in its thread.
 fn next_point(last: u32, point: u32, command: &Command) -> u32
     requires point { point ≤ last }
-    requires command { (threads : ℕ) → IsWithin last threads command.now }
+    requires command { (threads : ℕ) → IsCommandWithin last threads command.now }
     ensures value { result ≡ point_after last point command.now }
     ensures within { result ≤ last }
 {
@@ -161,8 +161,8 @@ fn text_of<F: Findings>(
     at: ThreadPoint,
     command: &Command,
 ) -> Result<Text, OutOfMemory>
-    requires cursor { IsAt (F.shown findings.old) at }
-    requires command { IsWithin (length ((F.shown findings.old).rows at.thread)) (F.shown findings.old).threads command.now }
+    requires cursor { IsThreadPoint (F.shown findings.old) at }
+    requires command { IsCommandWithin (length ((F.shown findings.old).rows at.thread)) (F.shown findings.old).threads command.now }
     ensures text { IfOk result (λ text. IsText (session_told (F.shown findings.old) skipped (F.reasons findings.old)) at command.now text) }
     ensures same { F.shown findings.new ≡ F.shown findings.old }
     ensures same_reasons { SameReasons (F.reasons findings.old) (F.reasons findings.new) }
@@ -205,7 +205,7 @@ fn point_text<F: Findings>(
     findings: &F,
     at: ThreadPoint,
 ) -> Result<Text, OutOfMemory>
-    requires { IsAt (F.shown findings.now) at }
+    requires { IsThreadPoint (F.shown findings.now) at }
     ensures { IfOk result (λ text. text ≡ point_line (F.shown findings.now) at) }
 {
     let mut text = Text::new(alloc);
@@ -219,7 +219,7 @@ fn thread_text<F: Findings>(
     findings: &F,
     at: ThreadPoint,
 ) -> Result<Text, OutOfMemory>
-    requires { IsAt (F.shown findings.now) at }
+    requires { IsThreadPoint (F.shown findings.now) at }
     ensures { IfOk result (λ text. text ≡ thread_lines (F.shown findings.now) at) }
 {
     let mut text = Text::new(alloc);
@@ -235,7 +235,7 @@ fn push_point<F: Findings>(
     findings: &F,
     at: ThreadPoint,
 ) -> Result<(), OutOfMemory>
-    requires { IsAt (F.shown findings.now) at }
+    requires { IsThreadPoint (F.shown findings.now) at }
     ensures { OnOk result (text.new ≡ text.old ++ point_line (F.shown findings.now) at) }
 {
     let last = findings.rows(at.thread).len() as u32;

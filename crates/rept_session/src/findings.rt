@@ -4,7 +4,7 @@ ghost use Rattle.std.specs.Prelude.{◌≡◌, ◌≢◌, ℕ, ◌<◌, ◌≤�
 ghost use Rattle.std.specs.Option.{option_map};
 ghost use Rattle.rept_elf.specs.Symbols.{symbol_of};
 ghost use Rattle.rept_session.specs.LastWriters.{AreLastWriters};
-ghost use Rattle.rept_session.specs.Shown.{IsAt, SameReasons, Shown, explained, known_value, moment_at, number, places_of};
+ghost use Rattle.rept_session.specs.Shown.{IsThreadPoint, SameReasons, Shown, explained, known_value, moment_at, number, places_of};
 ghost use Rattle.rept_session.specs.Texts.{pc_at};
 ghost use Rattle.rept_reason.specs.declared.fact.Fact.{Fact};
 ghost use Rattle.rept_reason.specs.declared.fact.Cell.TheVariants.{Register};
@@ -128,7 +128,7 @@ pub trait Findings {
 
 /// The address at a point of a thread.
 pub fn address_at<F: Findings>(findings: &F, at: ThreadPoint) -> u32
-    requires { IsAt (F.shown findings.now) at }
+    requires { IsThreadPoint (F.shown findings.now) at }
     ensures { result ≡ pc_at (F.shown findings.now) at }
 {
     match findings.rows(at.thread).get(at.point as usize) {
@@ -139,7 +139,7 @@ pub fn address_at<F: Findings>(findings: &F, at: ThreadPoint) -> u32
 
 /// The number of a point of a thread.
 pub fn number_of<F: Findings>(findings: &F, at: ThreadPoint) -> u32
-    requires { IsAt (F.shown findings.now) at }
+    requires { IsThreadPoint (F.shown findings.now) at }
     ensures value { result ≡ number (F.shown findings.now) at }
     ensures within { result < (F.shown findings.now).points }
 {
@@ -149,7 +149,7 @@ pub fn number_of<F: Findings>(findings: &F, at: ThreadPoint) -> u32
 
 /// The number of the moment at a point of a thread.
 pub fn moment_of<F: Findings>(findings: &F, at: ThreadPoint) -> u32
-    requires { IsAt (F.shown findings.now) at }
+    requires { IsThreadPoint (F.shown findings.now) at }
     ensures value { result ≡ moment_at (F.shown findings.now) at }
     ensures within { result < (F.shown findings.now).moments }
 {

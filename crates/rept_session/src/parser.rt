@@ -1,7 +1,7 @@
 //! Reading a line as a command.
 
 ghost use Rattle.std.specs.Prelude.{◌≡◌, ℕ, IfOk, MatchResult, None, Some};
-ghost use Rattle.rept_session.specs.Commands.{IsWithin, alone, command_of, begins_with_digit, command_of_verb, double_command, goto_command, single_command, thread_command, why_command};
+ghost use Rattle.rept_session.specs.Commands.{IsCommandWithin, alone, command_of, begins_with_digit, command_of_verb, double_command, goto_command, single_command, thread_command, why_command};
 ghost use Rattle.rept_number.specs.Numbers.{number_of_word};
 ghost use Rattle.rept_session.specs.Registers.{register_of};
 ghost use Rattle.rept_session.specs.Words.{words_in};
@@ -27,7 +27,7 @@ const MOST_TOLD: u32 = 256;
 /// A line's words are parted by spaces and tabs. A line without words is `Nothing`.
 pub fn parse(line: &[u8], last: u32, threads: u32) -> Result<Command, BadCommand>
     ensures value { result ≡ command_of last threads line.now }
-    ensures within { IfOk result (IsWithin last threads) }
+    ensures within { IfOk result (IsCommandWithin last threads) }
 {
     read_line(line, last, threads)
 }

@@ -4,7 +4,7 @@ ghost use Rattle.std.specs.Prelude.{◌≡◌, ◌++◌, ◌∷◌, codes, map, 
 ghost use Rattle.std.specs.Option.{option_and_then, option_map, option_to_list};
 ghost use Rattle.rept_elf.specs.Symbols.{symbol_of};
 ghost use Rattle.rept_isa.specs.Texts.{hex_text};
-ghost use Rattle.rept_session.specs.Shown.{IsAt};
+ghost use Rattle.rept_session.specs.Shown.{IsThreadPoint};
 ghost use Rattle.rept_session.specs.Texts.{function_text, place_line, stack_lines, visible};
 
 use crate::findings::{Findings, address_at};
@@ -24,7 +24,7 @@ pub fn stack_text<F: Findings>(
     findings: &F,
     at: ThreadPoint,
 ) -> Result<Text, OutOfMemory>
-    requires { IsAt (F.shown findings.now) at }
+    requires { IsThreadPoint (F.shown findings.now) at }
     ensures { IfOk result (λ text. text ≡ stack_lines (F.shown findings.now) at) }
 {
     let pc = address_at(findings, at);

@@ -1,5 +1,5 @@
 -- Lines of a log, and the steps between them.
-use Rattle.std.proofs.Common.{◌≡◌, ℕ, zero, suc, ◌+◌, ◌<◌, List, [], ◌∷◌, ◌++◌, length, get_or, slice_get, Option, Some, false, refl, sym, ◌∙◌, ap, subst, arith, inl, inr, ◌⊎◌, length-append}
+use Rattle.std.proofs.Common.{◌≡◌, ℕ, ◌+◌, ◌<◌, List, [], ◌∷◌, ◌++◌, length, get_or, slice_get, Option, Some, false, refl, sym, ◌∙◌, ap, subst, arith, inl, inr, length-append}
 use Rattle.std.proofs.lemmas.Bool.{cases_eq}
 use Rattle.std.proofs.lemmas.List.Elements.{All-from_get_or}
 use Rattle.std.proofs.lemmas.Option.{slice_get_within, slice_get-get_or}
@@ -13,24 +13,13 @@ use Rattle.rept_encode.specs.Encoded.{TellsRows}
 use Rattle.rept_encode.specs.Added as added
 use Rattle.rept_encode.specs.Added.{asked_of}
 use Rattle.rept_encode.specs.declared.step.Site.{Site}
-use Rattle.rept_simlog.specs.declared.log.Entry.{Entry}
+use Rattle.rept_simlog.specs.declared.entry.Entry.{Entry}
 use Rattle.rept_simlog.specs.declared.refusal.Refusal.{Refusal}
 use Rattle.rept_simlog.specs.declared.refusal.Refusal.TheVariants.{Executable, NoNumber, NoInstruction, NoStep, JumpEnds, NoSteps, OutOfMemory}
-use Rattle.rept_simlog.specs.Log.{IsNumber, IsFirstLine, AreEntriesThen}
 use Rattle.rept_simlog.specs.Program.{site_of}
 use Rattle.rept_simlog.specs.Recorded.{IsStepRefused, IsWalkFault}
-use Rattle.rept_simlog.specs.Walk.{step_asked, IsStepBetween, AddsRow, Along, GoAlong, MayStep, MayGo, EndsJump, Records}
-
--- one entry more
-pub entries_push : (before : ℕ) (bytes rest line after : List ℕ) (entries : List Entry) (entry : Entry) → AreEntriesThen before bytes entries rest → 0 < length rest → IsFirstLine rest line after → entry.line ≡ before + length entries + 1 → IsNumber line entry.address → AreEntriesThen before bytes (entries ++ entry ∷ []) after
-entries_push before bytes rest line after [] entry h some cut place number =
-    let e : rest ≡ bytes = sym h in
-    (line, after, subst (λ (b : List ℕ). 0 < length b) e some, subst (λ (b : List ℕ). IsFirstLine b line after) e cut, (place ∙ omega arith), number, refl)
-entries_push before bytes rest line after (x ∷ entries) entry h some cut place number =
-    (h.0, h.1, h.2, h.3, h.4, h.5, entries_push (before + 1) h.1 rest line after entries entry h.6 some cut (place ∙ omega arith) number)
-
-pub size_push : (old new : List Entry) (entry : Entry) → new ≡ old ++ entry ∷ [] → length new ≡ length old + 1
-size_push old new entry e = ap (length {A = Entry}) e ∙ length-append old (entry ∷ [])
+use Rattle.rept_simlog.specs.Walk.{step_asked, IsStepBetween, AddsRow, Along, GoAlong, MayStep, MayGo, EndsJump, RecordsOneHart}
+use Rattle.rept_simlog.proofs.Reading.{get_push}
 
 -- a fault between two entries is one of all
 pub lift_fault : (code : Code) (entries : List Entry) (i : ℕ) (from to : Entry) (r : Refusal) → MayGo code entries i → slice_get entries i ≡ Some from → slice_get entries (i + 1) ≡ Some to → IsStepRefused code from to r → IsWalkFault code entries r
@@ -43,12 +32,6 @@ lift_fault code entries i from to (JumpEnds k) go a b h = absurd h
 lift_fault code entries i from to NoSteps go a b h = absurd h
 lift_fault code entries i from to (NoNumber k) go a b h = absurd h
 lift_fault code entries i from to (Executable fault) go a b h = absurd h
-
-get_push : (rows : List StepRow) (row : StepRow) (i : ℕ) (r : StepRow) → slice_get (rows ++ row ∷ []) i ≡ Some r → (slice_get rows i ≡ Some r) ⊎ ((i ≡ length rows) × (row ≡ r))
-get_push [] row zero r h = inr (refl, (cc))
-get_push [] row (suc i) r h = absurd (cc)
-get_push (x ∷ rows) row zero r h = inl h
-get_push (x ∷ rows) row (suc i) r h = elim (get_push rows row i r h) [ inl g ↦ inl g | inr g ↦ inr (ap suc g.0, g.1) ]
 
 same_entry : (entries : List Entry) (i j : ℕ) (a b : Entry) → i ≡ j → slice_get entries i ≡ Some a → slice_get entries j ≡ Some b → a ≡ b
 same_entry entries i j a b e x y =
@@ -100,7 +83,7 @@ abbrev pub no_entry : Entry
 no_entry = record { line = 0; address = 0 }
 
 -- what is told of the rows
-pub records_is : (code : Code) (entries : List Entry) (rows : List StepRow) (trace : List ℕ) → GoAlong code entries rows → TellsRows code.halves trace rows → Records code entries trace
+pub records_is : (code : Code) (entries : List Entry) (rows : List StepRow) (trace : List ℕ) → GoAlong code entries rows → TellsRows code.halves trace rows → RecordsOneHart code entries trace
 records_is code entries rows trace g t = record {
   rows = rows;
   along = g;

@@ -6,11 +6,11 @@ use Rattle.rept_steps.specs.Linked.{EndBefore}
 use Rattle.rept_trace.specs.Stream.{header, plain}
 use Rattle.rept_path.specs.declared.fault.PathFault.{PathFault}
 use Rattle.rept_path.specs.Code.{Code, look, is_short}
-use Rattle.rept_path.specs.Traced.{IsTraced}
+use Rattle.rept_path.specs.Traced.{IsTracedPath}
 use Rattle.rept_encode.specs.Walkable.{IsFirstJumpEnd}
 use Rattle.rept_encode.specs.Added as added
-use Rattle.rept_encode.specs.Added.{Asked, asked_of}
-use Rattle.rept_simlog.specs.declared.log.Entry.{Entry}
+use Rattle.rept_encode.specs.Added.{AskedStep, asked_of}
+use Rattle.rept_simlog.specs.declared.entry.Entry.{Entry}
 use Rattle.rept_simlog.specs.Program.{site_of}
 
 -- The row is the step from one entry to another, by the instruction that stands there.
@@ -37,7 +37,7 @@ pub record GoAlong (code : Code) (entries : List Entry) (rows : List StepRow) : 
   pub ends : (last : Entry) → slice_get entries (length rows) ≡ Some last → EndBefore rows last.address
 
 -- the step of an instruction from one entry to another
-abbrev pub step_asked : Code → Instr → Entry → Entry → Asked
+abbrev pub step_asked : Code → Instr → Entry → Entry → AskedStep
 step_asked code instr from to = asked_of code.halves (site_of code from.address instr) to.address
 
 -- An instruction stands at the first entry's address, and may lead to the second one's.
@@ -85,9 +85,9 @@ pub record EndsJump (code : Code) (entries : List Entry) (number : ℕ) : Type 0
   pub line : entry.line ≡ number
 
 -- In this code the trace, whose header says whether it may be compressed, tells the steps of the entries, from its first packet on to the last address, and none is skipped.
-pub record Records (code : Code) (entries : List Entry) (trace : List ℕ) : Type 0 where
+pub record RecordsOneHart (code : Code) (entries : List Entry) (trace : List ℕ) : Type 0 where
   pub rows : List StepRow
   pub along : GoAlong code entries rows
   pub rest : List ℕ
   pub layout : trace ≡ header code.halves ++ rest
-  pub path : (last : Entry) → slice_get entries (length rows) ≡ Some last → IsTraced (record { code = code; stream = plain code.halves rest; from = 0; pc = last.address }) 0 rows
+  pub path : (last : Entry) → slice_get entries (length rows) ≡ Some last → IsTracedPath (record { code = code; stream = plain code.halves rest; from = 0; pc = last.address }) 0 rows

@@ -2,7 +2,7 @@
 
 ghost use Rattle.std.specs.Prelude.{◌≡◌, ◌+◌, ◌*◌, ◌<◌, ◌≤◌, ◌^◌, ℕ, IfSome, IfNone};
 ghost use Rattle.std.specs.Str.Parse.{IsNumeral, digits_value};
-ghost use Rattle.rept_simlog.specs.Log.{IsNumber};
+ghost use Rattle.rept_simlog.specs.Log.{IsLogNumber};
 
 /// A number with one digit more, if that is below 2^32.
 fn with_digit(radix: u32, value: u32, digit: u32) -> Option<u32>
@@ -35,8 +35,8 @@ fn numeral(radix: u32, digits: &[u8]) -> Option<u32>
 
 /// The address that a line gives.
 pub fn address_of(line: &[u8]) -> Option<u32>
-    ensures some { IfSome result (λ n. IsNumber line.now n) }
-    ensures none { IfNone result ((n : ℕ) → IsNumber line.now n → ⊥) }
+    ensures some { IfSome result (λ n. IsLogNumber line.now n) }
+    ensures none { IfNone result ((n : ℕ) → IsLogNumber line.now n → ⊥) }
 {
     if line.len() >= 2 && line[0] == b'0' && line[1] == b'x' {
         return numeral(16, &line[2..]);

@@ -2,6 +2,8 @@
 #![tactic(auto)]
 
 mod address;
+mod entry;
+mod lines;
 mod log;
 mod program;
 mod recorder;
@@ -9,7 +11,8 @@ pub mod refusal;
 mod walk;
 
 pub use address::address_of;
-pub use log::first_line;
+pub use lines::LogEntry;
+pub use log::{Log, LogFault, last_entries, read_log};
 pub use program::Program;
 pub use recorder::record;
 pub use refusal::Refusal;

@@ -1,68 +1,70 @@
-//! The lines of a log, each an address.
+//! A log over the code of an executable.
 
-ghost use Rattle.std.specs.Prelude.{◌≡◌, ◌<◌, ◌^◌, length, IfOk, IfErr};
-ghost use Rattle.rept_simlog.specs.Log.{IsLineEnd, IsFirstLine, AreEntries};
-ghost use Rattle.rept_simlog.specs.Recorded.{IsLogFault};
+ghost use Rattle.std.specs.Prelude.{◌≡◌, ◌<◌, ◌≤◌, ◌^◌, length, None, IfOk, IfErr};
+ghost use Rattle.rept_elf.specs.Checks.{checks, first_failure};
+ghost use Rattle.rept_elf.specs.declared.fault.Want.TheVariants.{Exec};
+ghost use Rattle.rept_simlog.specs.Lines.{AreEntries, IsLogFault, last_entries};
+ghost use Rattle.rept_simlog.specs.Program.{program_of, built};
 
-use crate::address::address_of;
-use crate::refusal::Refusal;
+use crate::lines::{LogEntry, entries_of};
+use crate::program::Program;
+use rept_elf::{ElfFault, Image, Want};
 use std::alloc::Global;
 
-/// A line of a log: its number, from 1 on, and the address that it gives.
-#[derive(Clone, Copy, Debug, PartialEq, Eq)]
-pub struct Entry {
-    pub line: u32,
-    pub address: u32,
+/// Why an executable and a log over it aren't read. Lines are numbered from 1.
+#[derive(Clone, Copy)]
+pub enum LogFault {
+    /// The executable is refused.
+    Executable(ElfFault),
+    /// The line of this number tells nothing.
+    NoEntry(u32),
+    /// No memory was left.
+    OutOfMemory,
 }
 
-/// The length of the first line.
-fn line_length(bytes: &[u8]) -> usize
-    ensures { IsLineEnd bytes.now result }
+/// The code of an executable, and what the lines of a log over it tell.
+#[derive(Drop)]
+pub struct Log<'a, E: LogEntry> {
+    pub program: Program<'a>,
+    /// What each line tells, in order.
+    pub entries: Vec<E>,
+}
+
+/// The most entries that are recorded: one more than the steps of the longest path.
+const MOST: usize = 65537;
+
+/// The last entries, as many as are recorded: 65,537 at most, one more than the steps of the longest path.
+pub fn last_entries<E: LogEntry>(entries: &[E]) -> &[E]
+    ensures last { result.now ≡ last_entries entries.now }
+    ensures few { length result.now ≤ 65537 }
 {
-    for i in 0..bytes.len() {
-        if bytes[i] == b'\n' {
-            return i;
-        }
+    if entries.len() > MOST {
+        return &entries[entries.len() - MOST..];
     }
-    bytes.len()
+    entries
 }
 
-/// The first line, and what follows its newline.
-pub fn first_line(bytes: &[u8]) -> (&[u8], &[u8])
-    ensures line { IsFirstLine bytes.now result.0.now result.1.now }
-    ensures fewer { 0 < length bytes.now → length result.1.now < length bytes.now }
-{
-    let size = line_length(bytes);
-    let line = &bytes[..size];
-    if size == bytes.len() {
-        return (line, &bytes[size..]);
-    }
-    (line, &bytes[size + 1..])
-}
-
-/// The entries of a log, of which there are fewer than 2^32 bytes.
-pub fn entries_of(alloc: Global, log: &[u8]) -> Result<Vec<Entry>, Refusal>
+/// An executable, and all entries of a log over it. A refusal is that of the executable, or it names the first line that tells nothing; or it is a want of memory and no other fault.
+pub fn read_log<'a, E: LogEntry>(
+    alloc: Global,
+    exe: &'a [u8],
+    log: &[u8],
+) -> Result<Log<'a, E>, LogFault>
     requires { length log.now < 2 ^ 32 }
-    ensures ok { IfOk result (λ entries. AreEntries log.now entries.items) }
-    ensures err { IfErr result (λ refusal. IsLogFault log.now refusal) }
+    ensures read { IfOk result (λ read. first_failure (checks Exec exe.now) ≡ None) }
+    ensures code { IfOk result (λ read. program_of read.program ≡ built exe.now) }
+    ensures entries { IfOk result (λ read. AreEntries E.tells log.now read.entries.items) }
+    ensures err { IfErr result (λ fault. IsLogFault E.tells exe.now log.now fault) }
 {
-    let mut entries = Vec::new(alloc);
-    let mut rest = log;
-    let mut number = 0u32;
-    while rest.len() > 0 {
-        let (line, after) = first_line(rest);
-        number += 1;
-        let Some(address) = address_of(line) else {
-            return Err(Refusal::NoNumber(number));
-        };
-        let entry = Entry {
-            line: number,
-            address,
-        };
-        if let Err(_) = entries.push(entry) {
-            return Err(Refusal::OutOfMemory);
-        }
-        rest = after;
+    let image = match Image::read(exe, Want::Exec) {
+        Ok(image) => image,
+        Err(fault) => return Err(LogFault::Executable(fault)),
+    };
+    match entries_of(alloc, log) {
+        Ok(entries) => Ok(Log {
+            program: Program::new(&image),
+            entries,
+        }),
+        Err(fault) => Err(fault),
     }
-    Ok(entries)
 }

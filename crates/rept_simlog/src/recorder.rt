@@ -1,39 +1,24 @@
 //! The trace of a log.
 
 ghost use Rattle.std.specs.Prelude.{◌≡◌, ◌<◌, ◌≤◌, ◌^◌, length, slice_get, Some, IfOk, IfErr};
-ghost use Rattle.rept_simlog.specs.declared.log.Entry.{Entry};
-ghost use Rattle.rept_simlog.specs.Log.{last_entries};
+ghost use Rattle.rept_simlog.specs.declared.entry.Entry.{Entry};
 ghost use Rattle.rept_simlog.specs.Program.{program_of};
-ghost use Rattle.rept_simlog.specs.Recorded.{IsWalkFault, IsRecorded, IsRefused};
-ghost use Rattle.rept_simlog.specs.Walk.{Records};
+ghost use Rattle.rept_simlog.specs.Recorded.{IsWalkFault, IsRecordedOneHart, IsRefusedOneHart};
+ghost use Rattle.rept_simlog.specs.Walk.{RecordsOneHart};
 
-use crate::log::{Entry, entries_of};
+use crate::entry::Entry;
+use crate::log::{LogFault, last_entries, read_log};
 use crate::program::Program;
 use crate::refusal::Refusal;
 use crate::walk::steps_of;
-use rept_elf::{Image, Want};
 use rept_encode::{EncodeFault, encode};
 use rept_word::Text;
 use std::alloc::Global;
 
-/// The most entries that are recorded: one more than the steps of the longest path.
-const MOST: usize = 65537;
-
-/// The last entries, as many as are recorded.
-fn last_entries(entries: &[Entry]) -> &[Entry]
-    ensures last { result.now ≡ last_entries entries.now }
-    ensures few { length result.now ≤ 65537 }
-{
-    if entries.len() > MOST {
-        return &entries[entries.len() - MOST..];
-    }
-    entries
-}
-
 /// The trace of the steps of entries.
 fn record_entries(alloc: Global, program: &Program<'_>, entries: &[Entry]) -> Result<Text, Refusal>
     requires { length entries.now ≤ 65537 }
-    ensures ok { IfOk result (λ trace. Records (program_of program.now) entries.now trace) }
+    ensures ok { IfOk result (λ trace. RecordsOneHart (program_of program.now) entries.now trace) }
     ensures err { IfErr result (λ refusal. IsWalkFault (program_of program.now) entries.now refusal) }
 {
     if entries.len() < 2 {
@@ -64,14 +49,15 @@ fn line_of(entries: &[Entry], i: u32) -> u32
 /// memory and no other fault.
 pub fn record(alloc: Global, exe: &[u8], log: &[u8]) -> Result<Text, Refusal>
     requires { length log.now < 2 ^ 32 }
-    ensures ok { IfOk result (λ trace. IsRecorded exe.now log.now trace) }
-    ensures err { IfErr result (λ refusal. IsRefused exe.now log.now refusal) }
+    ensures ok { IfOk result (λ trace. IsRecordedOneHart exe.now log.now trace) }
+    ensures err { IfErr result (λ refusal. IsRefusedOneHart exe.now log.now refusal) }
 {
-    let image = match Image::read(exe, Want::Exec) {
-        Ok(image) => image,
-        Err(fault) => return Err(Refusal::Executable(fault)),
-    };
-    let entries = entries_of(alloc, log)?;
-    let program = Program::new(&image);
-    record_entries(alloc, &program, last_entries(entries.as_slice()))
+    match read_log::<Entry>(alloc, exe, log) {
+        Ok(log) => record_entries(alloc, &log.program, last_entries(log.entries.as_slice())),
+        Err(fault) => match fault {
+            LogFault::Executable(fault) => Err(Refusal::Executable(fault)),
+            LogFault::NoEntry(line) => Err(Refusal::NoNumber(line)),
+            LogFault::OutOfMemory => Err(Refusal::OutOfMemory),
+        },
+    }
 }

@@ -8,7 +8,7 @@ ghost use Rattle.rept_simlog.specs.Program.{program_of};
 ghost use Rattle.rept_simlog.specs.Recorded.{IsStepRefused, IsWalkFault};
 ghost use Rattle.rept_simlog.specs.Walk.{AddsRow, GoAlong, MayStep};
 
-use crate::log::Entry;
+use crate::entry::Entry;
 use crate::program::Program;
 use crate::refusal::Refusal;
 use rept_encode::{StepFault, push_step};

@@ -3,7 +3,7 @@ use Rattle.std.proofs.Common.{◌≡◌, ℕ, suc, ◌+◌, ◌<◌, ◌≤◌, 
 use Rattle.std.proofs.lemmas.Bool.{lt-ltb, le-ltb, ltb-true, ltb-false}
 use Rattle.std.specs.List.{list_any}
 use Rattle.rept_trace.specs.declared.packet.Packet.{Packet}
-use Rattle.rept_trace.specs.Stream.{Hold, Answers}
+use Rattle.rept_trace.specs.Stream.{Hold, AnswersNext}
 use Rattle.rept_trace.proofs.Going.{one_list}
 use Rattle.rept_path.specs.declared.fault.PathFault.TheVariants.{TimeBack}
 use Rattle.rept_path.proofs.Packeting.{taken, none_left}
@@ -47,7 +47,7 @@ either_past time new latest h = go (nat_lt time latest) refl where
   go false e = rw e (both (nat_lt time new))
 
 module _ (all : Bytes) (number : ℕ) (rest : Bytes) (k latest : ℕ) (b : Back all number rest k latest) where
-  module _ (key next : ℕ) (after : Bytes) (p : Packet) (a : Answers key rest (Ok (Some p)) next after) where
+  module _ (key next : ℕ) (after : Bytes) (p : Packet) (a : AnswersNext key rest (Ok (Some p)) next after) where
     left : (later : List Packet) × (b.more ≡ p ∷ later) × Hold after later
     left = taken key next rest after p b.more b.hold a
 
@@ -99,12 +99,12 @@ module _ (all : Bytes) (number : ℕ) (rest : Bytes) (k latest : ℕ) (b : Back 
           by_test true test h = λ list held. sym (step true (rw is (b.asks t ∙ test)) list held)
           by_test false test h = absurd ((cc))
 
-  pub back_none : (key next : ℕ) (after : Bytes) → Answers key rest (Ok None) next after → (list : List Packet) → Hold all list → None ≡ back_from number [] list
+  pub back_none : (key next : ℕ) (after : Bytes) → AnswersNext key rest (Ok None) next after → (list : List Packet) → Hold all list → None ≡ back_from number [] list
   back_none key next after a list h =
       let none = none_left key next rest after b.more b.hold a in
       sym (b.same list h ∙ ap (back_from k b.done) none)
 
-  pub back_room : (key next : ℕ) (after : Bytes) (p : Packet) → Answers key rest (Ok (Some p)) next after → k + 1 < 2 ^ 32
+  pub back_room : (key next : ℕ) (after : Bytes) (p : Packet) → AnswersNext key rest (Ok (Some p)) next after → k + 1 < 2 ^ 32
   back_room key next after p a =
       let t = taken key next rest after p b.more b.hold a in
       let fewer = ap (length {A = Packet}) t.1 in

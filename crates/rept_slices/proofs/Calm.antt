@@ -8,7 +8,7 @@ use Rattle.rept_trace.specs.declared.packet.Packet.{Packet}
 use Rattle.rept_path.specs.declared.fault.PathFault.{PathFault}
 use Rattle.rept_path.specs.declared.fault.PathFault.TheVariants.{TimeBack}
 use Rattle.rept_slices.specs.Stamps.{stamp_of, clock_of, is_start, is_before, running_after}
-use Rattle.rept_slices.specs.Parts.{Left, ToldSlice, begin_of, told_from, told_in, slices_told, first_time, beyond, inner, never}
+use Rattle.rept_slices.specs.Parts.{LeftPackets, ToldSlice, begin_of, told_from, told_in, slices_told, first_time, beyond, inner, never}
 use Rattle.rept_slices.specs.Order.{head_of}
 use Rattle.rept_slices.specs.Skipping.{numbered, whole, skip, windows, window_of, full_from, kept}
 use Rattle.rept_slices.specs.Checks.{back_from, time_back, startless, all_idle, stranger, first_fault, check}
@@ -101,10 +101,10 @@ each_append P (x ∷ xs) ys a b = (a.0, each_append P xs ys a.1 b)
 
 -- What holds of the packets of each stream, and of those from any place on, holds of those that are left.
 module _ (Q : List Packet → Type 0) (dropped : (k : ℕ) (packets : List Packet) → Q packets → Q (drop k packets)) where
-  abbrev pub LeftIs : Left → Type 0
+  abbrev pub LeftIs : LeftPackets → Type 0
   LeftIs l = Q l.packets
 
-  skipped_keep : (f : Left → ℕ) (lefts : List Left) → Each LeftIs lefts → Each LeftIs (map (λ l. skip (f l) l) lefts)
+  skipped_keep : (f : LeftPackets → ℕ) (lefts : List LeftPackets) → Each LeftIs lefts → Each LeftIs (map (λ l. skip (f l) l) lefts)
   skipped_keep f [] h = tt
   skipped_keep f (l ∷ lefts) h = (dropped (f l) l.packets h.0, skipped_keep f lefts h.1)
 
@@ -113,10 +113,10 @@ module _ (Q : List Packet → Type 0) (dropped : (k : ℕ) (packets : List Packe
       skipped_keep (λ l. prefix_len (λ p. not (is_start p && nat_le (full_from (windows from streams)) (clock_of p))) l.packets) (windows from streams)
       (skipped_keep (λ l. unwrap_or (window_of from l.packets) 0) (whole streams) h)
 
-abbrev CalmLeft : Left → Type 0
+abbrev CalmLeft : LeftPackets → Type 0
 CalmLeft l = Calm l.packets
 
-all_on_time : (lefts : List Left) → Each CalmLeft lefts → Each OnTime (slices_told lefts)
+all_on_time : (lefts : List LeftPackets) → Each CalmLeft lefts → Each OnTime (slices_told lefts)
 all_on_time [] h = tt
 all_on_time (l ∷ lefts) h = each_append OnTime (told_in l) (slices_told lefts) (told_on_time l.stream l.number None l.packets h.0) (all_on_time lefts h.1)
 
@@ -142,11 +142,11 @@ told_can s k inside (p ∷ later) h = go (is_start p) (told_can s (suc k) (runni
   go true rest = (h.0, rest)
   go false rest = rest
 
-all_can : (lefts : List Left) → Each (λ (l : Left). Each CanBe l.packets) lefts → Each CanTell (slices_told lefts)
+all_can : (lefts : List LeftPackets) → Each (λ (l : LeftPackets). Each CanBe l.packets) lefts → Each CanTell (slices_told lefts)
 all_can [] h = tt
 all_can (l ∷ lefts) h = each_append CanTell (told_in l) (slices_told lefts) (told_can l.stream l.number None l.packets h.0) (all_can lefts h.1)
 
-numbered_can : (s k : ℕ) (streams : List (List Packet)) → Each (Each CanBe) streams → Each (λ (l : Left). Each CanBe l.packets) (numbered s k streams)
+numbered_can : (s k : ℕ) (streams : List (List Packet)) → Each (Each CanBe) streams → Each (λ (l : LeftPackets). Each CanBe l.packets) (numbered s k streams)
 numbered_can s k [] h = tt
 numbered_can s k (packets ∷ others) h = (h.0, numbered_can (suc s) (k + length packets) others h.1)
 
@@ -160,7 +160,7 @@ none_first find x xs h = go (find x) refl h where
   go None is h = (is, h)
   go (Some e) is h = absurd (cc)
 
-calm_left : (lefts : List Left) → first_fault time_back lefts ≡ None → Each CalmLeft lefts
+calm_left : (lefts : List LeftPackets) → first_fault time_back lefts ≡ None → Each CalmLeft lefts
 calm_left [] h = tt
 calm_left (l ∷ lefts) h =
     let n = none_first time_back l lefts h in
@@ -186,7 +186,7 @@ told_calm s k inside (p ∷ later) h = go (is_start p) (told_calm s (suc k) (run
   go true rest = (h, rest)
   go false rest = rest
 
-all_told_calm : (lefts : List Left) → Each CalmLeft lefts → Each CalmTold (slices_told lefts)
+all_told_calm : (lefts : List LeftPackets) → Each CalmLeft lefts → Each CalmTold (slices_told lefts)
 all_told_calm [] h = tt
 all_told_calm (l ∷ lefts) h = each_append CalmTold (told_in l) (slices_told lefts) (told_calm l.stream l.number None l.packets h.0) (all_told_calm lefts h.1)
 

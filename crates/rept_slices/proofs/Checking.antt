@@ -12,11 +12,11 @@ use Rattle.rept_path.specs.declared.window.Begin.{Begin}
 use Rattle.rept_path.specs.Survey.{number_in}
 use Rattle.rept_path.specs.Trace.{IsWindow as Begins}
 use Rattle.rept_path.proofs.OneRoute.{one_window}
-use Rattle.rept_slices.specs.Parts.{Left}
+use Rattle.rept_slices.specs.Parts.{LeftPackets}
 use Rattle.rept_slices.specs.Order.{head_of}
 use Rattle.rept_slices.specs.Skipping.{whole, numbered, window_of}
 use Rattle.rept_slices.specs.Checks.{first_fault, startless, all_idle, back_from, time_back}
-use Rattle.rept_slices.specs.Windows.{IsWindow, AreWindows, AreAll}
+use Rattle.rept_slices.specs.Windows.{IsStreamWindow, AreWindows, AreAll}
 use Rattle.rept_slices.specs.declared.reading.Window.{Window}
 use Rattle.rept_slices.proofs.Begun.{window_is}
 
@@ -26,7 +26,7 @@ fault_on check x xs h = ap (λ (o : Option PathFault). head_of (cons_option o (f
 pub fault_here : {A : Type 0} (check : A → Option PathFault) (x : A) (xs : List A) (e : PathFault) → check x ≡ Some e → first_fault check (x ∷ xs) ≡ Some e
 fault_here check x xs e h = ap (λ (o : Option PathFault). head_of (cons_option o (filter_map check xs))) h
 
-abbrev pub left : ℕ → ℕ → List Packet → Left
+abbrev pub left : ℕ → ℕ → List Packet → LeftPackets
 left s k packets = record { stream = s; number = k; packets = packets }
 
 -- a stream has one window, or none
@@ -38,20 +38,20 @@ same_window packets from (Some i) (Some j) x y = ap Some (one_window packets fro
 
 -- one stream
 module _ (s k from : ℕ) (stream : Stream) (w : Window) where
-  pub unique : (packets : List Packet) → IsWindow s k from stream packets w → window_of from packets ≡ number_in w.begin
+  pub unique : (packets : List Packet) → IsStreamWindow s k from stream packets w → window_of from packets ≡ number_in w.begin
   unique packets is = same_window packets from (window_of from packets) (number_in w.begin) (window_is from packets) is.surveys.window
 
-  pub no_packets : (packets : List Packet) → IsWindow s k from stream packets w → w.count ≡ 0 → None ≡ startless from (left s k packets)
+  pub no_packets : (packets : List Packet) → IsStreamWindow s k from stream packets w → w.count ≡ 0 → None ≡ startless from (left s k packets)
   no_packets [] is none = refl
   no_packets (p ∷ later) is none = let e = is.surveys.count in absurd (omega arith)
 
-  pub has_window : (packets : List Packet) (b : Begin) → IsWindow s k from stream packets w → w.begin ≡ Some b → None ≡ startless from (left s k packets)
+  pub has_window : (packets : List Packet) (b : Begin) → IsStreamWindow s k from stream packets w → w.begin ≡ Some b → None ≡ startless from (left s k packets)
   has_window [] b is some = refl
   has_window (p ∷ later) b is some =
       let u : window_of from (p ∷ later) ≡ Some b.number = unique (p ∷ later) is ∙ ap number_in some in
       rw u refl
 
-  pub no_window : (packets : List Packet) → IsWindow s k from stream packets w → w.count ≢ 0 → w.begin ≡ None → Some (NoStart w.count) ≡ startless from (left s k packets)
+  pub no_window : (packets : List Packet) → IsStreamWindow s k from stream packets w → w.count ≢ 0 → w.begin ≡ None → Some (NoStart w.count) ≡ startless from (left s k packets)
   no_window [] is some none = absurd (some is.surveys.count)
   no_window (p ∷ later) is some none =
       let u : window_of from (p ∷ later) ≡ None = unique (p ∷ later) is ∙ ap number_in none in
@@ -59,7 +59,7 @@ module _ (s k from : ℕ) (stream : Stream) (w : Window) where
       rw u (ap (λ (n : ℕ). Some (NoStart n)) e)
 
 -- The streams from a number on, after those that pass a check.
-pub record Rest (check : Left → Option PathFault) (from : ℕ) (lists : List (List Packet)) (ws : List Window) (s : ℕ) : Type 0 where
+pub record Rest (check : LeftPackets → Option PathFault) (from : ℕ) (lists : List (List Packet)) (ws : List Window) (s : ℕ) : Type 0 where
   pub k : ℕ
   pub others : List Stream
   pub later : List (List Packet)
@@ -67,42 +67,42 @@ pub record Rest (check : Left → Option PathFault) (from : ℕ) (lists : List (
   pub same : first_fault check (whole lists) ≡ first_fault check (numbered s k later)
   pub few : k + sum_by (λ packets. length packets) later < 2 ^ 32
 
-pub all_rest : (check : Left → Option PathFault) (from : ℕ) (streams : List Stream) (lists : List (List Packet)) (ws : List Window) → AreAll from streams lists ws → Rest check from lists ws 0
+pub all_rest : (check : LeftPackets → Option PathFault) (from : ℕ) (streams : List Stream) (lists : List (List Packet)) (ws : List Window) → AreAll from streams lists ws → Rest check from lists ws 0
 all_rest check from streams lists ws a = let few = a.few in record { k = 0; others = streams; later = lists; windows = a.windows; same = refl; few = omega arith }
 
 -- the first of the streams that are left
-pub record Opened (check : Left → Option PathFault) (from : ℕ) (lists : List (List Packet)) (w : Window) (ws : List Window) (s : ℕ) : Type 0 where
+pub record Opened (check : LeftPackets → Option PathFault) (from : ℕ) (lists : List (List Packet)) (w : Window) (ws : List Window) (s : ℕ) : Type 0 where
   pub k : ℕ
   pub stream : Stream
   pub packets : List Packet
   pub others : List Stream
   pub later : List (List Packet)
-  pub first : IsWindow s k from stream packets w
+  pub first : IsStreamWindow s k from stream packets w
   pub windows : AreWindows (suc s) (k + length packets) from others later ws
   pub same : first_fault check (whole lists) ≡ first_fault check (left s k packets ∷ numbered (suc s) (k + length packets) later)
   pub few : k + length packets + sum_by (λ packets. length packets) later < 2 ^ 32
 
-pub opened : (check : Left → Option PathFault) (from : ℕ) (lists : List (List Packet)) (w : Window) (ws : List Window) (s : ℕ) → Rest check from lists (w ∷ ws) s → Opened check from lists w ws s
+pub opened : (check : LeftPackets → Option PathFault) (from : ℕ) (lists : List (List Packet)) (w : Window) (ws : List Window) (s : ℕ) → Rest check from lists (w ∷ ws) s → Opened check from lists w ws s
 opened check from lists w ws s r = go r.others r.later r.windows r.same r.few where
   go : (others : List Stream) (later : List (List Packet)) → AreWindows s r.k from others later (w ∷ ws) → first_fault check (whole lists) ≡ first_fault check (numbered s r.k later) → r.k + sum_by (λ packets. length packets) later < 2 ^ 32 → Opened check from lists w ws s
   go [] later are same few = let e = are.1 in absurd ((cc))
   go (stream ∷ others) [] are same few = absurd are
   go (stream ∷ others) (packets ∷ later) are same few = record { k = r.k; stream = stream; packets = packets; others = others; later = later; first = are.0; windows = are.1; same = same; few = omega (arith, sum_by-cons (λ (ps : List Packet). length ps) packets later, few) }
 
-pub one_passes : (check : Left → Option PathFault) (from : ℕ) (lists : List (List Packet)) (w : Window) (ws : List Window) (s : ℕ) → Rest check from lists (w ∷ ws) s
-    → ((k : ℕ) (stream : Stream) (packets : List Packet) → IsWindow s k from stream packets w → check (left s k packets) ≡ None) → Rest check from lists ws (s + 1)
+pub one_passes : (check : LeftPackets → Option PathFault) (from : ℕ) (lists : List (List Packet)) (w : Window) (ws : List Window) (s : ℕ) → Rest check from lists (w ∷ ws) s
+    → ((k : ℕ) (stream : Stream) (packets : List Packet) → IsStreamWindow s k from stream packets w → check (left s k packets) ≡ None) → Rest check from lists ws (s + 1)
 one_passes check from lists w ws s r passes =
     let o = opened check from lists w ws s r in
     let on : first_fault check (whole lists) ≡ first_fault check (numbered (suc s) (o.k + length o.packets) o.later) = o.same ∙ fault_on check (left s o.k o.packets) (numbered (suc s) (o.k + length o.packets) o.later) (passes o.k o.stream o.packets o.first) in
     rw add-one (record { k = o.k + length o.packets; others = o.others; later = o.later; windows = o.windows; same = on; few = o.few })
 
-pub one_fails : (check : Left → Option PathFault) (from : ℕ) (lists : List (List Packet)) (w : Window) (ws : List Window) (s : ℕ) (e : PathFault) → Rest check from lists (w ∷ ws) s
-    → ((k : ℕ) (stream : Stream) (packets : List Packet) → IsWindow s k from stream packets w → Some e ≡ check (left s k packets)) → Some e ≡ first_fault check (whole lists)
+pub one_fails : (check : LeftPackets → Option PathFault) (from : ℕ) (lists : List (List Packet)) (w : Window) (ws : List Window) (s : ℕ) (e : PathFault) → Rest check from lists (w ∷ ws) s
+    → ((k : ℕ) (stream : Stream) (packets : List Packet) → IsStreamWindow s k from stream packets w → Some e ≡ check (left s k packets)) → Some e ≡ first_fault check (whole lists)
 one_fails check from lists w ws s e r fails =
     let o = opened check from lists w ws s r in
     sym (o.same ∙ fault_here check (left s o.k o.packets) (numbered (suc s) (o.k + length o.packets) o.later) e (sym (fails o.k o.stream o.packets o.first)))
 
-pub none_fails : (check : Left → Option PathFault) (from : ℕ) (lists : List (List Packet)) (s : ℕ) → Rest check from lists [] s → None ≡ first_fault check (whole lists)
+pub none_fails : (check : LeftPackets → Option PathFault) (from : ℕ) (lists : List (List Packet)) (s : ℕ) → Rest check from lists [] s → None ≡ first_fault check (whole lists)
 none_fails check from lists s r = go r.others r.later r.windows r.same where
   go : (others : List Stream) (later : List (List Packet)) → AreWindows s r.k from others later [] → first_fault check (whole lists) ≡ first_fault check (numbered s r.k later) → None ≡ first_fault check (whole lists)
   go [] later are same = sym (same ∙ ap (λ (ls : List (List Packet)). first_fault check (numbered s r.k ls)) are.0)
@@ -110,7 +110,7 @@ none_fails check from lists s r = go r.others r.later r.windows r.same where
   go (stream ∷ others) (packets ∷ later) are same = absurd are
 
 -- the packets of the first stream that is left
-pub holds_first : (check : Left → Option PathFault) (from : ℕ) (lists : List (List Packet)) (w : Window) (ws : List Window) (s : ℕ) → Rest check from lists (w ∷ ws) s → (packets : List Packet) × Hold (rest_of w.packets) packets × (w.number + length packets < 2 ^ 32)
+pub holds_first : (check : LeftPackets → Option PathFault) (from : ℕ) (lists : List (List Packet)) (w : Window) (ws : List Window) (s : ℕ) → Rest check from lists (w ∷ ws) s → (packets : List Packet) × Hold (rest_of w.packets) packets × (w.number + length packets < 2 ^ 32)
 holds_first check from lists w ws s r =
     let o = opened check from lists w ws s r in
     let number = o.first.number in
@@ -159,10 +159,10 @@ pub split : (ws : List Window) (i : ℕ) (w : Window) → i < length ws → w �
 split ws i w within at = at_drop_more (λ (vs : List Window). vs) ws i w within ∙ ap (λ (v : Window). v ∷ drop (i + 1) ws) (sym at)
 
 -- the stream of a number is the first of those from it on
-pub rest_at : (check : Left → Option PathFault) (from : ℕ) (lists : List (List Packet)) (ws : List Window) (i : ℕ) (w : Window) → i < length ws → w ≡ get_or ws i w → Rest check from lists (drop i ws) i → Rest check from lists (w ∷ drop (i + 1) ws) i
+pub rest_at : (check : LeftPackets → Option PathFault) (from : ℕ) (lists : List (List Packet)) (ws : List Window) (i : ℕ) (w : Window) → i < length ws → w ≡ get_or ws i w → Rest check from lists (drop i ws) i → Rest check from lists (w ∷ drop (i + 1) ws) i
 rest_at check from lists ws i w within at r = subst (λ (vs : List Window). Rest check from lists vs i) (split ws i w within at) r
 
-pub rest_end : (check : Left → Option PathFault) (from : ℕ) (lists : List (List Packet)) (ws : List Window) (i : ℕ) → length ws ≤ i → Rest check from lists (drop i ws) i → Rest check from lists [] i
+pub rest_end : (check : LeftPackets → Option PathFault) (from : ℕ) (lists : List (List Packet)) (ws : List Window) (i : ℕ) → length ws ≤ i → Rest check from lists (drop i ws) i → Rest check from lists [] i
 rest_end check from lists ws i past r = subst (λ (vs : List Window). Rest check from lists vs i) (at_drop_all (λ (vs : List Window). vs) ws i past) r
 
 pub idle_at : (from : ℕ) (lists : List (List Packet)) (ws : List Window) (i : ℕ) (w : Window) → i < length ws → w ≡ get_or ws i w → Idle from lists (drop i ws) i → Idle from lists (w ∷ drop (i + 1) ws) i
@@ -172,5 +172,5 @@ pub idle_end : (from : ℕ) (lists : List (List Packet)) (ws : List Window) (i :
 idle_end from lists ws i past r = subst (λ (vs : List Window). Idle from lists vs i) (at_drop_all (λ (vs : List Window). vs) ws i past) r
 
 -- what is told of what is read is told of the stream
-pub back_of : (s k from : ℕ) (stream : Stream) (packets : List Packet) (w : Window) (found : Option PathFault) → IsWindow s k from stream packets w → ((list : List Packet) → Hold (rest_of w.packets) list → found ≡ back_from w.number [] list) → found ≡ time_back (left s k packets)
+pub back_of : (s k from : ℕ) (stream : Stream) (packets : List Packet) (w : Window) (found : Option PathFault) → IsStreamWindow s k from stream packets w → ((list : List Packet) → Hold (rest_of w.packets) list → found ≡ back_from w.number [] list) → found ≡ time_back (left s k packets)
 back_of s k from stream packets w found is told = told packets (subst (λ (x : Stream). Hold x packets) (sym is.rest) is.surveys.hold) ∙ ap (λ (n : ℕ). back_from n [] packets) is.number

@@ -5,7 +5,7 @@ use Rattle.std.specs.List.{prefix_len, sum_by}
 use Rattle.std.proofs.lemmas.List.Sums.{sum_by-cons}
 use Rattle.rept_trace.specs.declared.packet.Packet.{Packet}
 use Rattle.rept_slices.specs.Stamps.{clock_of, is_start, running_after}
-use Rattle.rept_slices.specs.Parts.{Left, ToldSlice, told_from, told_in, slices_told}
+use Rattle.rept_slices.specs.Parts.{LeftPackets, ToldSlice, told_from, told_in, slices_told}
 use Rattle.rept_slices.specs.Skipping.{numbered, whole, skip, windows, window_of, full_from, kept}
 use Rattle.rept_slices.proofs.InTime.{Each}
 use Rattle.rept_slices.proofs.Calm.{each_append}
@@ -115,19 +115,19 @@ follow_told s k inside (p ∷ later) others a b h f = go (is_start p) refl (foll
   go false is more = more
 
 -- the packets of a stream have numbers from the one to the other, if it has any
-abbrev pub Fits : ℕ → ℕ → Left → Type 0
+abbrev pub Fits : ℕ → ℕ → LeftPackets → Type 0
 Fits k m l = (k ≤ m) × ((l.packets ≡ []) ⊎ ((k ≤ l.number) × (l.number + length l.packets ≤ m)))
 
 -- Streams that stand one after the other, from that of this number on, with packets of numbers from the one to the other.
-abbrev pub Spaced : ℕ → ℕ → ℕ → List Left → Type 0
+abbrev pub Spaced : ℕ → ℕ → ℕ → List LeftPackets → Type 0
 Spaced s k n [] = k ≤ n
 Spaced s k n (l ∷ ls) = (m : ℕ) × (l.stream ≡ s) × Fits k m l × Spaced (suc s) m n ls
 
-spaced_within : (s k n : ℕ) (ls : List Left) → Spaced s k n ls → k ≤ n
+spaced_within : (s k n : ℕ) (ls : List LeftPackets) → Spaced s k n ls → k ≤ n
 spaced_within s k n [] h = h
 spaced_within s k n (l ∷ ls) h = let a = spaced_within (suc s) h.0 n ls h.3 in let b = h.2.0 in omega (arith, a, b)
 
-spaced_told : (s k n : ℕ) (ls : List Left) → Spaced s k n ls → Each (From k) (slices_told ls) × Each (FromStream s) (slices_told ls) × HeadFirst (slices_told ls) × Following (slices_told ls)
+spaced_told : (s k n : ℕ) (ls : List LeftPackets) → Spaced s k n ls → Each (From k) (slices_told ls) × Each (FromStream s) (slices_told ls) × HeadFirst (slices_told ls) × Following (slices_told ls)
 spaced_told s k n [] h = (tt, tt, tt, tt)
 spaced_told s k n (l ∷ ls) h =
     let rest = spaced_told (suc s) h.0 n ls h.3 in
@@ -148,7 +148,7 @@ spaced_told s k n (l ∷ ls) h =
           follow_told l.stream l.number None l.packets (slices_told ls) (each_from_less (l.number + length l.packets) h.0 high (slices_told ls) rest.0) (streams_less (suc l.stream) (suc s) (omega (arith, own)) (slices_told ls) rest.1) rest.2 rest.3,
         )
 
-fits_skip : (k m n : ℕ) (l : Left) → Fits k m l → Fits k m (skip n l)
+fits_skip : (k m n : ℕ) (l : LeftPackets) → Fits k m l → Fits k m (skip n l)
 fits_skip k m n l h = (h.0, go (drop n l.packets) refl h.1) where
   go : (ps : List Packet) → drop n l.packets ≡ ps → (l.packets ≡ []) ⊎ ((k ≤ l.number) × (l.number + length l.packets ≤ m)) → (drop n l.packets ≡ []) ⊎ ((k ≤ l.number + n) × (l.number + n + length (drop n l.packets) ≤ m))
   go [] e h = inl e
@@ -160,7 +160,7 @@ fits_skip k m n l h = (h.0, go (drop n l.packets) refl h.1) where
         | inr t ↦ let low = t.0 in let high = t.1 in inr (omega (arith, low), omega (arith, d, f, high))
       ]
 
-spaced_skip : (f : Left → ℕ) (s k n : ℕ) (ls : List Left) → Spaced s k n ls → Spaced s k n (map (λ l. skip (f l) l) ls)
+spaced_skip : (f : LeftPackets → ℕ) (s k n : ℕ) (ls : List LeftPackets) → Spaced s k n ls → Spaced s k n (map (λ l. skip (f l) l) ls)
 spaced_skip f s k n [] h = h
 spaced_skip f s k n (l ∷ ls) h = (h.0, h.1, fits_skip k h.0 (f l) l h.2, spaced_skip f (suc s) h.0 n ls h.3)
 
@@ -205,7 +205,7 @@ told_few s k n inside (p ∷ later) le = go (is_start p) (told_few s (suc k) n (
   go true more = (omega (arith, le), more)
   go false more = more
 
-spaced_few : (s k n : ℕ) (ls : List Left) → Spaced s k n ls → Each (Few n) (slices_told ls)
+spaced_few : (s k n : ℕ) (ls : List LeftPackets) → Spaced s k n ls → Each (Few n) (slices_told ls)
 spaced_few s k n [] h = tt
 spaced_few s k n (l ∷ ls) h =
     let within = spaced_within (suc s) h.0 n ls h.3 in

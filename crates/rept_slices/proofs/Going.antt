@@ -3,7 +3,7 @@ use Rattle.std.proofs.Common.{◌≡◌, ◌⊎◌, inl, inr, ℕ, ◌+◌, ◌<
 use Rattle.std.proofs.lemmas.List.{reverse-append, reverse-reverse, append-nil, length-reverse}
 use Rattle.rept_isa.specs.declared.row.StepRow.{StepRow}
 use Rattle.rept_trace.specs.declared.packet.Packet.{Packet}
-use Rattle.rept_trace.specs.Stream.{Stream, Hold, Answers}
+use Rattle.rept_trace.specs.Stream.{Stream, Hold, AnswersNext}
 use Rattle.rept_path.specs.Code.{Code}
 use Rattle.rept_path.specs.declared.fault.PathFault.{PathFault}
 use Rattle.rept_path.specs.declared.fault.PathFault.TheVariants.{OutOfMemory}
@@ -81,13 +81,13 @@ pub same_off : (waits : Bool) (packet : Packet) (later : List Packet) → begins
 same_off waits packet later h = ap (λ (b : Bool). cond b [] (packet ∷ same_stretch (waits_after packet waits) later)) h
 
 -- where the stretch ends
-pub ends_there : (k n : ℕ) (rest after : Bytes) (waits : Bool) (packet : Packet) (more : List Packet) → Hold rest more → Answers k rest (Ok (Some packet)) n after → begins packet waits ≡ true → same_stretch waits more ≡ []
+pub ends_there : (k n : ℕ) (rest after : Bytes) (waits : Bool) (packet : Packet) (more : List Packet) → Hold rest more → AnswersNext k rest (Ok (Some packet)) n after → begins packet waits ≡ true → same_stretch waits more ≡ []
 ends_there k n rest after waits packet more h a b =
     let t = taken k n rest after packet more h a in
     ap (λ (xs : List Packet). same_stretch waits xs) t.1 ∙ same_off waits packet t.0 b
 
 module _ (code : Code) (origin : Origin) (head : Head) (number : ℕ) (rest : Bytes) (w : Walk) (counts : List ℕ) (g : Going code origin head number rest w counts) where
-  module _ (k n : ℕ) (after : Bytes) (packet : Packet) (a : Answers k rest (Ok (Some packet)) n after) (same : begins packet w.waiting ≡ false) where
+  module _ (k n : ℕ) (after : Bytes) (packet : Packet) (a : AnswersNext k rest (Ok (Some packet)) n after) (same : begins packet w.waiting ≡ false) where
     front : (later : List Packet) → g.more ≡ packet ∷ later → packets_of head ≡ reverse (packet ∷ g.done) ++ same_stretch (waits_after packet (waiting g.done)) later
     front later is =
         let waits : w.waiting ≡ waiting g.done = g.stands.waiting in

@@ -4,7 +4,7 @@ use Rattle.std.specs.List.{flat_map}
 use Rattle.rept_trace.specs.declared.packet.Packet.{Packet}
 use Rattle.rept_trace.specs.declared.packet.Packet.TheVariants.{Start, Context, Support, Address, Map, MapAddress}
 use Rattle.rept_slices.specs.Stamps.{clock_of, is_start, running_after}
-use Rattle.rept_slices.specs.Parts.{Left, ToldSlice, begin_of, told_from, told_in, slices_told}
+use Rattle.rept_slices.specs.Parts.{LeftPackets, ToldSlice, begin_of, told_from, told_in, slices_told}
 use Rattle.rept_slices.specs.Skipping.{from_time}
 use Rattle.rept_slices.specs.Lefts.{before_time}
 use Rattle.rept_slices.specs.Entries.{IsEntryOf, AreEntriesOf, with_head, entries_from}
@@ -91,13 +91,13 @@ left_told time s k inside [] = refl
 left_told time s k inside (p ∷ later) = left_more time s k inside p later (left_told time s (suc k) (running_after p inside) later)
 
 -- of a stream
-pub left_in : (time : ℕ) (l : Left) → told_in (from_time time l) ≡ slices_from time (told_in l)
+pub left_in : (time : ℕ) (l : LeftPackets) → told_in (from_time time l) ≡ slices_from time (told_in l)
 left_in time l = left_told time l.stream l.number None l.packets
 
-pub left_are : (time : ℕ) (l : Left) (es : List Entry) → AreEntriesOf es (told_in l) → AreEntriesOf (entries_from time es) (told_in (from_time time l))
+pub left_are : (time : ℕ) (l : LeftPackets) (es : List Entry) → AreEntriesOf es (told_in l) → AreEntriesOf (entries_from time es) (told_in (from_time time l))
 left_are time l es h = subst (λ (ts : List ToldSlice). AreEntriesOf (entries_from time es) ts) (sym (left_in time l)) (entries_are time es (told_in l) h)
 
 -- of all of them
-pub all_left : (time : ℕ) (ls : List Left) → flat_map (λ (l : Left). told_in (from_time time l)) ls ≡ slices_told (map (from_time time) ls)
+pub all_left : (time : ℕ) (ls : List LeftPackets) → flat_map (λ (l : LeftPackets). told_in (from_time time l)) ls ≡ slices_told (map (from_time time) ls)
 all_left time [] = refl
 all_left time (l ∷ ls) = ap (λ (ts : List ToldSlice). told_in (from_time time l) ++ ts) (all_left time ls)

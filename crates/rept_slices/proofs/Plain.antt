@@ -12,14 +12,14 @@ use Rattle.rept_trace.specs.declared.packet.Packet.TheVariants.{Start, Context, 
 use Rattle.rept_path.specs.declared.aim.Aim.{Aim}
 use Rattle.rept_path.specs.Code.{Code, look, flow_of}
 use Rattle.rept_path.specs.Packets.{begins, waiting, waits_after}
-use Rattle.rept_path.specs.Moves.{Lead, Place, Way, way_by, Stand, along, Site, site, successor, IsMove, heading_by}
-use Rattle.rept_path.specs.Legs.{Passes, Reaches}
+use Rattle.rept_path.specs.Moves.{Lead, Place, WayOn, way_by, Stand, place_along, Site, site, successor, IsMove, heading_by}
+use Rattle.rept_path.specs.Legs.{LegPasses, Reaches}
 use Rattle.rept_path.specs.Route.{Phase, lead_of, further, with_bits, phases_of, PhaseLegs, Met, met_by, WaitingLeg, FirstLeg, Origin, Route}
 use Rattle.rept_path.proofs.MoveLemmas.{made}
 use Rattle.rept_path.proofs.Waiting.{LegIn}
 use Rattle.rept_slices.specs.Stamps.{is_start}
 use Rattle.rept_slices.specs.Parts.{ToldSlice, inner}
-use Rattle.rept_slices.specs.Stretches.{same_stretch, stretch, Walked, origin_after, Goes, rows_of}
+use Rattle.rept_slices.specs.Stretches.{same_stretch, stretch, StretchLegs, origin_after, Goes, rows_of}
 use Rattle.rept_slices.proofs.InTime.{Each}
 use Rattle.rept_slices.proofs.Calm.{each_append}
 
@@ -27,7 +27,7 @@ abbrev pub IsPlain : StepRow → Type 0
 IsPlain row = is_call row.instr ≡ false
 
 -- an instruction with a successor is no call
-pub has_successor : (k : ℕ) (p : Site) (a : ℕ) (i : Instr) (way : Way) → successor k p (flow_of i) way ≡ Ok a → is_call i ≡ false
+pub has_successor : (k : ℕ) (p : Site) (a : ℕ) (i : Instr) (way : WayOn) → successor k p (flow_of i) way ≡ Ok a → is_call i ≡ false
 has_successor k p a (instrs.Lui rd imm) way h = refl
 has_successor k p a (instrs.Auipc rd imm) way h = refl
 has_successor k p a (instrs.Jal rd imm) way h = refl
@@ -91,13 +91,13 @@ module _ (code : Code) where
       let same : x.0 ≡ r.instr = cc in
       subst (λ (i : Instr). is_call i ≡ false) same (has_successor lead.packet (site code p.at) x.2.0 x.0 (way_by (slice_get lead.bits p.branches) lead.target) x.2.1)
 
-  passed : (lead : Lead) (aim : Aim) (past : Place) (leg : List StepRow) → Passes code (heading_by lead aim) past leg → Each IsPlain leg
+  passed : (lead : Lead) (aim : Aim) (past : Place) (leg : List StepRow) → LegPasses code (heading_by lead aim) past leg → Each IsPlain leg
   passed lead aim past [] x = tt
-  passed lead aim past (r ∷ leg) x = (of_move lead (along code past leg) r x.1, passed lead aim past leg x.0)
+  passed lead aim past (r ∷ leg) x = (of_move lead (place_along code past leg) r x.1, passed lead aim past leg x.0)
 
   reached : (lead : Lead) (aim : Aim) (past : Place) (leg : List StepRow) → Reaches code (heading_by lead aim) past leg → Each IsPlain leg
   reached lead aim past [] x = elim x [ ]
-  reached lead aim past (r ∷ leg) x = (of_move lead (along code past leg) r x.1, passed lead aim past leg x.0)
+  reached lead aim past (r ∷ leg) x = (of_move lead (place_along code past leg) r x.1, passed lead aim past leg x.0)
 
   of_phases : (s : Stand) (phases : List Phase) (leg : List StepRow) → PhaseLegs code s phases leg → Each IsPlain leg
   of_phases s [] leg x = subst (Each IsPlain) (sym x) tt
@@ -152,7 +152,7 @@ all_plain [] h = tt
 all_plain (leg ∷ legs) h = each_append IsPlain (reverse leg) (flat_map reverse legs) (each_reverse IsPlain leg h.0) (all_plain legs h.1)
 
 -- The rows of a slice that was walked are no calls.
-pub rows_plain : (code : Code) (count : ℕ) (w : Walked) (t : ToldSlice) → is_start w.head.start ≡ true → Goes code count w → Each IsPlain (rows_of w t)
+pub rows_plain : (code : Code) (count : ℕ) (w : StretchLegs) (t : ToldSlice) → is_start w.head.start ≡ true → Goes code count w → Each IsPlain (rows_of w t)
 rows_plain code count w t starts goes =
     let legs = of_route code (origin_after count w.head) (reverse (stretch w.head)) w.legs (one_stretch w.head starts) goes in
     let oldest = reverse w.legs in

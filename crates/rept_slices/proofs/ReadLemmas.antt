@@ -11,11 +11,11 @@ use Rattle.rept_trace.specs.declared.fault.TraceFault.{TraceFault}
 use Rattle.rept_trace.specs.declared.fault.TraceFault.TheVariants.{BadMagic, BadHeader, Truncated, Optional, Trap, BadSupport, StreamPastEnd, Rest}
 use Rattle.rept_trace.specs.declared.parameters.Parameters.{Parameters}
 use Rattle.rept_trace.specs.Grammar.{timed}
-use Rattle.rept_trace.specs.Stream.{Stream, Hold, Fails, FailsAfter}
+use Rattle.rept_trace.specs.Stream.{Stream, Hold, FailsNext, FailsAfter}
 use Rattle.rept_trace.specs.Streams.{StreamFile}
 use Rattle.rept_trace.proofs.Frames.{shorter}
 use Rattle.rept_slices.specs.Raw.{streams_of, FailsIn}
-use Rattle.rept_slices.specs.Windows.{IsWindow, AreWindows, number_told, numbered_after}
+use Rattle.rept_slices.specs.Windows.{IsStreamWindow, AreWindows, number_told, numbered_after}
 use Rattle.rept_slices.specs.declared.reading.Window.{Window}
 
 -- the stream of a number is that of its bytes
@@ -41,7 +41,7 @@ sizes file = go file.streams where
       omega (arith, i, sum_by-cons (λ (s : Stream). length s.bytes) (by_bytes bytes) (map by_bytes streams), sum_by-cons (λ (bs : List ℕ). length bs) bytes streams)
 
 -- the number that a fault tells is that of a packet
-fails_at : (n : ℕ) (stream : Stream) (f : TraceFault) → Fails n stream f → number_told f ≤ n
+fails_at : (n : ℕ) (stream : Stream) (f : TraceFault) → FailsNext n stream f → number_told f ≤ n
 fails_at n stream BadMagic h = absurd h
 fails_at n stream (BadHeader i) h = absurd h
 fails_at n stream (Truncated k) h = let e = h.0 in omega arith
@@ -58,7 +58,7 @@ told_few n stream (p ∷ packets) f h =
     let less = shorter stream p h.0 h.1 in
     omega (arith, i, less)
 
-fails_after : (before n : ℕ) (stream : Stream) (f : TraceFault) → Fails n stream f → Fails (before + n) stream (numbered_after before f)
+fails_after : (before n : ℕ) (stream : Stream) (f : TraceFault) → FailsNext n stream f → FailsNext (before + n) stream (numbered_after before f)
 fails_after before n stream BadMagic h = absurd h
 fails_after before n stream (BadHeader i) h = absurd h
 fails_after before n stream (Truncated k) h = (ap (λ (m : ℕ). before + m) h.0, h.1)
@@ -101,7 +101,7 @@ module _ (from : ℕ) (streams : List Stream) (i k : ℕ) (ws : List Window) (r 
       omega (arith, few, e, sum_by-cons (λ (s : Stream). length s.bytes) stream (drop (i + 1) streams))
 
   module _ (packets : List Packet) where
-    pub one_read : (w : Window) → IsWindow i k from stream packets w → length packets ≤ length stream.bytes → Read from streams (i + 1) (k + length packets) (ws ++ w ∷ [])
+    pub one_read : (w : Window) → IsStreamWindow i k from stream packets w → length packets ≤ length stream.bytes → Read from streams (i + 1) (k + length packets) (ws ++ w ∷ [])
     one_read w is short = record {
       lists = r.lists ++ packets ∷ [];
       goes = λ later more h.

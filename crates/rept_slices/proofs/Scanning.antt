@@ -3,7 +3,7 @@ use Rattle.std.proofs.Common.{◌≡◌, ℕ, suc, ◌+◌, List, [], ◌∷◌,
 use Rattle.std.specs.List.{prefix_len}
 use Rattle.std.specs.Option.{option_or}
 use Rattle.rept_trace.specs.declared.packet.Packet.{Packet}
-use Rattle.rept_trace.specs.Stream.{Hold, Answers}
+use Rattle.rept_trace.specs.Stream.{Hold, AnswersNext}
 use Rattle.rept_trace.proofs.Going.{one_list}
 use Rattle.rept_path.proofs.Packeting.{taken, none_left}
 use Rattle.rept_slices.specs.Stamps.{stamp_of, closes}
@@ -21,28 +21,28 @@ module _ {A : Type 0} (wanted : List Packet → A) where
   same_first all list h = record { more = list; hold = h; same = λ other k. ap wanted (one_list all other list k h) }
 
   -- a packet that isn't it
-  pub same_on : (all rest after : Bytes) (k n : ℕ) (packet : Packet) → Same wanted all rest → Answers k rest (Ok (Some packet)) n after → ((later : List Packet) → wanted (packet ∷ later) ≡ wanted later) → Same wanted all after
+  pub same_on : (all rest after : Bytes) (k n : ℕ) (packet : Packet) → Same wanted all rest → AnswersNext k rest (Ok (Some packet)) n after → ((later : List Packet) → wanted (packet ∷ later) ≡ wanted later) → Same wanted all after
   same_on all rest after k n packet s a passes =
       let t = taken k n rest after packet s.more s.hold a in
       record { more = t.0; hold = t.2; same = λ list h. s.same list h ∙ ap wanted t.1 ∙ passes t.0 }
 
   -- a packet that is it
-  pub same_found : (all rest after : Bytes) (k n : ℕ) (packet : Packet) (x : A) → Same wanted all rest → Answers k rest (Ok (Some packet)) n after → ((later : List Packet) → wanted (packet ∷ later) ≡ x) → (list : List Packet) → Hold all list → x ≡ wanted list
+  pub same_found : (all rest after : Bytes) (k n : ℕ) (packet : Packet) (x : A) → Same wanted all rest → AnswersNext k rest (Ok (Some packet)) n after → ((later : List Packet) → wanted (packet ∷ later) ≡ x) → (list : List Packet) → Hold all list → x ≡ wanted list
   same_found all rest after k n packet x s a is list h =
       let t = taken k n rest after packet s.more s.hold a in
       sym (s.same list h ∙ ap wanted t.1 ∙ is t.0)
 
   -- the packets after it
-  pub same_later : (all rest after : Bytes) (k n : ℕ) (packet : Packet) → Same wanted all rest → Answers k rest (Ok (Some packet)) n after → (list : List Packet) × Hold after list
+  pub same_later : (all rest after : Bytes) (k n : ℕ) (packet : Packet) → Same wanted all rest → AnswersNext k rest (Ok (Some packet)) n after → (list : List Packet) × Hold after list
   same_later all rest after k n packet s a = let t = taken k n rest after packet s.more s.hold a in (t.0, t.2)
 
   -- a packet from which on it is found
-  pub same_from : (all rest after : Bytes) (k n : ℕ) (packet : Packet) (x : A) → Same wanted all rest → Answers k rest (Ok (Some packet)) n after → ((later : List Packet) → Hold after later → x ≡ wanted (packet ∷ later)) → (list : List Packet) → Hold all list → x ≡ wanted list
+  pub same_from : (all rest after : Bytes) (k n : ℕ) (packet : Packet) (x : A) → Same wanted all rest → AnswersNext k rest (Ok (Some packet)) n after → ((later : List Packet) → Hold after later → x ≡ wanted (packet ∷ later)) → (list : List Packet) → Hold all list → x ≡ wanted list
   same_from all rest after k n packet x s a is list h =
       let t = taken k n rest after packet s.more s.hold a in
       is t.0 t.2 ∙ sym (s.same list h ∙ ap wanted t.1)
 
-  pub same_none : (all rest after : Bytes) (k n : ℕ) → Same wanted all rest → Answers k rest (Ok None) n after → (list : List Packet) → Hold all list → wanted [] ≡ wanted list
+  pub same_none : (all rest after : Bytes) (k n : ℕ) → Same wanted all rest → AnswersNext k rest (Ok None) n after → (list : List Packet) → Hold all list → wanted [] ≡ wanted list
   same_none all rest after k n s a list h =
       let none = none_left k n rest after s.more s.hold a in
       sym (s.same list h ∙ ap wanted none)

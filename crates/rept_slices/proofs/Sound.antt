@@ -19,14 +19,14 @@ use Rattle.rept_path.specs.Code.{Code, look, is_short, flow_of}
 use Rattle.rept_path.specs.Gap.{row, Goal, Edge, by_successor, by_flow, crossing, gap, gap_to_start}
 use Rattle.rept_path.specs.Moves.{Stand, way_by, site, successor, ◌>>=◌}
 use Rattle.rept_path.proofs.MoveLemmas.{bind_ok}
-use Rattle.rept_steps.specs.Course.{no_thread, is_call_row, slice_of, TakeRows, BeginsFrom, first_slice, KeepTime, IsSound}
+use Rattle.rept_steps.specs.Course.{no_thread, is_call_row, slice_of, TakeRows, BeginsFrom, first_slice, KeepTime, IsSoundCourse}
 use Rattle.rept_slices.specs.Parts.{ToldSlice, thread_of, begin_of, first_time, beyond, lesser, never, end_before}
 use Rattle.rept_slices.specs.Order.{head_of}
 use Rattle.rept_slices.specs.Stamps.{clock_of, address_of}
 use Rattle.rept_slices.specs.Skipping.{kept}
 use Rattle.rept_slices.specs.Checks.{first_fault}
-use Rattle.rept_slices.specs.Stretches.{heads, Ran, ran_by, ran_in, ran, Walked, within, Walks, count_of}
-use Rattle.rept_slices.specs.Joins.{Note, Ground, ThreadGround, thread_ground, stand_at, bridge, Joined, with_rows, join, slice_by, slices, thread, of_thread, rows_in, ran_rows, threads}
+use Rattle.rept_slices.specs.Stretches.{heads, RanSlice, ran_by, ran_in, ran, StretchLegs, within, Walks, count_of}
+use Rattle.rept_slices.specs.Joins.{ThreadNote, JoinGround, ThreadGround, thread_ground, stand_at, bridge, JoinedSlice, with_rows, join, slice_by, slices, thread, of_thread, rows_in, ran_rows, threads}
 use Rattle.rept_slices.specs.Many.{Traces, processes, left, ground, overlap_fault, unmet, run_by, IsRunOfStreams}
 use Rattle.rept_slices.proofs.InTime.{Each, Ascend, FromTime, ascends, each_by_time, each_filter}
 use Rattle.rept_slices.proofs.Calm.{OnTime, NotBefore, ends_late, each_append, CanTell, CanBe, left_on_time, left_can}
@@ -105,7 +105,7 @@ module _ (code : Code) where
       let there = flow_bridged edge (successor s.packet (site code p.at) (flow_of b.0) way) (flow_of b.0) c.0 (λ a h. has_successor s.packet (site code p.at) a b.0 way h) c.1 in
       fits (nat_le (length p.rows + length c.0) s.room) s.packet c.0 rows there c.2
 
-bridge_bridged : (e : ThreadGround) (count : ℕ) (r : Ran) (next : Option Ran) (rows : List StepRow) → bridge e count r next ≡ Ok rows → Bridged rows
+bridge_bridged : (e : ThreadGround) (count : ℕ) (r : RanSlice) (next : Option RanSlice) (rows : List StepRow) → bridge e count r next ≡ Ok rows → Bridged rows
 bridge_bridged e count r None rows h =
     let s = stand_at e.packets r count in
     gap_bridged e.code s (record { address = e.pc; otherwise = End s.place.at e.pc }) rows h
@@ -121,13 +121,13 @@ bridge_bridged e count r (Some next) rows h = go (is_none next.told.inside) h wh
   go false h = let is : [] ≡ rows = cc in subst Bridged is tt
 
 -- The slices of a thread as they were joined: each is one that was walked, with rows that only end with a call.
-abbrev Same : List Ran → List Joined → Type 0
+abbrev Same : List RanSlice → List JoinedSlice → Type 0
 Same [] [] = Unit {0}
 Same [] (j ∷ js) = ⊥
 Same (r ∷ rs) [] = ⊥
 Same (r ∷ rs) (j ∷ js) = (j.told ≡ r.told) × LastCall j.rows × Same rs js
 
-join_same : (e : ThreadGround) (count : ℕ) (rs : List Ran) (js : List Joined) → Each (λ r. Each IsPlain r.rows) rs → join e count rs ≡ Ok js → Same rs js
+join_same : (e : ThreadGround) (count : ℕ) (rs : List RanSlice) (js : List JoinedSlice) → Each (λ r. Each IsPlain r.rows) rs → join e count rs ≡ Ok js → Same rs js
 join_same e count [] js p h = let is : [] ≡ js = cc in subst (Same []) is tt
 join_same e count (r ∷ rs) js p h =
     let b = bind_ok (bridge e count r (head_of rs)) (λ more. join e (count + length more) rs >>= (λ others. Ok (with_rows r more ∷ others))) js h in
@@ -140,7 +140,7 @@ join_same e count (r ∷ rs) js p h =
 abbrev pub InTime : ToldSlice → Type 0
 InTime t = OnTime t × (begin_of t ≤ never)
 
-same_ascend : (rs : List Ran) (js : List Joined) → Same rs js → Ascend (λ (r : Ran). begin_of r.told) rs → Ascend (λ (j : Joined). begin_of j.told) js
+same_ascend : (rs : List RanSlice) (js : List JoinedSlice) → Same rs js → Ascend (λ (r : RanSlice). begin_of r.told) rs → Ascend (λ (j : JoinedSlice). begin_of j.told) js
 same_ascend [] [] s a = tt
 same_ascend [] (j ∷ js) s a = elim s [ ]
 same_ascend (r ∷ rs) [] s a = elim s [ ]
@@ -153,22 +153,22 @@ same_ascend (r ∷ (q ∷ rs)) (j ∷ (k ∷ js)) s a =
     let le = a.0 in
     (omega (arith, one, two, le), same_ascend (q ∷ rs) (k ∷ js) s.2 a.1)
 
-same_in_time : (rs : List Ran) (js : List Joined) → Same rs js → Each (λ (r : Ran). InTime r.told) rs → Each (λ (j : Joined). InTime j.told) js
+same_in_time : (rs : List RanSlice) (js : List JoinedSlice) → Same rs js → Each (λ (r : RanSlice). InTime r.told) rs → Each (λ (j : JoinedSlice). InTime j.told) js
 same_in_time [] [] s a = tt
 same_in_time [] (j ∷ js) s a = elim s [ ]
 same_in_time (r ∷ rs) [] s a = elim s [ ]
 same_in_time (r ∷ rs) (j ∷ js) s a = (subst InTime (sym s.0) a.0, same_in_time rs js s.2 a.1)
 
-same_last : (rs : List Ran) (js : List Joined) → Same rs js → Each (λ (j : Joined). LastCall j.rows) js
+same_last : (rs : List RanSlice) (js : List JoinedSlice) → Same rs js → Each (λ (j : JoinedSlice). LastCall j.rows) js
 same_last [] [] s = tt
 same_last [] (j ∷ js) s = elim s [ ]
 same_last (r ∷ rs) [] s = elim s [ ]
 same_last (r ∷ rs) (j ∷ js) s = (s.1, same_last rs js s.2)
 
-take_rows : (first : ℕ) (js : List Joined) → TakeRows first (slices first js) (first + length (flat_map (λ (j : Joined). j.rows) js))
+take_rows : (first : ℕ) (js : List JoinedSlice) → TakeRows first (slices first js) (first + length (flat_map (λ (j : JoinedSlice). j.rows) js))
 take_rows first [] = omega arith
 take_rows first (j ∷ js) =
-    let n : first + length j.rows + length (flat_map (λ (j : Joined). j.rows) js) ≡ first + length (j.rows ++ flat_map (λ (j : Joined). j.rows) js) = omega (arith, length-append j.rows (flat_map (λ (j : Joined). j.rows) js)) in
+    let n : first + length j.rows + length (flat_map (λ (j : JoinedSlice). j.rows) js) ≡ first + length (j.rows ++ flat_map (λ (j : JoinedSlice). j.rows) js) = omega (arith, length-append j.rows (flat_map (λ (j : JoinedSlice). j.rows) js)) in
     (refl, subst (λ (to : ℕ). TakeRows (first + length j.rows) (slices (first + length j.rows) js) to) n (take_rows (first + length j.rows) js))
 
 within_lesser : (n time : ℕ) (other : Option ℕ) → n ≤ time → NotBefore n other → n ≤ lesser time other
@@ -181,19 +181,19 @@ within_lesser n time (Some m) a b = go (nat_le time m) where
 lesser_within : (time m : ℕ) → lesser time (Some m) ≤ m
 lesser_within time m = elim (leb_tells time m) [ inl t ↦ rw t.0 t.1 | inr t ↦ rw t.0 (omega arith) ]
 
-next_begins : (n : ℕ) (js : List Joined) → FromTime (λ (j : Joined). begin_of j.told) n (head_of js) → NotBefore n (option_map (λ (j : Joined). begin_of j.told) (head_of js))
+next_begins : (n : ℕ) (js : List JoinedSlice) → FromTime (λ (j : JoinedSlice). begin_of j.told) n (head_of js) → NotBefore n (option_map (λ (j : JoinedSlice). begin_of j.told) (head_of js))
 next_begins n [] h = tt
 next_begins n (j ∷ js) h = h
 
-keeps_time : (first : ℕ) (js : List Joined) → Ascend (λ (j : Joined). begin_of j.told) js → Each (λ (j : Joined). InTime j.told) js → KeepTime (slices first js)
+keeps_time : (first : ℕ) (js : List JoinedSlice) → Ascend (λ (j : JoinedSlice). begin_of j.told) js → Each (λ (j : JoinedSlice). InTime j.told) js → KeepTime (slices first js)
 keeps_time first [] a e = tt
 keeps_time first (j ∷ js) a e =
     let n = begin_of j.told in
     let own : n ≤ lesser never (first_time (beyond j.told)) = within_lesser n never (first_time (beyond j.told)) e.0.1 (ends_late j.told e.0.0) in
-    let end : n ≤ end_before j.told (option_map (λ (k : Joined). begin_of k.told) (head_of js)) = within_lesser n (lesser never (first_time (beyond j.told))) (option_map (λ (k : Joined). begin_of k.told) (head_of js)) own (next_begins n js a.0) in
+    let end : n ≤ end_before j.told (option_map (λ (k : JoinedSlice). begin_of k.told) (head_of js)) = within_lesser n (lesser never (first_time (beyond j.told))) (option_map (λ (k : JoinedSlice). begin_of k.told) (head_of js)) own (next_begins n js a.0) in
     (end, before js, keeps_time (first + length j.rows) js a.1 e.1)
   where
-    before : (js : List Joined) → BeginsFrom (end_before j.told (option_map (λ (k : Joined). begin_of k.told) (head_of js))) (first_slice (slices (first + length j.rows) js))
+    before : (js : List JoinedSlice) → BeginsFrom (end_before j.told (option_map (λ (k : JoinedSlice). begin_of k.told) (head_of js))) (first_slice (slices (first + length j.rows) js))
     before [] = tt
     before (k ∷ ks) = lesser_within (lesser never (first_time (beyond j.told))) (begin_of k.told)
 
@@ -207,19 +207,19 @@ get_past [] ys i k is = ap (slice_get ys) (is ∙ omega arith)
 get_past (x ∷ xs) ys zero k is = absurd (omega (arith, is))
 get_past (x ∷ xs) ys (suc i) k is = get_past xs ys i k (omega (arith, is))
 
-call_ends : (first : ℕ) (js : List Joined) (i : ℕ) (s : Slice) → Each (λ (j : Joined). LastCall j.rows) js → is_call_row (slice_get (flat_map (λ (j : Joined). j.rows) js) i) ≡ true → slice_of (slices first js) (first + i) ≡ Some s → s.first + s.count ≡ suc (first + i)
+call_ends : (first : ℕ) (js : List JoinedSlice) (i : ℕ) (s : Slice) → Each (λ (j : JoinedSlice). LastCall j.rows) js → is_call_row (slice_get (flat_map (λ (j : JoinedSlice). j.rows) js) i) ≡ true → slice_of (slices first js) (first + i) ≡ Some s → s.first + s.count ≡ suc (first + i)
 call_ends first [] i s e call there = absurd (cc)
 call_ends first (j ∷ js) i s e call there = elim (leb_tells (suc (first + i)) (first + length j.rows)) [
   | inl t ↦
       let lt = t.1 in
       let here : slice_by j (head_of js) first ≡ s = (let k = rw t.0 at there in cc) in
-      let get = get_front j.rows (flat_map (λ (k : Joined). k.rows) js) i (omega (arith, lt)) in
+      let get = get_front j.rows (flat_map (λ (k : JoinedSlice). k.rows) js) i (omega (arith, lt)) in
       let n = call_is_last j.rows i e.0 (rw (← get) call) in
       subst (λ (x : Slice). x.first + x.count ≡ suc (first + i)) here (omega (arith, n))
   | inr t ↦
       let ge = t.1 in
       let is : i ≡ length j.rows + (i - length j.rows) = omega (arith, ge) in
-      let get = get_past j.rows (flat_map (λ (k : Joined). k.rows) js) i (i - length j.rows) is in
+      let get = get_past j.rows (flat_map (λ (k : JoinedSlice). k.rows) js) i (i - length j.rows) is in
       let at : first + i ≡ first + length j.rows + (i - length j.rows) = omega (arith, ge) in
       let on : slice_of (slices (first + length j.rows) js) (first + length j.rows + (i - length j.rows)) ≡ Some s = subst (λ (n : ℕ). slice_of (slices (first + length j.rows) js) n ≡ Some s) at (rw t.0 at there) in
       let r = call_ends (first + length j.rows) js (i - length j.rows) s e.1 (rw (← get) call) on in
@@ -232,7 +232,7 @@ record Good (t : ThreadRows) : Type 0 where
   in_time : KeepTime t.slices
   calls : (i : ℕ) (s : Slice) → is_call_row (slice_get t.steps i) ≡ true → slice_of t.slices i ≡ Some s → s.first + s.count ≡ suc i
 
-good_thread : (rs : List Ran) (js : List Joined) → Same rs js → Ascend (λ (r : Ran). begin_of r.told) rs → Each (λ (r : Ran). InTime r.told) rs → Good (thread js)
+good_thread : (rs : List RanSlice) (js : List JoinedSlice) → Same rs js → Ascend (λ (r : RanSlice). begin_of r.told) rs → Each (λ (r : RanSlice). InTime r.told) rs → Good (thread js)
 good_thread rs js s a e = record {
   taken = subst (λ (n : ℕ). TakeRows 0 (slices 0 js) n) (omega arith) (take_rows 0 js);
   in_time = keeps_time 0 js (same_ascend rs js s a) (same_in_time rs js s e);
@@ -250,37 +250,37 @@ good_at [] g t = good_none
 good_at (x ∷ ts) g zero = g.0
 good_at (x ∷ ts) g (suc t) = good_at ts g.1 t
 
-module _ (g : Ground) (rs : List Ran) (plain : Each (λ (r : Ran). Each IsPlain r.rows) rs) (on_time : Each (λ (r : Ran). InTime r.told) rs) where
-  good_threads : (count : ℕ) (notes : List Note) (all : List ThreadRows) → threads g count notes rs ≡ Ok all → Each Good all
+module _ (g : JoinGround) (rs : List RanSlice) (plain : Each (λ (r : RanSlice). Each IsPlain r.rows) rs) (on_time : Each (λ (r : RanSlice). InTime r.told) rs) where
+  good_threads : (count : ℕ) (notes : List ThreadNote) (all : List ThreadRows) → threads g count notes rs ≡ Ok all → Each Good all
   good_threads count [] all h = let is : [] ≡ all = cc in subst (Each Good) is tt
   good_threads count (note ∷ notes) all h =
       let own = of_thread note.process rs in
       let e = thread_ground g.code g.packets note in
-      let onward : List Joined → Result (List ThreadRows) PathFault = λ js. threads g (count + (rows_in js - ran_rows own)) notes rs >>= (λ others. Ok (thread js ∷ others)) in
+      let onward : List JoinedSlice → Result (List ThreadRows) PathFault = λ js. threads g (count + (rows_in js - ran_rows own)) notes rs >>= (λ others. Ok (thread js ∷ others)) in
       let b = bind_ok (join e count own) onward all h in
       let c = bind_ok (threads g (count + (rows_in b.0 - ran_rows own)) notes rs) (λ others. Ok (thread b.0 ∷ others)) all b.2 in
       let is : thread b.0 ∷ c.0 ≡ all = (let k = c.2 in cc) in
-      let test : Ran → Bool = λ r. thread_of r.told == note.process in
-      let time : Ran → ℕ = λ r. begin_of r.told in
-      let plain_own = each_by_time time (λ (r : Ran). Each IsPlain r.rows) (filter test rs) (each_filter (λ (r : Ran). Each IsPlain r.rows) test rs plain) in
-      let timed_own = each_by_time time (λ (r : Ran). InTime r.told) (filter test rs) (each_filter (λ (r : Ran). InTime r.told) test rs on_time) in
+      let test : RanSlice → Bool = λ r. thread_of r.told == note.process in
+      let time : RanSlice → ℕ = λ r. begin_of r.told in
+      let plain_own = each_by_time time (λ (r : RanSlice). Each IsPlain r.rows) (filter test rs) (each_filter (λ (r : RanSlice). Each IsPlain r.rows) test rs plain) in
+      let timed_own = each_by_time time (λ (r : RanSlice). InTime r.told) (filter test rs) (each_filter (λ (r : RanSlice). InTime r.told) test rs on_time) in
       let same = join_same e count own b.0 plain_own b.1 in
       subst (Each Good) is (good_thread own b.0 same (ascends time (filter test rs)) timed_own, good_threads (count + (rows_in b.0 - ran_rows own)) notes c.0 c.1)
 
 -- the slices of stretches that were walked
 module _ (code : Code) (ts : List ToldSlice) where
-  ran_in_time : Each InTime ts → (ws : List Walked) → Each (λ (r : Ran). InTime r.told) (ran code ts ws)
+  ran_in_time : Each InTime ts → (ws : List StretchLegs) → Each (λ (r : RanSlice). InTime r.told) (ran code ts ws)
   ran_in_time h [] = tt
-  ran_in_time h (w ∷ ws) = each_append (λ (r : Ran). InTime r.told) (ran_in code ts w) (ran code ts ws) (go (filter (within w) ts) (each_filter InTime (within w) ts h)) (ran_in_time h ws) where
-    go : (us : List ToldSlice) → Each InTime us → Each (λ (r : Ran). InTime r.told) (map (ran_by code w) us)
+  ran_in_time h (w ∷ ws) = each_append (λ (r : RanSlice). InTime r.told) (ran_in code ts w) (ran code ts ws) (go (filter (within w) ts) (each_filter InTime (within w) ts h)) (ran_in_time h ws) where
+    go : (us : List ToldSlice) → Each InTime us → Each (λ (r : RanSlice). InTime r.told) (map (ran_by code w) us)
     go [] h = tt
     go (u ∷ us) h = (h.0, go us h.1)
 
-  ran_plain : (count : ℕ) (heads : List ToldSlice) (ws : List Walked) → Each Started heads → Walks code count heads ws → Each (λ (r : Ran). Each IsPlain r.rows) (ran code ts ws)
-  ran_plain count [] ws s x = subst (λ (vs : List Walked). Each (λ (r : Ran). Each IsPlain r.rows) (ran code ts vs)) (sym x) tt
+  ran_plain : (count : ℕ) (heads : List ToldSlice) (ws : List StretchLegs) → Each Started heads → Walks code count heads ws → Each (λ (r : RanSlice). Each IsPlain r.rows) (ran code ts ws)
+  ran_plain count [] ws s x = subst (λ (vs : List StretchLegs). Each (λ (r : RanSlice). Each IsPlain r.rows) (ran code ts vs)) (sym x) tt
   ran_plain count (t ∷ heads) [] s x = elim x [ ]
-  ran_plain count (t ∷ heads) (w ∷ ws) s x = each_append (λ (r : Ran). Each IsPlain r.rows) (ran_in code ts w) (ran code ts ws) (go (filter (within w) ts)) (ran_plain (count + count_of code w) heads ws s.1 x.2) where
-    go : (us : List ToldSlice) → Each (λ (r : Ran). Each IsPlain r.rows) (map (ran_by code w) us)
+  ran_plain count (t ∷ heads) (w ∷ ws) s x = each_append (λ (r : RanSlice). Each IsPlain r.rows) (ran_in code ts w) (ran code ts ws) (go (filter (within w) ts)) (ran_plain (count + count_of code w) heads ws s.1 x.2) where
+    go : (us : List ToldSlice) → Each (λ (r : RanSlice). Each IsPlain r.rows) (map (ran_by code w) us)
     go [] = tt
     go (u ∷ us) = (rows_plain code count w u (subst Started (sym x.0) s.0) x.1, go us)
 
@@ -297,7 +297,7 @@ in_time [] a b = tt
 in_time (t ∷ ts) a b = ((a.0, b.0), in_time ts a.1 b.1)
 
 -- The run of streams, each time of which has 64 bits, is sound.
-pub is_sound : (t : Traces) (run : Run) → All (All (λ p. clock_of p < 2 ^ 64)) t.streams → IsRunOfStreams t run → IsSound (record { threads = run.threads; dark = run.dark })
+pub is_sound : (t : Traces) (run : Run) → All (All (λ p. clock_of p < 2 ^ 64)) t.streams → IsRunOfStreams t run → IsSoundCourse (record { threads = run.threads; dark = run.dark })
 is_sound t run fits x =
     let ts = left t in
     let rs = ran t.code ts x.walked in
@@ -308,7 +308,7 @@ is_sound t run fits x =
     let timed = in_time ts (left_on_time t.from (processes t) t.streams x.passed) (left_can t.from t.streams (all_can_be t.streams fits)) in
     let started = each_filter Started (λ u. is_none u.inside) ts (starts_told (kept t.from t.streams)) in
     let good = good_threads (ground t) rs (ran_plain t.code ts 0 (heads ts) x.walked started x.walks) (ran_in_time t.code ts timed x.walked) (ran_rows rs) t.notes c.0 c.1 in
-    subst (λ (r : Run). IsSound (record { threads = r.threads; dark = r.dark })) is (record {
+    subst (λ (r : Run). IsSoundCourse (record { threads = r.threads; dark = r.dark })) is (record {
       taken = λ n. let g = good_at c.0 good n in g.taken;
       in_time = λ n. let g = good_at c.0 good n in g.in_time;
       calls = inr (λ r s call there. let g = good_at c.0 good r.thread in g.calls r.step s call there);

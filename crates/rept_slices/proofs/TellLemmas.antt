@@ -4,7 +4,7 @@ use Rattle.std.proofs.lemmas.List.{append-nil}
 use Rattle.rept_trace.specs.declared.packet.Packet.{Packet}
 use Rattle.rept_trace.specs.declared.packets.Packets.{Packets}
 use Rattle.rept_trace.specs.Packets.{rest_of}
-use Rattle.rept_trace.specs.Stream.{Hold, Answers}
+use Rattle.rept_trace.specs.Stream.{Hold, AnswersNext}
 use Rattle.rept_trace.proofs.Going.{one_list}
 use Rattle.rept_path.proofs.Packeting.{taken, none_left}
 use Rattle.rept_slices.specs.Stamps.{is_start, running_after}
@@ -81,7 +81,7 @@ tells_first s number start all list old now h few e =
     }
 
 module _ (s : ℕ) (wanted : List Packet → List ToldSlice) (all : Bytes) (old : List Entry) (k : ℕ) (inside : Option ℕ) (rest : Bytes) (now : List Entry) (t : Telling s wanted all old k inside rest now) where
-  module _ (key n : ℕ) (after : Packets) (p : Packet) (a : Answers key rest (Ok (Some p)) n (rest_of after)) where
+  module _ (key n : ℕ) (after : Packets) (p : Packet) (a : AnswersNext key rest (Ok (Some p)) n (rest_of after)) where
     left : (later : List Packet) × (t.more ≡ p ∷ later) × Hold (rest_of after) later
     left = taken key n rest (rest_of after) p t.more t.hold a
 
@@ -107,7 +107,7 @@ module _ (s : ℕ) (wanted : List Packet → List ToldSlice) (all : Bytes) (old 
         let few = t.few in
         omega (arith, fewer, few)
 
-  pub tells_end : (key n : ℕ) (after : Bytes) → Answers key rest (Ok None) n after → (list : List Packet) → Hold all list → (more : List Entry) × (now ≡ old ++ more) × AreEntriesOf more (wanted list)
+  pub tells_end : (key n : ℕ) (after : Bytes) → AnswersNext key rest (Ok None) n after → (list : List Packet) → Hold all list → (more : List Entry) × (now ≡ old ++ more) × AreEntriesOf more (wanted list)
   tells_end key n after a list h =
       let none = none_left key n rest after t.more t.hold a in
       let e : wanted list ≡ t.told = t.same list h ∙ ap (λ (xs : List Packet). t.told ++ told_from s k inside xs) none ∙ append-nil t.told in

@@ -10,10 +10,10 @@ use Rattle.rept_trace.specs.Stream.{Stream, Hold}
 use Rattle.rept_path.specs.declared.fault.PathFault.TheVariants.{NoStart}
 use Rattle.rept_path.specs.declared.window.Begin.{Begin}
 use Rattle.rept_path.specs.Survey.{IsThere, number_in}
-use Rattle.rept_slices.specs.Parts.{Left, ToldSlice, told_from, told_in}
+use Rattle.rept_slices.specs.Parts.{LeftPackets, ToldSlice, told_from, told_in}
 use Rattle.rept_slices.specs.Skipping.{whole, numbered, window_of, windows, kept, skipped}
 use Rattle.rept_slices.specs.Checks.{first_fault, startless}
-use Rattle.rept_slices.specs.Windows.{IsWindow, AreWindows, AreAll, window_left, skipped_by, skipped_of}
+use Rattle.rept_slices.specs.Windows.{IsStreamWindow, AreWindows, AreAll, window_left, skipped_by, skipped_of}
 use Rattle.rept_slices.specs.Lefts.{BeginsWith, IsLeftBy, IsLeft, AreLeft}
 use Rattle.rept_slices.specs.Entries.{AreEntriesOf}
 use Rattle.rept_slices.specs.declared.reading.Window.{Window}
@@ -22,7 +22,7 @@ use Rattle.rept_slices.proofs.Calm.{none_first}
 use Rattle.rept_slices.proofs.Checking.{left, split, unique, no_window}
 use Rattle.rept_slices.proofs.TellLemmas.{AreEntriesOf-append}
 
-module _ (w : Window) (l : Left) (is : IsLeft w l) where
+module _ (w : Window) (l : LeftPackets) (is : IsLeft w l) where
   pub nothing_told : w.begin ≡ None → told_in l ≡ []
   nothing_told none =
       let e : l.packets ≡ [] = subst (λ (o : Option Begin). IsLeftBy l w.number o) none is.begin in
@@ -46,37 +46,37 @@ module _ (w : Window) (l : Left) (is : IsLeft w l) where
         ∙ ap (λ (n : ℕ). told_from w.stream n None (b.first ∷ there.later)) there.number
 
 -- what is left of the streams from a number on
-pub split_left : (w : Window) (ws : List Window) (ls : List Left) → AreLeft (w ∷ ws) ls → (l : Left) × (later : List Left) × (ls ≡ l ∷ later) × IsLeft w l × AreLeft ws later
+pub split_left : (w : Window) (ws : List Window) (ls : List LeftPackets) → AreLeft (w ∷ ws) ls → (l : LeftPackets) × (later : List LeftPackets) × (ls ≡ l ∷ later) × IsLeft w l × AreLeft ws later
 split_left w ws [] a = absurd a
 split_left w ws (l ∷ later) a = (l, later, refl, a.0, a.1)
 
 -- The slices that were added, of which each stream has a part, and the streams that are left.
-pub record Tells (part : Left → List ToldSlice) (lefts : List Left) (ws : List Window) (now : List Entry) : Type 0 where
-  pub later : List Left
+pub record Tells (part : LeftPackets → List ToldSlice) (lefts : List LeftPackets) (ws : List Window) (now : List Entry) : Type 0 where
+  pub later : List LeftPackets
   pub left : AreLeft ws later
   pub done : List ToldSlice
   pub are : AreEntriesOf now done
   pub same : flat_map part lefts ≡ done ++ flat_map part later
 
-pub record Next (part : Left → List ToldSlice) (lefts : List Left) (w : Window) (ws : List Window) (now : List Entry) : Type 0 where
-  pub l : Left
-  pub later : List Left
+pub record Next (part : LeftPackets → List ToldSlice) (lefts : List LeftPackets) (w : Window) (ws : List Window) (now : List Entry) : Type 0 where
+  pub l : LeftPackets
+  pub later : List LeftPackets
   pub first : IsLeft w l
   pub left : AreLeft ws later
   pub done : List ToldSlice
   pub are : AreEntriesOf now done
   pub same : flat_map part lefts ≡ done ++ (part l ++ flat_map part later)
 
-module _ (part : Left → List ToldSlice) where
-  pub none_told : (lefts : List Left) (ws : List Window) → AreLeft ws lefts → Tells part lefts ws []
+module _ (part : LeftPackets → List ToldSlice) where
+  pub none_told : (lefts : List LeftPackets) (ws : List Window) → AreLeft ws lefts → Tells part lefts ws []
   none_told lefts ws a = record { later = lefts; left = a; done = []; are = refl; same = refl }
 
-  next : (lefts : List Left) (w : Window) (ws : List Window) (now : List Entry) → Tells part lefts (w ∷ ws) now → Next part lefts w ws now
+  next : (lefts : List LeftPackets) (w : Window) (ws : List Window) (now : List Entry) → Tells part lefts (w ∷ ws) now → Next part lefts w ws now
   next lefts w ws now t =
       let s = split_left w ws t.later t.left in
-      record { l = s.0; later = s.1; first = s.3; left = s.4; done = t.done; are = t.are; same = t.same ∙ ap (λ (ls : List Left). t.done ++ flat_map part ls) s.2 }
+      record { l = s.0; later = s.1; first = s.3; left = s.4; done = t.done; are = t.are; same = t.same ∙ ap (λ (ls : List LeftPackets). t.done ++ flat_map part ls) s.2 }
 
-  pub one_told : (lefts : List Left) (w : Window) (ws : List Window) (now new more : List Entry) (n : Next part lefts w ws now) → new ≡ now ++ more → AreEntriesOf more (part n.l) → Tells part lefts ws new
+  pub one_told : (lefts : List LeftPackets) (w : Window) (ws : List Window) (now new more : List Entry) (n : Next part lefts w ws now) → new ≡ now ++ more → AreEntriesOf more (part n.l) → Tells part lefts ws new
   one_told lefts w ws now new more n items are = record {
     later = n.later;
     left = n.left;
@@ -85,18 +85,18 @@ module _ (part : Left → List ToldSlice) where
     same = n.same ∙ sym (append_assoc n.done (part n.l) (flat_map part n.later));
   }
 
-  pub tells_at : (lefts : List Left) (ws : List Window) (i : ℕ) (w : Window) (now : List Entry) → i < length ws → w ≡ get_or ws i w → Tells part lefts (drop i ws) now → Next part lefts w (drop (i + 1) ws) now
+  pub tells_at : (lefts : List LeftPackets) (ws : List Window) (i : ℕ) (w : Window) (now : List Entry) → i < length ws → w ≡ get_or ws i w → Tells part lefts (drop i ws) now → Next part lefts w (drop (i + 1) ws) now
   tells_at lefts ws i w now within at t = next lefts w (drop (i + 1) ws) now (subst (λ (vs : List Window). Tells part lefts vs now) (split ws i w within at) t)
 
-  pub all_told : (lefts : List Left) (ws : List Window) (i : ℕ) (now : List Entry) → length ws ≤ i → Tells part lefts (drop i ws) now → AreEntriesOf now (flat_map part lefts)
+  pub all_told : (lefts : List LeftPackets) (ws : List Window) (i : ℕ) (now : List Entry) → length ws ≤ i → Tells part lefts (drop i ws) now → AreEntriesOf now (flat_map part lefts)
   all_told lefts ws i now past t =
       let none : t.later ≡ [] = subst (λ (vs : List Window). AreLeft vs t.later) (at_drop_all (λ (vs : List Window). vs) ws i past) t.left in
-      let e : flat_map part lefts ≡ t.done = t.same ∙ ap (λ (ls : List Left). t.done ++ flat_map part ls) none ∙ append-nil t.done in
+      let e : flat_map part lefts ≡ t.done = t.same ∙ ap (λ (ls : List LeftPackets). t.done ++ flat_map part ls) none ∙ append-nil t.done in
       subst (λ (ts : List ToldSlice). AreEntriesOf now ts) (sym e) t.are
 
 -- what is left of streams that have windows
 module _ (s k from : ℕ) (stream : Stream) (w : Window) where
-  no_more : (packets : List Packet) → IsWindow s k from stream packets w → startless from (left s k packets) ≡ None → w.begin ≡ None → drop (unwrap_or (window_of from packets) 0) packets ≡ []
+  no_more : (packets : List Packet) → IsStreamWindow s k from stream packets w → startless from (left s k packets) ≡ None → w.begin ≡ None → drop (unwrap_or (window_of from packets) 0) packets ≡ []
   no_more [] is calm none = refl
   no_more (p ∷ later) is calm none =
       let counted = is.surveys.count in
@@ -104,7 +104,7 @@ module _ (s k from : ℕ) (stream : Stream) (w : Window) where
       let f : Some (NoStart w.count) ≡ startless from (left s k (p ∷ later)) = no_window s k from stream w (p ∷ later) is some none in
       absurd ((cc))
 
-  left_by : (packets : List Packet) (is : IsWindow s k from stream packets w) → startless from (left s k packets) ≡ None → (o : Option Begin) → w.begin ≡ o → IsLeftBy (window_left from (left s k packets)) w.number o
+  left_by : (packets : List Packet) (is : IsStreamWindow s k from stream packets w) → startless from (left s k packets) ≡ None → (o : Option Begin) → w.begin ≡ o → IsLeftBy (window_left from (left s k packets)) w.number o
   left_by packets is calm None e = no_more packets is calm e
   left_by packets is calm (Some b) e =
       let t : (later : List Packet) × Hold (rest_of b.later) later × (drop b.number packets ≡ b.first ∷ later) = subst (λ (o : Option Begin). IsThere packets o) e is.surveys.there in
@@ -116,7 +116,7 @@ module _ (s k from : ℕ) (stream : Stream) (w : Window) where
         number = ap (λ (o : Option ℕ). k + unwrap_or o 0) u ∙ ap (λ (n : ℕ). n + b.number) (sym is.number);
       }
 
-  pub window_is_left : (packets : List Packet) → IsWindow s k from stream packets w → startless from (left s k packets) ≡ None → k + length packets < 2 ^ 32 → IsLeft w (window_left from (left s k packets))
+  pub window_is_left : (packets : List Packet) → IsStreamWindow s k from stream packets w → startless from (left s k packets) ≡ None → k + length packets < 2 ^ 32 → IsLeft w (window_left from (left s k packets))
   window_is_left packets is calm few =
       let o = unwrap_or (window_of from packets) 0 in
       let d = length-drop (unwrap_or (window_of from packets) 0) packets in
@@ -127,7 +127,7 @@ module _ (s k from : ℕ) (stream : Stream) (w : Window) where
         few = within (window_of from packets) (λ i e. in_window packets is calm i e);
       }
     where
-      in_window : (packets : List Packet) → IsWindow s k from stream packets w → startless from (left s k packets) ≡ None → (i : ℕ) → window_of from packets ≡ Some i → i ≤ length packets
+      in_window : (packets : List Packet) → IsStreamWindow s k from stream packets w → startless from (left s k packets) ≡ None → (i : ℕ) → window_of from packets ≡ Some i → i ≤ length packets
       in_window packets is calm i e = go w.begin refl where
         go : (o : Option Begin) → w.begin ≡ o → i ≤ length packets
         go None h = let n : Some i ≡ None = sym e ∙ unique s k from stream w packets is ∙ ap number_in h in absurd ((cc))
@@ -178,7 +178,7 @@ all_counted s k from (stream ∷ streams) (packets ∷ lists) (w ∷ ws) a =
     let others = all_counted (suc s) (k + length packets) from streams lists ws a.1 in
     omega (arith, first, others, sum_by-cons (λ (v : Window). v.count) w ws, sum_by-cons (λ (ps : List Packet). length ps) packets lists)
 
-skipped_in : (w : Window) (l : Left) → IsLeft w l → (o : Option Begin) → w.begin ≡ o → skipped_by w.count o + length l.packets ≡ w.count
+skipped_in : (w : Window) (l : LeftPackets) → IsLeft w l → (o : Option Begin) → w.begin ≡ o → skipped_by w.count o + length l.packets ≡ w.count
 skipped_in w l is None e =
     let none = ap (length {A = Packet}) (subst (λ (b : Option Begin). IsLeftBy l w.number b) e is.begin) in
     omega (arith, none)
@@ -188,13 +188,13 @@ skipped_in w l is (Some b) e =
     let ends = is.ends in
     omega (arith, number, ends)
 
-pub all_skipped : (ws : List Window) (ls : List Left) → AreLeft ws ls → sum_by skipped_of ws + sum_by (λ (l : Left). length l.packets) ls ≡ sum_by (λ (w : Window). w.count) ws
-all_skipped [] ls a = let e = ap (sum_by (λ (l : Left). length l.packets)) a in omega (arith, e)
+pub all_skipped : (ws : List Window) (ls : List LeftPackets) → AreLeft ws ls → sum_by skipped_of ws + sum_by (λ (l : LeftPackets). length l.packets) ls ≡ sum_by (λ (w : Window). w.count) ws
+all_skipped [] ls a = let e = ap (sum_by (λ (l : LeftPackets). length l.packets)) a in omega (arith, e)
 all_skipped (w ∷ ws) [] a = absurd a
 all_skipped (w ∷ ws) (l ∷ ls) a =
     let first : skipped_of w + length l.packets ≡ w.count = skipped_in w l a.0 w.begin refl in
     let others = all_skipped ws ls a.1 in
-    omega (arith, first, others, sum_by-cons skipped_of w ws, sum_by-cons (λ (k : Left). length k.packets) l ls, sum_by-cons (λ (v : Window). v.count) w ws)
+    omega (arith, first, others, sum_by-cons skipped_of w ws, sum_by-cons (λ (k : LeftPackets). length k.packets) l ls, sum_by-cons (λ (v : Window). v.count) w ws)
 
-pub skipped_is : (from : ℕ) (lists : List (List Packet)) (n all : ℕ) → n + sum_by (λ (l : Left). length l.packets) (kept from lists) ≡ all → all ≡ sum_by (λ packets. length packets) lists → n ≡ skipped from lists
+pub skipped_is : (from : ℕ) (lists : List (List Packet)) (n all : ℕ) → n + sum_by (λ (l : LeftPackets). length l.packets) (kept from lists) ≡ all → all ≡ sum_by (λ packets. length packets) lists → n ≡ skipped from lists
 skipped_is from lists n all is counted = omega (arith, is, counted)

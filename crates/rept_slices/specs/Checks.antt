@@ -5,7 +5,7 @@ use Rattle.rept_trace.specs.declared.packet.Packet.{Packet}
 use Rattle.rept_path.specs.declared.fault.PathFault.{PathFault}
 use Rattle.rept_path.specs.declared.fault.PathFault.TheVariants.{NoStart, TimeBack, UnknownThread, OtherThread}
 use Rattle.rept_slices.specs.Stamps.{stamp_of, is_before}
-use Rattle.rept_slices.specs.Parts.{Left, ToldSlice, slices_told, thread_of}
+use Rattle.rept_slices.specs.Parts.{LeftPackets, ToldSlice, slices_told, thread_of}
 use Rattle.rept_slices.specs.Order.{head_of}
 use Rattle.rept_slices.specs.Skipping.{whole, window_of, kept}
 
@@ -19,11 +19,11 @@ abbrev pub back_from : ℕ → List Packet → List Packet → Option PathFault
 back_from k earlier [] = None
 back_from k earlier (p ∷ later) = if list_any (λ q. is_before (stamp_of p) (stamp_of q)) earlier then Some (TimeBack k) else back_from (suc k) (p ∷ earlier) later
 
-abbrev pub time_back : Left → Option PathFault
+abbrev pub time_back : LeftPackets → Option PathFault
 time_back left = back_from left.number [] left.packets
 
 -- A stream with packets has no window.
-abbrev pub startless : ℕ → Left → Option PathFault
+abbrev pub startless : ℕ → LeftPackets → Option PathFault
 startless from left = by_window left.packets (window_of from left.packets) where
   by_window : List Packet → Option ℕ → Option PathFault
   by_window [] window = None

@@ -6,29 +6,29 @@ use Rattle.rept_trace.specs.Packets.{rest_of}
 use Rattle.rept_trace.specs.Stream.{Hold}
 use Rattle.rept_path.specs.declared.window.Begin.{Begin}
 use Rattle.rept_slices.specs.Stamps.{clock_of, is_start}
-use Rattle.rept_slices.specs.Parts.{Left}
+use Rattle.rept_slices.specs.Parts.{LeftPackets}
 use Rattle.rept_slices.specs.declared.reading.Window.{Window}
 
 -- the first packet that is left, of a stream the first packet of which has this number, and those after it
-pub record BeginsWith (l : Left) (first : ℕ) (b : Begin) : Type 0 where
+pub record BeginsWith (l : LeftPackets) (first : ℕ) (b : Begin) : Type 0 where
   pub later : List Packet
   pub hold : Hold (rest_of b.later) later
   pub packets : l.packets ≡ b.first ∷ later
   pub number : l.number ≡ first + b.number
 
-abbrev pub IsLeftBy : Left → ℕ → Option Begin → Type 0
+abbrev pub IsLeftBy : LeftPackets → ℕ → Option Begin → Type 0
 IsLeftBy l first None = l.packets ≡ []
 IsLeftBy l first (Some b) = BeginsWith l first b
 
 -- that of one stream
-pub record IsLeft (w : Window) (l : Left) : Type 0 where
+pub record IsLeft (w : Window) (l : LeftPackets) : Type 0 where
   pub stream : w.stream ≡ l.stream
   pub begin : IsLeftBy l w.number w.begin
   pub ends : l.number + length l.packets ≡ w.number + w.count
   pub few : l.number + length l.packets < 2 ^ 32
 
 -- that of all streams
-abbrev pub AreLeft : List Window → List Left → Type 0
+abbrev pub AreLeft : List Window → List LeftPackets → Type 0
 AreLeft [] ls = ls ≡ []
 AreLeft (w ∷ ws) [] = ⊥
 AreLeft (w ∷ ws) (l ∷ ls) = IsLeft w l × AreLeft ws ls

@@ -12,24 +12,24 @@ use Rattle.rept_slices.specs.Parts.{ToldSlice, slices_told}
 use Rattle.rept_slices.specs.Skipping.{kept, skipped, dark}
 use Rattle.rept_slices.specs.Order.{overlap}
 use Rattle.rept_slices.specs.Checks.{first_fault, check}
-use Rattle.rept_slices.specs.Stretches.{heads, Walked, Walks, WalksFault, ran}
-use Rattle.rept_slices.specs.Joins.{Note, Ground, ran_rows, threads}
+use Rattle.rept_slices.specs.Stretches.{heads, StretchLegs, Walks, WalksFault, ran}
+use Rattle.rept_slices.specs.Joins.{ThreadNote, JoinGround, ran_rows, threads}
 
 -- a program, the packets of each stream, the notes of the threads, and the number from which on a window may begin
 pub record Traces : Type 0 where
   pub code : Code
   pub streams : List (List Packet)
-  pub notes : List Note
+  pub notes : List ThreadNote
   pub from : ℕ
 
 abbrev pub processes : Traces → List ℕ
-processes t = map (λ (n : Note). n.process) t.notes
+processes t = map (λ (n : ThreadNote). n.process) t.notes
 
 -- the slices that are left
 abbrev pub left : Traces → List ToldSlice
 left t = slices_told (kept t.from t.streams)
 
-abbrev pub ground : Traces → Ground
+abbrev pub ground : Traces → JoinGround
 ground t = record { code = t.code; packets = sum_by (λ packets. length packets) t.streams }
 
 -- Two streams tell of one thread at a time.
@@ -44,7 +44,7 @@ abbrev pub run_by : Traces → List ThreadRows → Run
 run_by t all = record { threads = all; dark = dark t.from t.streams; skipped = skipped t.from t.streams }
 
 -- The run of stretches that were walked: no two streams tell of one thread at a time, and each thread's slices are joined.
-abbrev pub joined : Traces → List Walked → Result Run PathFault
+abbrev pub joined : Traces → List StretchLegs → Result Run PathFault
 joined t ws =
     let rs = ran t.code (left t) ws in do
       none ← unmet (first_fault (overlap_fault (left t)) (processes t))
@@ -54,13 +54,14 @@ joined t ws =
 -- The packets pass the checks, the stretches are walked, and this is the run of them.
 pub record IsRunOfStreams (t : Traces) (run : Run) : Type 0 where
   pub passed : check t.from (processes t) t.streams ≡ None
-  pub walked : List Walked
+  pub walked : List StretchLegs
   pub walks : Walks t.code 0 (heads (left t)) walked
   pub result : joined t walked ≡ Ok run
 
--- The first of these that fails is why there is none: the checks, in order; the walks, stream by stream; and then the joins.
-abbrev pub IsRefused : Traces → PathFault → Type 0
-IsRefused t e =
+-- The first of these that fails is why there is none: the checks, in their order; the walks, stream by stream; then, thread by thread in
+-- the order of the notes, whether two streams tell of it at a time (`overlap_fault`, the first part of `joined`); and then the joins.
+abbrev pub HasNoRunOfStreams : Traces → PathFault → Type 0
+HasNoRunOfStreams t e =
     (check t.from (processes t) t.streams ≡ Some e)
     ⊎ ((check t.from (processes t) t.streams ≡ None)
-    × (WalksFault t.code 0 (heads (left t)) e ⊎ ((walked : List Walked) × Walks t.code 0 (heads (left t)) walked × (joined t walked ≡ Err e))))
+    × (WalksFault t.code 0 (heads (left t)) e ⊎ ((walked : List StretchLegs) × Walks t.code 0 (heads (left t)) walked × (joined t walked ≡ Err e))))

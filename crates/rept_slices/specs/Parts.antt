@@ -7,7 +7,7 @@ use Rattle.rept_trace.specs.declared.packet.Packet.{Packet}
 use Rattle.rept_slices.specs.Stamps.{stamp_of, clock_of, context_of, is_start, closes, running_after}
 
 -- packets of a stream, and the number of the first one among all packets of all streams
-pub record Left : Type 0 where
+pub record LeftPackets : Type 0 where
   pub stream : ℕ
   pub number : ℕ
   pub packets : List Packet
@@ -35,11 +35,11 @@ told_from s k inside (p ∷ later) =
     if is_start p then record { stream = s; number = k; start = p; later = later; inside = inside } ∷ told_from s (suc k) (running_after p inside) later
     else told_from s (suc k) (running_after p inside) later
 
-abbrev pub told_in : Left → List ToldSlice
+abbrev pub told_in : LeftPackets → List ToldSlice
 told_in left = told_from left.stream left.number None left.packets
 
 -- those of all streams
-abbrev pub slices_told : List Left → List ToldSlice
+abbrev pub slices_told : List LeftPackets → List ToldSlice
 slices_told lefts = flat_map told_in lefts
 
 -- how many packets after its start packet belong to it, without the one that ends it: the next start packet, or a support packet that

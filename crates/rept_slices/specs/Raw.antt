@@ -15,8 +15,8 @@ use Rattle.rept_path.specs.Code.{Code}
 use Rattle.rept_path.specs.declared.fault.PathFault.{PathFault}
 use Rattle.rept_path.specs.declared.fault.PathFault.TheVariants as fault
 use Rattle.rept_slices.specs.Checks.{check}
-use Rattle.rept_slices.specs.Joins.{Note}
-use Rattle.rept_slices.specs.Many.{Traces, IsRunOfStreams, IsRefused}
+use Rattle.rept_slices.specs.Joins.{ThreadNote}
+use Rattle.rept_slices.specs.Many.{Traces, IsRunOfStreams, HasNoRunOfStreams}
 
 -- the streams of packets of a file, with times and contexts
 abbrev pub streams_of : StreamFile → List Stream
@@ -36,27 +36,27 @@ FailsIn k (stream ∷ others) refused =
     ⊎ ((packets : List Packet) × Hold stream packets × FailsIn (k + length packets) others refused)
 
 -- what the files of a program hold, the file of its traces, the notes of the threads, and the number from which on a window may begin
-pub record Files : Type 0 where
+pub record RawFiles : Type 0 where
   pub contents : Contents
   pub file : StreamFile
-  pub notes : List Note
+  pub notes : List ThreadNote
   pub from : ℕ
 
 -- the code, which may be compressed where the file says so
-abbrev pub code_in : Files → Code
+abbrev pub code_in : RawFiles → Code
 code_in f = record { contents = f.contents; halves = f.file.halves }
 
-abbrev pub traces : Files → List (List Packet) → Traces
+abbrev pub traces : RawFiles → List (List Packet) → Traces
 traces f packets = record { code = code_in f; streams = packets; notes = f.notes; from = f.from }
 
-abbrev pub IsRunOf : Files → Run → Type 0
-IsRunOf f run = (packets : List (List Packet)) × HoldEach (streams_of f.file) packets × IsRunOfStreams (traces f packets) run
+abbrev pub IsRunOfFiles : RawFiles → Run → Type 0
+IsRunOfFiles f run = (packets : List (List Packet)) × HoldEach (streams_of f.file) packets × IsRunOfStreams (traces f packets) run
 
 -- A packet is refused, before all else; or all are whole, and there is no run.
-abbrev pub HasNoRun : Files → PathFault → Type 0
+abbrev pub HasNoRun : RawFiles → PathFault → Type 0
 HasNoRun f e =
     ((refused : TraceFault) × FailsIn 0 (streams_of f.file) refused × (e ≡ fault.Packet refused))
-    ⊎ ((packets : List (List Packet)) × HoldEach (streams_of f.file) packets × IsRefused (traces f packets) e)
+    ⊎ ((packets : List (List Packet)) × HoldEach (streams_of f.file) packets × HasNoRunOfStreams (traces f packets) e)
 
 -- what is looked at before a row is walked: the file of the traces, the processes of the threads, and the number from which on a window may begin
 pub record Looked : Type 0 where
@@ -74,10 +74,10 @@ IsRefusedBefore l e =
 abbrev pub PassBefore : Looked → List (List Packet) → Type 0
 PassBefore l lists = HoldEach (streams_of l.file) lists × (check l.from l.processes lists ≡ None)
 
--- the note of a thread by its descriptor: the process at 24, the program counter at 72
-abbrev pub note_in : List ℕ → Note
+-- the note of a thread by its descriptor: `pr_pid`, the thread's own number, at 24, the program counter at 72
+abbrev pub note_in : List ℕ → ThreadNote
 note_in desc = record { process = word_at desc 24; pc = word_at desc 72 }
 
 -- the streams of a file over the program of a dump with these descriptors of notes
-abbrev pub files_of : Dump → StreamFile → List (List ℕ) → ℕ → Files
+abbrev pub files_of : Dump → StreamFile → List (List ℕ) → ℕ → RawFiles
 files_of dump file descs from = record { contents = contents (exe_of dump); file = file; notes = map note_in descs; from = from }

@@ -5,19 +5,19 @@ use Rattle.std.specs.List.{prefix_len, list_any, filter, filter_map, sum_by}
 use Rattle.rept_trace.specs.declared.packet.Packet.{Packet}
 use Rattle.rept_path.specs.Trace.{loses}
 use Rattle.rept_slices.specs.Stamps.{clock_of, is_start}
-use Rattle.rept_slices.specs.Parts.{Left, ToldSlice, begin_of, slices_told}
+use Rattle.rept_slices.specs.Parts.{LeftPackets, ToldSlice, begin_of, slices_told}
 use Rattle.rept_slices.specs.Order.{end_of}
 
 -- the streams, from that of this number on, the first packet of which has this number
-abbrev pub numbered : ℕ → ℕ → List (List Packet) → List Left
+abbrev pub numbered : ℕ → ℕ → List (List Packet) → List LeftPackets
 numbered s k [] = []
 numbered s k (packets ∷ others) = record { stream = s; number = k; packets = packets } ∷ numbered (suc s) (k + length packets) others
 
 -- all packets of all streams
-abbrev pub whole : List (List Packet) → List Left
+abbrev pub whole : List (List Packet) → List LeftPackets
 whole streams = numbered 0 0 streams
 
-abbrev pub skip : ℕ → Left → Left
+abbrev pub skip : ℕ → LeftPackets → LeftPackets
 skip n left = record { stream = left.stream; number = left.number + n; packets = drop n left.packets }
 
 -- The window of a stream: it begins at the first start packet of this number in its stream or a later one, after which no packets were
@@ -30,11 +30,11 @@ abbrev pub window_of : ℕ → List Packet → Option ℕ
 window_of from packets = window_from from 0 packets
 
 -- the windows of all streams; of a stream without packets nothing is left
-abbrev pub windows : ℕ → List (List Packet) → List Left
+abbrev pub windows : ℕ → List (List Packet) → List LeftPackets
 windows from streams = map (λ left. skip (unwrap_or (window_of from left.packets) 0) left) (whole streams)
 
 -- the time of the first packet
-abbrev pub opening : Left → Option ℕ
+abbrev pub opening : LeftPackets → Option ℕ
 opening left = first_clock left.packets where
   first_clock : List Packet → Option ℕ
   first_clock [] = None
@@ -46,15 +46,15 @@ greatest [] = 0
 greatest (n ∷ ns) = if nat_le n (greatest ns) then greatest ns else n
 
 -- The time from which on all streams tell: the greatest of the times at which their windows begin.
-abbrev pub full_from : List Left → ℕ
+abbrev pub full_from : List LeftPackets → ℕ
 full_from lefts = greatest (filter_map opening lefts)
 
 -- what is left of a window from that time on: from its first start packet of that time or a later one, if it has one
-abbrev pub from_time : ℕ → Left → Left
+abbrev pub from_time : ℕ → LeftPackets → LeftPackets
 from_time time left = skip (prefix_len (λ p. not (is_start p && nat_le time (clock_of p))) left.packets) left
 
 -- what is left of the streams
-abbrev pub kept : ℕ → List (List Packet) → List Left
+abbrev pub kept : ℕ → List (List Packet) → List LeftPackets
 kept from streams = map (from_time (full_from (windows from streams))) (windows from streams)
 
 -- how many packets are skipped

@@ -27,25 +27,25 @@ abbrev pub heads : List ToldSlice → List ToldSlice
 heads ts = filter (λ t. is_none t.inside) ts
 
 -- A stretch that was walked: the slice with which it begins, and the legs of its packets, newest first.
-pub record Walked : Type 0 where
+pub record StretchLegs : Type 0 where
   pub head : ToldSlice
   pub legs : List (List StepRow)
 
-abbrev pub last_place : Code → Walked → Place
+abbrev pub last_place : Code → StretchLegs → Place
 last_place code w = place code (reverse (stretch w.head)) w.legs
 
-abbrev pub count_of : Code → Walked → ℕ
+abbrev pub count_of : Code → StretchLegs → ℕ
 count_of code w = length (last_place code w).rows
 
 -- where the walk of a stretch begins, after others of so many rows
 abbrev pub origin_after : ℕ → ToldSlice → Origin
 origin_after count t = record { number = t.number; room = 65536 - count }
 
-abbrev pub Goes : Code → ℕ → Walked → Type 0
+abbrev pub Goes : Code → ℕ → StretchLegs → Type 0
 Goes code count w = Route code (origin_after count w.head) (reverse (stretch w.head)) w.legs
 
 -- The stretches that begin with these slices are walked one after the other, after others of so many rows.
-abbrev pub Walks : Code → ℕ → List ToldSlice → List Walked → Type 0
+abbrev pub Walks : Code → ℕ → List ToldSlice → List StretchLegs → Type 0
 Walks code count [] ws = ws ≡ []
 Walks code count (t ∷ ts) [] = ⊥
 Walks code count (t ∷ ts) (w ∷ ws) = (w.head ≡ t) × Goes code count w × Walks code (count + count_of code w) ts ws
@@ -55,31 +55,31 @@ abbrev pub WalksFault : Code → ℕ → List ToldSlice → PathFault → Type 0
 WalksFault code count [] e = ⊥
 WalksFault code count (t ∷ ts) e =
     StopsAt code (origin_after count t) (stretch t) e
-    ⊎ ((w : Walked) × (w.head ≡ t) × Goes code count w × WalksFault code (count + count_of code w) ts e)
+    ⊎ ((w : StretchLegs) × (w.head ≡ t) × Goes code count w × WalksFault code (count + count_of code w) ts e)
 
 -- A slice that was walked: its rows, oldest first, and the last place of its stretch with all branch bits of the stretch.
-pub record Ran : Type 0 where
+pub record RanSlice : Type 0 where
   pub told : ToldSlice
   pub rows : List StepRow
   pub last : Place
   pub bits : List Bool
 
 -- whether a slice is one of the stretch
-abbrev pub within : Walked → ToldSlice → Bool
+abbrev pub within : StretchLegs → ToldSlice → Bool
 within w t = nat_le w.head.number t.number && nat_lt t.number (w.head.number + length (stretch w.head))
 
 -- The rows of a slice are the legs of the packets after its start packet up to the one that ends it.
-abbrev pub rows_of : Walked → ToldSlice → List StepRow
+abbrev pub rows_of : StretchLegs → ToldSlice → List StepRow
 rows_of w t = flat_map reverse (take (suc (inner t)) (drop (suc (t.number - w.head.number)) (reverse w.legs)))
 
-abbrev pub ran_by : Code → Walked → ToldSlice → Ran
+abbrev pub ran_by : Code → StretchLegs → ToldSlice → RanSlice
 ran_by code w t = record { told = t; rows = rows_of w t; last = last_place code w; bits = bits code (reverse (stretch w.head)) }
 
-abbrev pub ran_in : Code → List ToldSlice → Walked → List Ran
+abbrev pub ran_in : Code → List ToldSlice → StretchLegs → List RanSlice
 ran_in code ts w = map (ran_by code w) (filter (within w) ts)
 
 -- all slices, in the order of their packets
-abbrev pub ran : Code → List ToldSlice → List Walked → List Ran
+abbrev pub ran : Code → List ToldSlice → List StretchLegs → List RanSlice
 ran code ts ws = flat_map (ran_in code ts) ws
 
 -- how many rows stand after each start packet of a stretch: of its packets and their legs, newest first

@@ -9,11 +9,11 @@ use Rattle.rept_trace.specs.Stream.{Stream}
 use Rattle.rept_path.specs.Survey.{Surveys}
 use Rattle.rept_path.specs.declared.window.Begin.{Begin}
 use Rattle.rept_slices.specs.declared.reading.Window.{Window}
-use Rattle.rept_slices.specs.Parts.{Left}
+use Rattle.rept_slices.specs.Parts.{LeftPackets}
 use Rattle.rept_slices.specs.Skipping.{skip, window_of}
 
 -- the stream of this number, the first packet of which has that number, which was sent so, with these packets
-pub record IsWindow (s k from : ℕ) (sent : Stream) (packets : List Packet) (w : Window) : Type 0 where
+pub record IsStreamWindow (s k from : ℕ) (sent : Stream) (packets : List Packet) (w : Window) : Type 0 where
   pub stream : w.stream ≡ s
   pub number : w.number ≡ k
   pub rest : rest_of w.packets ≡ sent
@@ -24,10 +24,10 @@ abbrev pub AreWindows : ℕ → ℕ → ℕ → List Stream → List (List Packe
 AreWindows s k from [] lists ws = (lists ≡ []) × (ws ≡ [])
 AreWindows s k from (stream ∷ others) [] ws = ⊥
 AreWindows s k from (stream ∷ others) (packets ∷ lists) [] = ⊥
-AreWindows s k from (stream ∷ others) (packets ∷ lists) (w ∷ ws) = IsWindow s k from stream packets w × AreWindows (suc s) (k + length packets) from others lists ws
+AreWindows s k from (stream ∷ others) (packets ∷ lists) (w ∷ ws) = IsStreamWindow s k from stream packets w × AreWindows (suc s) (k + length packets) from others lists ws
 
 -- what is left of a stream from its window on
-abbrev pub window_left : ℕ → Left → Left
+abbrev pub window_left : ℕ → LeftPackets → LeftPackets
 window_left from l = skip (unwrap_or (window_of from l.packets) 0) l
 
 -- the number that a fault of a packet tells

@@ -37,12 +37,12 @@ abbrev pub slices : ℕ → List (List Packet) → List Times
 slices from streams = map (λ t. times t.stream (thread_of t) (begin_of t) (end_of (slices_told (kept from streams)) t)) (slices_told (kept from streams))
 
 -- what streams tell: their slices, until when anything may have happened, and how many packets are skipped
-pub record Says : Type 0 where
+pub record SaidOfStreams : Type 0 where
   pub slices : List Times
   pub dark : Option ℕ
   pub skipped : ℕ
 
-abbrev pub says : ℕ → List (List Packet) → Says
+abbrev pub says : ℕ → List (List Packet) → SaidOfStreams
 says from streams = record { slices = slices from streams; dark = dark from streams; skipped = skipped from streams }
 
 -- the first fault before the walks, and that of two streams that tell of one thread at a time, for the threads 1 and 2

@@ -6,7 +6,7 @@ ghost use Rattle.rept_trace.specs.Stream.{Stream};
 ghost use Rattle.rept_slices.specs.Checks.{first_fault, startless, time_back, all_idle};
 ghost use Rattle.rept_slices.specs.Lefts.{AreLeft};
 ghost use Rattle.rept_slices.specs.Skipping.{whole, windows as all_windows};
-ghost use Rattle.rept_slices.specs.Windows.{IsWindow, AreAll};
+ghost use Rattle.rept_slices.specs.Windows.{IsStreamWindow, AreAll};
 
 use crate::back::time_back;
 use crate::reading::Window;
@@ -14,7 +14,7 @@ use rept_path::PathFault;
 
 /// Why a stream has packets and no window, if it is so.
 fn startless(window: &Window<'_>) -> Option<PathFault>
-    ensures { (s k from : ℕ) (stream : Stream) (packets : List Packet) → IsWindow s k from stream packets window.now → result ≡ startless from (record { stream = s; number = k; packets = packets }) }
+    ensures { (s k from : ℕ) (stream : Stream) (packets : List Packet) → IsStreamWindow s k from stream packets window.now → result ≡ startless from (record { stream = s; number = k; packets = packets }) }
 {
     if window.count == 0 {
         return None;

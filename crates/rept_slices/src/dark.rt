@@ -7,7 +7,7 @@ ghost use Rattle.rept_trace.specs.Packets.{rest_of};
 ghost use Rattle.rept_trace.specs.Stream.{Hold};
 ghost use Rattle.rept_path.specs.declared.fault.PathFault.TheVariants.{OutOfMemory};
 ghost use Rattle.rept_slices.specs.Stamps.{clock_of, context_of};
-ghost use Rattle.rept_slices.specs.Parts.{Left, ToldSlice, slices_told, begin_of, thread_of, end_before, lesser};
+ghost use Rattle.rept_slices.specs.Parts.{LeftPackets, ToldSlice, slices_told, begin_of, thread_of, end_before, lesser};
 ghost use Rattle.rept_slices.specs.Entries.{IsEntryOf, AreEntriesOf};
 ghost use Rattle.rept_slices.specs.Lefts.{IsLeft, AreLeft};
 ghost use Rattle.rept_slices.specs.Ends.{next_begin, early, ends_in};
@@ -89,7 +89,7 @@ fn last_end(slices: &[Entry<'_>], time: u64) -> u64
 
 /// 1 of a stream of which a packet is left, 0 of another one.
 fn opens(window: &Window<'_>) -> usize
-    ensures opening { (l : Left) → IsLeft window.now l → result ≡ length (cons_option (opening l) []) }
+    ensures opening { (l : LeftPackets) → IsLeft window.now l → result ≡ length (cons_option (opening l) []) }
     ensures few { result ≤ 1 }
 {
     match opening(window) {
@@ -100,7 +100,7 @@ fn opens(window: &Window<'_>) -> usize
 
 /// Whether two or more streams have a window.
 pub fn several(windows: &[Window<'_>]) -> bool
-    ensures { (lefts : List Left) → AreLeft windows.now lefts → result ≡ nat_lt 1 (length (filter_map opening lefts)) }
+    ensures { (lefts : List LeftPackets) → AreLeft windows.now lefts → result ≡ nat_lt 1 (length (filter_map opening lefts)) }
 {
     let mut count = 0usize;
     for window in windows {

@@ -7,7 +7,7 @@ ghost use Rattle.rept_trace.specs.Packets.{rest_of};
 ghost use Rattle.rept_trace.specs.Stream.{Hold};
 ghost use Rattle.rept_path.specs.declared.fault.PathFault.TheVariants.{OutOfMemory};
 ghost use Rattle.rept_slices.specs.Stamps.{clock_of, is_start};
-ghost use Rattle.rept_slices.specs.Parts.{Left};
+ghost use Rattle.rept_slices.specs.Parts.{LeftPackets};
 ghost use Rattle.rept_slices.specs.Skipping.{opening, full_from, from_time};
 ghost use Rattle.rept_slices.specs.Lefts.{IsLeftBy, IsLeft, AreLeft, BeginsFrom, later_by};
 ghost use Rattle.rept_slices.specs.declared.reading.Window.{Window};
@@ -41,7 +41,7 @@ pub fn later_by(time: u64, other: Option<u64>) -> u64
 
 /// The time of the first packet that is left of a stream.
 pub fn opening(window: &Window<'_>) -> Option<u64>
-    ensures { (l : Left) → IsLeft window.now l → result ≡ opening l }
+    ensures { (l : LeftPackets) → IsLeft window.now l → result ≡ opening l }
 {
     match window.begin {
         None => None,
@@ -51,7 +51,7 @@ pub fn opening(window: &Window<'_>) -> Option<u64>
 
 /// The time from which on all streams tell: the greatest of those of the first packets that are left of them.
 pub fn full_from(windows: &[Window<'_>]) -> u64
-    ensures { (lefts : List Left) → AreLeft windows.now lefts → result ≡ full_from lefts }
+    ensures { (lefts : List LeftPackets) → AreLeft windows.now lefts → result ≡ full_from lefts }
 {
     let mut greatest = 0;
     for window in windows {
@@ -95,8 +95,8 @@ fn begin_from<'a>(begin: Begin<'a>, time: u64) -> Option<Begin<'a>>
 
 /// The packet with which what is left of a stream from this time on begins.
 fn kept_begin<'a>(window: &Window<'a>, time: u64) -> Option<Begin<'a>>
-    requires { (l : Left) × IsLeft window.now l }
-    ensures { (l : Left) → IsLeft window.now l → IsLeftBy (from_time time l) window.now.number result }
+    requires { (l : LeftPackets) × IsLeft window.now l }
+    ensures { (l : LeftPackets) → IsLeft window.now l → IsLeftBy (from_time time l) window.now.number result }
 {
     match window.begin {
         None => None,
@@ -106,8 +106,8 @@ fn kept_begin<'a>(window: &Window<'a>, time: u64) -> Option<Begin<'a>>
 
 /// What is left of a stream from this time on.
 fn kept<'a>(window: &Window<'a>, time: u64) -> Window<'a>
-    requires { (l : Left) × IsLeft window.now l }
-    ensures left { (l : Left) → IsLeft window.now l → IsLeft result (from_time time l) }
+    requires { (l : LeftPackets) × IsLeft window.now l }
+    ensures left { (l : LeftPackets) → IsLeft window.now l → IsLeft result (from_time time l) }
     ensures count { result.count ≡ window.now.count }
 {
     let begin = kept_begin(window, time);
@@ -126,8 +126,8 @@ pub fn keep_from<'a>(
     windows: &[Window<'a>],
     time: u64,
 ) -> Result<Vec<Window<'a>>, PathFault>
-    requires { (lefts : List Left) × AreLeft windows.now lefts }
-    ensures ok { (lefts : List Left) → AreLeft windows.now lefts → IfOk result (λ left. AreLeft left.items (map (from_time time) lefts)) }
+    requires { (lefts : List LeftPackets) × AreLeft windows.now lefts }
+    ensures ok { (lefts : List LeftPackets) → AreLeft windows.now lefts → IfOk result (λ left. AreLeft left.items (map (from_time time) lefts)) }
 
     // What is left is of as many packets as before.
     ensures counts { IfOk result (λ left. sum_by (λ (w : Window). w.count) left.items ≡ sum_by (λ (w : Window). w.count) windows.now) }

@@ -4,21 +4,21 @@ ghost use Rattle.std.specs.Prelude.{◌≡◌, ◌⊎◌, ◌<◌, ◌^◌, ℕ,
 ghost use Rattle.std.specs.List.{All};
 ghost use Rattle.rept_path.specs.declared.fault.PathFault.{PathFault};
 ghost use Rattle.rept_steps.specs.declared.run.Run.{Run};
-ghost use Rattle.rept_steps.specs.Course.{IsSound};
+ghost use Rattle.rept_steps.specs.Course.{IsSoundCourse};
 ghost use Rattle.rept_trace.specs.declared.packet.Packet.{Packet};
 ghost use Rattle.rept_path.specs.Trace.{IsWindow};
 ghost use Rattle.rept_path.specs.declared.fault.PathFault.TheVariants.{NoStart, TimeBack, SliceOverlap, UnknownThread, OtherThread};
 ghost use Rattle.rept_slices.specs.Worked.{times, says, fault, overlaps, two_harts, moved, next_elsewhere, one_hart, whole_stream_skipped, start_at_the_time, time_goes_back, time_goes_back_after_a_slice, no_packets, no_start, packets_lost, back_before_no_start, unknown_thread, other_thread, unknown_before_other, no_start_before_unknown, skipped_thread, other_thread_skipped, one_time, later_packet, packet_after_the_end, start_that_ends, times_that_touch, streams_apart, first_note_first, least_time_first};
 ghost use Rattle.rept_slices.specs.Stamps.{clock_of};
 ghost use Rattle.rept_slices.specs.Skipping.{window_of};
-ghost use Rattle.rept_slices.specs.Many.{Traces, IsRunOfStreams, IsRefused};
+ghost use Rattle.rept_slices.specs.Many.{Traces, IsRunOfStreams, HasNoRunOfStreams};
 
 /// Packets of several streams have a run or a refusal, and only one.
 pub fn one_answer()
     ensures run { (t : Traces) (a b : Run) → IsRunOfStreams t a → IsRunOfStreams t b → a ≡ b }
-    ensures refusal { (t : Traces) (d e : PathFault) → IsRefused t d → IsRefused t e → d ≡ e }
-    ensures either { (t : Traces) (a : Run) (e : PathFault) → IsRunOfStreams t a → IsRefused t e → ⊥ }
-    ensures some { (t : Traces) → ((run : Run) × IsRunOfStreams t run) ⊎ ((e : PathFault) × IsRefused t e) }
+    ensures refusal { (t : Traces) (d e : PathFault) → HasNoRunOfStreams t d → HasNoRunOfStreams t e → d ≡ e }
+    ensures either { (t : Traces) (a : Run) (e : PathFault) → IsRunOfStreams t a → HasNoRunOfStreams t e → ⊥ }
+    ensures some { (t : Traces) → ((run : Run) × IsRunOfStreams t run) ⊎ ((e : PathFault) × HasNoRunOfStreams t e) }
 {}
 
 /// The window of each stream is the one that it would have as a trace of its own.
@@ -28,7 +28,7 @@ pub fn windows_agree()
 
 /// The run of packets whose times have 64 bits is sound.
 pub fn runs_are_sound()
-    ensures { (t : Traces) (run : Run) → All (All (λ p. clock_of p < 2 ^ 64)) t.streams → IsRunOfStreams t run → IsSound (record { threads = run.threads; dark = run.dark }) }
+    ensures { (t : Traces) (run : Run) → All (All (λ p. clock_of p < 2 ^ 64)) t.streams → IsRunOfStreams t run → IsSoundCourse (record { threads = run.threads; dark = run.dark }) }
 {}
 
 /// Examples worked out by hand: what streams tell of the threads that run as the processes 1 and 2.

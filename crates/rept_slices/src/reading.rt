@@ -7,7 +7,7 @@ ghost use Rattle.rept_trace.specs.declared.fault.TraceFault.{TraceFault};
 ghost use Rattle.rept_trace.specs.Stream.{Stream, FailsAfter};
 ghost use Rattle.rept_path.specs.declared.fault.PathFault.TheVariants.{OutOfMemory, Packet as PacketFault};
 ghost use Rattle.rept_slices.specs.Raw.{streams_of, FailsIn};
-ghost use Rattle.rept_slices.specs.Windows.{IsWindow, AreWindows, number_told, numbered_after};
+ghost use Rattle.rept_slices.specs.Windows.{IsStreamWindow, AreWindows, number_told, numbered_after};
 
 use rept_path::PathFault;
 use rept_path::window::{Begin, go_through};
@@ -56,7 +56,7 @@ fn read_stream<'a>(
 ) -> Result<Window<'a>, TraceFault>
     requires there { s < length streams.now.streams }
     requires few { (stream : Stream) → slice_get (streams_of streams.now) s ≡ Some stream → number + length stream.bytes < 2 ^ 32 }
-    ensures ok { IfOk result (λ w. (stream : Stream) × (packets : List Packet) × (slice_get (streams_of streams.now) s ≡ Some stream) × IsWindow s number from stream packets w) }
+    ensures ok { IfOk result (λ w. (stream : Stream) × (packets : List Packet) × (slice_get (streams_of streams.now) s ≡ Some stream) × IsStreamWindow s number from stream packets w) }
     ensures err { IfErr result (λ fault. (stream : Stream) × (packets : List Packet) × (slice_get (streams_of streams.now) s ≡ Some stream) × FailsAfter number stream packets fault) }
 {
     let packets = streams.packets(s);

@@ -7,7 +7,7 @@ ghost use Rattle.rept_path.specs.declared.fault.PathFault.{PathFault};
 ghost use Rattle.rept_path.specs.declared.fault.PathFault.TheVariants.{OutOfMemory};
 ghost use Rattle.rept_slices.specs.Entries.{AreEntriesOf};
 ghost use Rattle.rept_slices.specs.Lefts.{AreLeft};
-ghost use Rattle.rept_slices.specs.Parts.{Left, slices_told};
+ghost use Rattle.rept_slices.specs.Parts.{LeftPackets, slices_told};
 ghost use Rattle.rept_slices.specs.Raw.{IsRefusedBefore, PassBefore};
 ghost use Rattle.rept_slices.specs.Skipping.{windows as all_windows, opening, full_from, from_time, kept};
 ghost use Rattle.rept_slices.specs.Surveyed.{IsSurvey};
@@ -41,12 +41,12 @@ pub struct Survey<'a> {
 
 /// The slices of what is left of streams, and those that are left from the time on from which all of them tell.
 fn tell_slices<'a>(alloc: Global, windows: &[Window<'a>]) -> Result<Survey<'a>, PathFault>
-    requires left { (lefts : List Left) × AreLeft windows.now lefts }
+    requires left { (lefts : List LeftPackets) × AreLeft windows.now lefts }
     requires few { sum_by (λ (w : Window). w.count) windows.now < 2 ^ 32 }
-    ensures ok { (lefts : List Left) → AreLeft windows.now lefts →
+    ensures ok { (lefts : List LeftPackets) → AreLeft windows.now lefts →
         IfOk result (λ s. AreEntriesOf s.windows.items (slices_told lefts) × (s.time ≡ full_from lefts) × (s.several ≡ nat_lt 1 (length (filter_map opening lefts))) × AreEntriesOf s.slices.items (slices_told (map (from_time (full_from lefts)) lefts))) }
     ensures packets { IfOk result (λ s. s.packets ≡ sum_by (λ (w : Window). w.count) windows.now) }
-    ensures skipped { (lefts : List Left) → AreLeft windows.now lefts → IfOk result (λ s. s.skipped + sum_by (λ (l : Left). length l.packets) (map (from_time (full_from lefts)) lefts) ≡ sum_by (λ (w : Window). w.count) windows.now) }
+    ensures skipped { (lefts : List LeftPackets) → AreLeft windows.now lefts → IfOk result (λ s. s.skipped + sum_by (λ (l : LeftPackets). length l.packets) (map (from_time (full_from lefts)) lefts) ≡ sum_by (λ (w : Window). w.count) windows.now) }
     ensures err { IfErr result (λ e. e ≡ OutOfMemory) }
 {
     let time = full_from(windows);

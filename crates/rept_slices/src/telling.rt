@@ -7,7 +7,7 @@ ghost use Rattle.rept_trace.specs.Stream.{Hold};
 ghost use Rattle.rept_path.specs.declared.fault.PathFault.TheVariants.{OutOfMemory};
 ghost use Rattle.rept_slices.specs.Stamps.{is_start, running_after};
 ghost use Rattle.rept_slices.specs.Lefts.{IsLeft, AreLeft};
-ghost use Rattle.rept_slices.specs.Parts.{Left, told_from, told_in, slices_told};
+ghost use Rattle.rept_slices.specs.Parts.{LeftPackets, told_from, told_in, slices_told};
 ghost use Rattle.rept_slices.specs.Entries.{AreEntriesOf, with_head, entries_from};
 ghost use Rattle.rept_slices.specs.Skipping.{from_time};
 ghost use Rattle.rept_slices.specs.declared.telling.Entry.{Entry};
@@ -112,8 +112,8 @@ pub fn tell<'a>(
 
 /// Adds the slices of what is left of a stream.
 fn tell_window<'a>(entries: &mut Vec<Entry<'a>>, window: &Window<'a>) -> Result<(), PathFault>
-    requires { (l : Left) × IsLeft window.now l }
-    ensures ok { (l : Left) → IsLeft window.now l → OnOk result ((more : List Entry) × (entries.new.items ≡ entries.old.items ++ more) × AreEntriesOf more (told_in l)) }
+    requires { (l : LeftPackets) × IsLeft window.now l }
+    ensures ok { (l : LeftPackets) → IsLeft window.now l → OnOk result ((more : List Entry) × (entries.new.items ≡ entries.old.items ++ more) × AreEntriesOf more (told_in l)) }
     ensures err { IfErr result (λ e. e ≡ OutOfMemory) }
 {
     match window.begin {
@@ -182,8 +182,8 @@ fn tell_both<'a>(
     window: &Window<'a>,
     time: u64,
 ) -> Result<(), PathFault>
-    requires { (l : Left) × IsLeft window.now l }
-    ensures ok { (l : Left) → IsLeft window.now l → OnOk result ((more : List Entry) × (both.new.windows.items ≡ both.old.windows.items ++ more) × (both.new.slices.items ≡ both.old.slices.items ++ entries_from time more) × AreEntriesOf more (told_in l)) }
+    requires { (l : LeftPackets) × IsLeft window.now l }
+    ensures ok { (l : LeftPackets) → IsLeft window.now l → OnOk result ((more : List Entry) × (both.new.windows.items ≡ both.old.windows.items ++ more) × (both.new.slices.items ≡ both.old.slices.items ++ entries_from time more) × AreEntriesOf more (told_in l)) }
     ensures err { IfErr result (λ e. e ≡ OutOfMemory) }
 {
     let mut own = Vec::new(alloc);
@@ -201,9 +201,9 @@ pub fn tell_all<'a>(
     windows: &[Window<'a>],
     time: u64,
 ) -> Result<Tellings<'a>, PathFault>
-    requires { (lefts : List Left) × AreLeft windows.now lefts }
-    ensures ok { (lefts : List Left) → AreLeft windows.now lefts → IfOk result (λ both. AreEntriesOf both.windows.items (slices_told lefts)) }
-    ensures left { (lefts : List Left) → AreLeft windows.now lefts → IfOk result (λ both. AreEntriesOf both.slices.items (slices_told (map (from_time time) lefts))) }
+    requires { (lefts : List LeftPackets) × AreLeft windows.now lefts }
+    ensures ok { (lefts : List LeftPackets) → AreLeft windows.now lefts → IfOk result (λ both. AreEntriesOf both.windows.items (slices_told lefts)) }
+    ensures left { (lefts : List LeftPackets) → AreLeft windows.now lefts → IfOk result (λ both. AreEntriesOf both.slices.items (slices_told (map (from_time time) lefts))) }
     ensures err { IfErr result (λ e. e ≡ OutOfMemory) }
 {
     let mut both = Tellings {

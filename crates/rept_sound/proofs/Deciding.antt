@@ -4,7 +4,7 @@ use Rattle.std.proofs.lemmas.Bool.{false≢true, cases_Bool, cases_lt, and_parts
 use Rattle.std.proofs.lemmas.Option.{slice_get_past}
 use Rattle.rept_steps.specs.declared.slice.Slice.{Slice}
 use Rattle.rept_steps.specs.declared.threads.ThreadRows.{ThreadRows}
-use Rattle.rept_steps.specs.Course.{Course, no_thread, thread_at, rows_of, slices_of, is_call_row, slice_of, first_slice, TakeRows, BeginsFrom, KeepTime, CallsEnd, IsAlone, IsSound}
+use Rattle.rept_steps.specs.Course.{Course, no_thread, thread_at, rows_of, slices_of, is_call_row, slice_of, first_slice, TakeRows, BeginsFrom, KeepTime, CallsEnd, IsAlone, IsSoundCourse}
 use Rattle.rept_sound.specs.Tested.{takes, begins_from, in_time, keeps_to, ends_after, call_ends, calls_end_to, calls_end, fits, fit_to, end_to, is_one, is_told, is_alone, is_sound}
 
 -- rows
@@ -184,7 +184,7 @@ alone_back C its =
     and_from (is_told C.dark) (is_one C.threads && is_one (thread_at C 0).slices) (ap is_told its.told)
     (and_from (is_one C.threads) (is_one (thread_at C 0).slices) (ap (λ (ts : List ThreadRows). is_one ts) its.only) (ap (λ (x : ThreadRows). is_one x.slices) same ∙ ap (λ (ss : List Slice). is_one ss) its.whole))
 
-sound_true : (C : Course) → is_sound C ≡ true → IsSound C
+sound_true : (C : Course) → is_sound C ≡ true → IsSoundCourse C
 sound_true C e =
     let parts = and_parts (fit_to C (length C.threads)) (is_alone C || end_to C (length C.threads)) e in
     record {
@@ -197,7 +197,7 @@ sound_true C e =
           ];
     }
 
-sound_back : (C : Course) → IsSound C → is_sound C ≡ true
+sound_back : (C : Course) → IsSoundCourse C → is_sound C ≡ true
 sound_back C its = and_from (fit_to C (length C.threads)) (is_alone C || end_to C (length C.threads)) (fit_back C its.taken its.in_time) (calls_by its.calls)
   where
     calls_by : IsAlone C ⊎ CallsEnd C → (is_alone C || end_to C (length C.threads)) ≡ true
@@ -205,5 +205,5 @@ sound_back C its = and_from (fit_to C (length C.threads)) (is_alone C || end_to 
     calls_by (inr ends) = or_right (is_alone C) (end_to C (length C.threads)) (ends_back C ends)
 
 -- both
-pub decided : (C : Course) (b : Bool) → b ≡ is_sound C → (b ≡ true) ↔ IsSound C
+pub decided : (C : Course) (b : Bool) → b ≡ is_sound C → (b ≡ true) ↔ IsSoundCourse C
 decided C b is = (λ e. sound_true C (sym is ∙ e), λ h. is ∙ sound_back C h)

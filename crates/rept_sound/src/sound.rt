@@ -1,7 +1,7 @@
 //! Whether a run is sound.
 
 ghost use Rattle.std.specs.Prelude.{◌≡◌, ◌↔◌, length, slice_get, IsTrue};
-ghost use Rattle.rept_steps.specs.Course.{is_call_row, IsSound};
+ghost use Rattle.rept_steps.specs.Course.{is_call_row, IsSoundCourse};
 ghost use Rattle.rept_steps.specs.Runs.{course_of};
 ghost use Rattle.rept_sound.specs.Tested.{call_ends, calls_end, fits, fit_to, end_to, is_alone, is_sound};
 
@@ -100,7 +100,7 @@ fn keeps_all(run: &Run) -> bool
 /// Whether the slices of each thread take its rows, each once and in order, and keep time, and each call is the last row of its slice; of one thread alone, in one slice, all of
 /// which is told, calls may stand anywhere. It takes time for each call and each slice of its thread.
 pub fn is_sound(run: &Run) -> bool
-    ensures { IsTrue result ↔ IsSound (course_of run.now) }
+    ensures { IsTrue result ↔ IsSoundCourse (course_of run.now) }
 {
     keeps_all(run)
 }

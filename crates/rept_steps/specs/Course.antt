@@ -91,7 +91,7 @@ pub record IsAlone (C : Course) : Type 0 where
 
 -- A course is sound where the slices of each thread take its rows in order and keep time, and each call is the last row of its slice; of one
 -- thread alone, in one slice, calls may stand anywhere.
-pub record IsSound (C : Course) : Type 0 where
+pub record IsSoundCourse (C : Course) : Type 0 where
   pub taken : (t : ℕ) → TakeRows 0 (slices_of C t) (length (rows_of C t))
   pub in_time : (t : ℕ) → KeepTime (slices_of C t)
   pub calls : IsAlone C ⊎ CallsEnd C

@@ -1,7 +1,7 @@
 //! Runs of a program up to its crash.
 
 ghost use Rattle.std.specs.Prelude.{◌≡◌, IfOk};
-ghost use Rattle.rept_steps.specs.Course.{IsSound};
+ghost use Rattle.rept_steps.specs.Course.{IsSoundCourse};
 ghost use Rattle.rept_steps.specs.Runs.{course_of, run_of_one};
 
 use crate::slice::{Slice, Slices};
@@ -24,7 +24,7 @@ impl Run {
     /// The run of one thread: one slice of all steps, at no known time, without dark. It is sound. It takes memory for two lists of one entry.
     pub fn one(alloc: Global, steps: Steps, skipped: u32) -> Result<Run, OutOfMemory>
         ensures ok { IfOk result (λ run. run ≡ run_of_one steps skipped) }
-        ensures sound { IfOk result (λ run. IsSound (course_of run)) }
+        ensures sound { IfOk result (λ run. IsSoundCourse (course_of run)) }
     {
         let mut slices = Slices::new(alloc);
         slices.push(Slice {

@@ -9,7 +9,7 @@ use Rattle.std.proofs.lemmas.List.Folds.{list_any-append}
 use Rattle.rept_report.specs.declared.writer.Writer.{Writer}
 use Rattle.rept_report.specs.declared.writer.Writer.TheVariants as writer
 use Rattle.rept_session.specs.LastWriters.{AreLastWriters, IsNamed, named_row, writer_at}
-use Rattle.rept_session.specs.Shown.{IsAt, Shown}
+use Rattle.rept_session.specs.Shown.{IsThreadPoint, Shown}
 use Rattle.rept_session.specs.Texts.{at}
 use Rattle.rept_session.specs.declared.place.ThreadPoint.{ThreadPoint}
 use Rattle.rept_stub.specs.Halts.{NamesNoOther, came, has_changed, is_break, is_new, is_open, is_row, is_stop, is_touched, names, wanted}
@@ -59,7 +59,7 @@ module _ (s : Shown) (c : ThreadPoint) (a : ℕ) (last : AreLastWriters s c.thre
   touched p = is_touched s (here p) a
 
   -- a row that is named at two points which follow one another came before them
-  came_before : (row k : ℕ) → IsAt s (here (k - 1)) → IsNamed s (here k) a row → IsNamed s (here (k - 1)) a row → touched k ≡ false
+  came_before : (row k : ℕ) → IsThreadPoint s (here (k - 1)) → IsNamed s (here k) a row → IsNamed s (here (k - 1)) a row → touched k ≡ false
   came_before row k h now then =
       ap (λ b. came s (here k) a (named_row (writes k)) || b) (closed (writes k) row now) ∙ ap (λ o. came s (here k) a o || false) now
       ∙ ap (λ b. b || false) (by_thread ((s.point row).thread == c.thread) refl)
@@ -72,10 +72,10 @@ module _ (s : Shown) (c : ThreadPoint) (a : ℕ) (last : AreLastWriters s c.thre
           ap (λ own. cond own ((s.point row).point == k - 1) (not (is_row (named_row (writes (k - 1))) row))) e ∙ ap not (is_row_of (named_row (writes (k - 1))) row then)
 
   -- where the same row is named at both ends, or none, nothing is written between them
-  pub none_between : (b : ℕ) → IsAt s (here b) → has_changed s c a (writes b) ≡ false → (k : ℕ) → c.point < k → k ≤ b → touched k ≡ false
+  pub none_between : (b : ℕ) → IsThreadPoint s (here b) → has_changed s c a (writes b) ≡ false → (k : ℕ) → c.point < k → k ≤ b → touched k ≡ false
   none_between b h same k low high = by_writer (writes b) refl same
     where
-      within : IsAt s (here (k - 1))
+      within : IsThreadPoint s (here (k - 1))
       within = let top = h.1 in (h.0, omega (arith, top, high))
 
       by_row : (row : ℕ) → named_row (writes b) ≡ Some row → names s c a row ≡ true → touched k ≡ false
@@ -103,7 +103,7 @@ module _ (s : Shown) (c : ThreadPoint) (a : ℕ) (last : AreLastWriters s c.thre
       by_writer writer.None e known = some_none (sym (row_is (named_row (writes b)) row is) ∙ ap named_row e)
 
   -- where something is new, and nothing was at the point before, the byte is written between them
-  pub written_here : (low high : ℕ) → IsAt s (here high) → low < high → high ≤ low + 1 → ((row : ℕ) → names s (here low) a row ≡ true → names s c a row ≡ true)
+  pub written_here : (low high : ℕ) → IsThreadPoint s (here high) → low < high → high ≤ low + 1 → ((row : ℕ) → names s (here low) a row ≡ true → names s c a row ≡ true)
       → has_changed s c a (writes high) ≡ true → touched high ≡ true
   written_here low high h under over old new = by_writer (writes high) refl new
     where
@@ -144,7 +144,7 @@ module _ (s : Shown) (c : ThreadPoint) (a : ℕ) (last : AreLastWriters s c.thre
       by_writer writer.None e is = true_false (sym is)
 
   -- a row of the thread is named from the point after it on
-  pub own_since : (high row : ℕ) (step : ThreadPoint) → step ≡ s.point row → step.thread ≡ c.thread → IsAt s (here high) → IsNamed s (here high) a row → IsNamed s (here (step.point + 1)) a row
+  pub own_since : (high row : ℕ) (step : ThreadPoint) → step ≡ s.point row → step.thread ≡ c.thread → IsThreadPoint s (here high) → IsNamed s (here high) a row → IsNamed s (here (step.point + 1)) a row
   own_since high row step is own h named =
       let same : (s.point row).thread ≡ c.thread = sym (ap (λ (p : ThreadPoint). p.thread) is) ∙ own in
       let spot : step.point ≡ (s.point row).point = ap (λ (p : ThreadPoint). p.point) is in
@@ -152,7 +152,7 @@ module _ (s : Shown) (c : ThreadPoint) (a : ℕ) (last : AreLastWriters s c.thre
       last.since row (step.point + 1) high h same named (omega (arith, spot)) (omega (arith, spot, before))
 
   -- and it isn't before a point at which it isn't named yet
-  pub own_after : (high row : ℕ) (step : ThreadPoint) → step ≡ s.point row → step.thread ≡ c.thread → IsAt s (here high) → IsNamed s (here high) a row → (low : ℕ) → low < high → (IsNamed s (here low) a row → ⊥) → low < step.point + 1
+  pub own_after : (high row : ℕ) (step : ThreadPoint) → step ≡ s.point row → step.thread ≡ c.thread → IsThreadPoint s (here high) → IsNamed s (here high) a row → (low : ℕ) → low < high → (IsNamed s (here low) a row → ⊥) → low < step.point + 1
   own_after high row step is own h named low under not_yet =
       let same : (s.point row).thread ≡ c.thread = sym (ap (λ (p : ThreadPoint). p.thread) is) ∙ own in
       let spot : step.point ≡ (s.point row).point = ap (λ (p : ThreadPoint). p.point) is in

@@ -104,21 +104,21 @@ pub record Still : Type 0 where
   pub packet : List ℕ
 
 -- the answer to a request that moves nothing and changes no spots
-abbrev pub IsStill : SessionTold → Still → Request → List ℕ → Type 0
-IsStill t still request.Monitor text = IsMonitored t still.signal (here still.stand) (decoded (drop 6 still.packet)) text
-IsStill t still request text = text ≡ still_reply t.shown still.signal still.stand request
+abbrev pub IsStillAnswer : SessionTold → Still → Request → List ℕ → Type 0
+IsStillAnswer t still request.Monitor text = IsMonitored t still.signal (here still.stand) (decoded (drop 6 still.packet)) text
+IsStillAnswer t still request text = text ≡ still_reply t.shown still.signal still.stand request
 
 abbrev pub IsChanged : SessionTold → Still → Request → Option Spots → List ℕ → Type 0
 IsChanged t still request (Some spots) text = text ≡ codes "OK"
-IsChanged t still request None text = IsStill t still request text
+IsChanged t still request None text = IsStillAnswer t still request text
 
 abbrev pub IsAnswerTo : SessionTold → Still → Request → List ℕ → Type 0
 IsAnswerTo t still (request.Move way name) text = text ≡ move_reply t.shown still.stand way (named_thread t.shown still.stand name)
 IsAnswerTo t still request text = IsChanged t still request (spots_after still.stand.spots request) text
 
 -- whether a text answers a packet; the signal is that which ended the process
-abbrev pub IsAnswer : SessionTold → ℕ → Stand → List ℕ → List ℕ → Type 0
-IsAnswer t signal stand packet text = IsAnswerTo t (record { signal = signal; stand = stand; packet = packet }) (request_of packet) text
+abbrev pub IsStubAnswer : SessionTold → ℕ → Stand → List ℕ → List ℕ → Type 0
+IsStubAnswer t signal stand packet text = IsAnswerTo t (record { signal = signal; stand = stand; packet = packet }) (request_of packet) text
 
 -- which threads are selected after a packet that is no move
 abbrev pub selected_by : Shown → Stand → Request → Stand

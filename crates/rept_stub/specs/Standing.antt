@@ -33,8 +33,8 @@ pub record AreCursors (s : Shown) (cursors : List ℕ) : Type 0 where
   pub within : (t : ℕ) → t < s.threads → get_or cursors t 0 ≤ length (s.rows t)
 
 -- so it is, and the selected threads are some of the run
-abbrev pub IsStanding : Shown → Stand → Type 0
-IsStanding s stand = AreCursors s stand.cursors × (stand.thread < s.threads) × IfSome stand.moving (λ t. t < s.threads)
+abbrev pub IsStandLawful : Shown → Stand → Type 0
+IsStandLawful s stand = AreCursors s stand.cursors × (stand.thread < s.threads) × IfSome stand.moving (λ t. t < s.threads)
 
 -- a run of one thread, which has any name
 abbrev pub is_alone : Shown → Bool

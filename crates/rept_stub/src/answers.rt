@@ -2,11 +2,11 @@
 
 ghost use Rattle.std.specs.Prelude.{◌≡◌, ◌≤◌, ◌<◌, [], drop, length, None, Some, option_map, IfOk, OnOk, OnErr, MatchBool};
 ghost use Rattle.rept_request.specs.Requests.{request_of};
-ghost use Rattle.rept_session.specs.Shown.{IsAt, SameReasons, session_told};
-ghost use Rattle.rept_stub.specs.Answers.{IsAnswer, IsChanged, IsLineAnswered, IsMonitored, IsStill, changed, fixed_reply, halt_by, move_reply, moved, selected_by, spots_after, stand_after, still_reply, threads_still};
+ghost use Rattle.rept_session.specs.Shown.{IsThreadPoint, SameReasons, session_told};
+ghost use Rattle.rept_stub.specs.Answers.{IsChanged, IsLineAnswered, IsMonitored, IsStillAnswer, IsStubAnswer, changed, fixed_reply, halt_by, move_reply, moved, selected_by, spots_after, stand_after, still_reply, threads_still};
 ghost use Rattle.rept_stub.specs.Monitoring.{asked_of};
 ghost use Rattle.rept_stub.specs.Replies.{bytes_told, decoded, memory_bytes, memory_digits};
-ghost use Rattle.rept_stub.specs.Standing.{AreCursors, IsStanding, cursor_of, here, named_thread, start_of};
+ghost use Rattle.rept_stub.specs.Standing.{AreCursors, IsStandLawful, cursor_of, here, named_thread, start_of};
 
 use crate::cursors::Cursors;
 use crate::description::description;
@@ -43,7 +43,7 @@ pub struct Stand {
 /// memory.
 pub fn start<F: Findings>(alloc: Global, findings: &F) -> Result<Stand, OutOfMemory>
     ensures stand { IfOk result (λ stand. stand ≡ start_of (F.shown findings.now) (record { breaks = []; regions = [] })) }
-    ensures within { IfOk result (IsStanding (F.shown findings.now)) }
+    ensures within { IfOk result (IsStandLawful (F.shown findings.now)) }
 {
     let _threads = findings.threads();
     let cursors = Cursors::new(alloc, findings)?;
@@ -73,10 +73,10 @@ pub fn answer_packet<F: Findings>(
     stand: &mut Stand,
     packet: &[u8],
 ) -> Result<Text, OutOfMemory>
-    requires { IsStanding (F.shown findings.old) stand.old }
-    ensures text { IfOk result (IsAnswer (session_told (F.shown findings.old) setting.skipped (F.reasons findings.old)) setting.signal stand.old packet.now) }
+    requires { IsStandLawful (F.shown findings.old) stand.old }
+    ensures text { IfOk result (IsStubAnswer (session_told (F.shown findings.old) setting.skipped (F.reasons findings.old)) setting.signal stand.old packet.now) }
     ensures stand { OnOk result (stand.new ≡ stand_after (F.shown findings.old) stand.old packet.now) }
-    ensures within { IsStanding (F.shown findings.old) stand.new }
+    ensures within { IsStandLawful (F.shown findings.old) stand.new }
     ensures same { F.shown findings.new ≡ F.shown findings.old }
     ensures same_reasons { SameReasons (F.reasons findings.old) (F.reasons findings.new) }
 {
@@ -95,10 +95,10 @@ fn answer_other<F: Findings>(
     stand: &mut Stand,
     packet: &[u8],
 ) -> Result<Text, OutOfMemory>
-    requires { IsStanding (F.shown findings.old) stand.old }
+    requires { IsStandLawful (F.shown findings.old) stand.old }
     ensures text { IfOk result (IsChanged (session_told (F.shown findings.old) setting.skipped (F.reasons findings.old)) (record { signal = setting.signal; stand = stand.old; packet = packet.now }) (request_of packet.now) (spots_after stand.old.spots (request_of packet.now))) }
     ensures stand { OnOk result (stand.new ≡ changed (F.shown findings.old) stand.old (request_of packet.now) (spots_after stand.old.spots (request_of packet.now))) }
-    ensures within { IsStanding (F.shown findings.old) stand.new }
+    ensures within { IsStandLawful (F.shown findings.old) stand.new }
     ensures same { F.shown findings.new ≡ F.shown findings.old }
     ensures same_reasons { SameReasons (F.reasons findings.old) (F.reasons findings.new) }
 {
@@ -120,8 +120,8 @@ fn unchanged<F: Findings>(
     stand: &Stand,
     packet: &[u8],
 ) -> Result<Text, OutOfMemory>
-    requires { IsStanding (F.shown findings.old) stand.now }
-    ensures text { IfOk result (IsStill (session_told (F.shown findings.old) setting.skipped (F.reasons findings.old)) (record { signal = setting.signal; stand = stand.now; packet = packet.now }) (request_of packet.now)) }
+    requires { IsStandLawful (F.shown findings.old) stand.now }
+    ensures text { IfOk result (IsStillAnswer (session_told (F.shown findings.old) setting.skipped (F.reasons findings.old)) (record { signal = setting.signal; stand = stand.now; packet = packet.now }) (request_of packet.now)) }
     ensures same { F.shown findings.new ≡ F.shown findings.old }
     ensures same_reasons { SameReasons (F.reasons findings.old) (F.reasons findings.new) }
 {
@@ -140,7 +140,7 @@ fn cursor_of<F: Findings>(findings: &F, stand: &Stand, thread: u32) -> ThreadPoi
     requires cursors { AreCursors (F.shown findings.now) stand.now.cursors }
     requires thread { thread < (F.shown findings.now).threads }
     ensures value { result ≡ cursor_of stand.now thread }
-    ensures within { IsAt (F.shown findings.now) result }
+    ensures within { IsThreadPoint (F.shown findings.now) result }
 {
     let _threads = findings.threads();
     ThreadPoint {
@@ -151,9 +151,9 @@ fn cursor_of<F: Findings>(findings: &F, stand: &Stand, thread: u32) -> ThreadPoi
 
 /// That of the selected thread.
 fn here<F: Findings>(findings: &F, stand: &Stand) -> ThreadPoint
-    requires { IsStanding (F.shown findings.now) stand.now }
+    requires { IsStandLawful (F.shown findings.now) stand.now }
     ensures value { result ≡ here stand.now }
-    ensures within { IsAt (F.shown findings.now) result }
+    ensures within { IsThreadPoint (F.shown findings.now) result }
 {
     cursor_of(findings, stand, stand.thread)
 }
@@ -166,10 +166,10 @@ fn answer_move<F: Findings>(
     way: Way,
     name: ThreadName,
 ) -> Result<Text, OutOfMemory>
-    requires { IsStanding (F.shown findings.now) stand.old }
+    requires { IsStandLawful (F.shown findings.now) stand.old }
     ensures text { IfOk result (λ text. text ≡ move_reply (F.shown findings.now) stand.old way (named_thread (F.shown findings.now) stand.old name)) }
     ensures stand { OnOk result (stand.new ≡ moved (F.shown findings.now) stand.old way (named_thread (F.shown findings.now) stand.old name)) }
-    ensures within { IsStanding (F.shown findings.now) stand.new }
+    ensures within { IsStandLawful (F.shown findings.now) stand.new }
 {
     match named_thread(findings, stand, name) {
         Some(thread) => move_thread(alloc, findings, stand, way, thread),
@@ -185,11 +185,11 @@ fn move_thread<F: Findings>(
     way: Way,
     thread: u32,
 ) -> Result<Text, OutOfMemory>
-    requires standing { IsStanding (F.shown findings.now) stand.old }
+    requires standing { IsStandLawful (F.shown findings.now) stand.old }
     requires thread { thread < (F.shown findings.now).threads }
     ensures text { IfOk result (λ text. text ≡ move_reply (F.shown findings.now) stand.old way (Some thread)) }
     ensures stand { OnOk result (stand.new ≡ moved (F.shown findings.now) stand.old way (Some thread)) }
-    ensures within { IsStanding (F.shown findings.now) stand.new }
+    ensures within { IsStandLawful (F.shown findings.now) stand.new }
 {
     let at = cursor_of(findings, stand, thread);
     let halt = halt_by(alloc, findings, &stand.spots, way, at)?;
@@ -201,9 +201,9 @@ fn move_thread<F: Findings>(
 
 /// Selects the thread that a packet names.
 fn select<F: Findings>(findings: &F, stand: &mut Stand, request: Request)
-    requires { IsStanding (F.shown findings.now) stand.old }
+    requires { IsStandLawful (F.shown findings.now) stand.old }
     ensures stand { stand.new ≡ selected_by (F.shown findings.now) stand.old request }
-    ensures within { IsStanding (F.shown findings.now) stand.new }
+    ensures within { IsStandLawful (F.shown findings.now) stand.new }
 {
     match request {
         Request::SelectThread(name) => {
@@ -229,7 +229,7 @@ fn monitor<F: Findings>(
     at: ThreadPoint,
     packet: &[u8],
 ) -> Result<Text, OutOfMemory>
-    requires { IsAt (F.shown findings.old) at }
+    requires { IsThreadPoint (F.shown findings.old) at }
     ensures text { IfOk result (IsMonitored (session_told (F.shown findings.old) setting.skipped (F.reasons findings.old)) setting.signal at (decoded (drop 6 packet.now))) }
     ensures same { F.shown findings.new ≡ F.shown findings.old }
     ensures same_reasons { SameReasons (F.reasons findings.old) (F.reasons findings.new) }
@@ -257,7 +257,7 @@ fn line_answer<F: Findings>(
     at: ThreadPoint,
     line: &[u8],
 ) -> Result<Text, OutOfMemory>
-    requires { IsAt (F.shown findings.old) at }
+    requires { IsThreadPoint (F.shown findings.old) at }
     ensures text { IfOk result (IsLineAnswered (session_told (F.shown findings.old) setting.skipped (F.reasons findings.old)) setting.signal at line.now (asked_of line.now)) }
     ensures same { F.shown findings.new ≡ F.shown findings.old }
     ensures same_reasons { SameReasons (F.reasons findings.old) (F.reasons findings.new) }
@@ -281,7 +281,7 @@ fn halt_by<F: Findings>(
     way: Way,
     at: ThreadPoint,
 ) -> Result<Halt, OutOfMemory>
-    requires { IsAt (F.shown findings.now) at }
+    requires { IsThreadPoint (F.shown findings.now) at }
     ensures value { IfOk result (λ halt. halt ≡ halt_by (F.shown findings.now) spots.now way at) }
     ensures within { IfOk result (λ halt. halt.point ≤ length ((F.shown findings.now).rows at.thread)) }
 {
@@ -345,7 +345,7 @@ fn threads_still<F: Findings>(
     stand: &Stand,
     request: Request,
 ) -> Result<Text, OutOfMemory>
-    requires { IsStanding (F.shown findings.now) stand.now }
+    requires { IsStandLawful (F.shown findings.now) stand.now }
     ensures { IfOk result (λ text. text ≡ threads_still (F.shown findings.now) stand.now request) }
 {
     match request {
@@ -369,7 +369,7 @@ fn still<F: Findings>(
     stand: &Stand,
     request: Request,
 ) -> Result<Text, OutOfMemory>
-    requires { IsStanding (F.shown findings.now) stand.now }
+    requires { IsStandLawful (F.shown findings.now) stand.now }
     ensures { IfOk result (λ text. text ≡ still_reply (F.shown findings.now) signal stand.now request) }
 {
     match request {
@@ -402,7 +402,7 @@ fn memory<F: Findings>(
     address: u32,
     count: u32,
 ) -> Result<Text, OutOfMemory>
-    requires { IsAt (F.shown findings.now) at }
+    requires { IsThreadPoint (F.shown findings.now) at }
     ensures { IfOk result (λ text. text ≡ memory_digits (bytes_told (F.shown findings.now) at address count)) }
 {
     let known = known_bytes(alloc, findings, moment_of(findings, at), address, count)?;
@@ -416,7 +416,7 @@ fn bytes<F: Findings>(
     address: u32,
     count: u32,
 ) -> Result<Text, OutOfMemory>
-    requires { IsAt (F.shown findings.now) at }
+    requires { IsThreadPoint (F.shown findings.now) at }
     ensures { IfOk result (λ text. text ≡ memory_bytes (bytes_told (F.shown findings.now) at address count)) }
 {
     let known = known_bytes(alloc, findings, moment_of(findings, at), address, count)?;

@@ -3,7 +3,7 @@
 ghost use Rattle.std.specs.Prelude.{◌≡◌, ◌≤◌, ◌<◌, ◌++◌, ◌∷◌, [], length, true, IfOk, IfSome, OnOk};
 ghost use Rattle.rept_stub.specs.Monitoring.{asked_of, help_text, is_writers, own_before, row_before, signal_text, writers_asked, writers_text};
 ghost use Rattle.rept_number.specs.Numbers.{number_of_word};
-ghost use Rattle.rept_session.specs.Shown.{IsAt};
+ghost use Rattle.rept_session.specs.Shown.{IsThreadPoint};
 ghost use Rattle.rept_session.specs.Texts.{of_thread, step_text, writer_line};
 
 use crate::moves::{before, named_row, point_at, writer_at};
@@ -131,7 +131,7 @@ fn own_before(at: ThreadPoint, row: ThreadPoint) -> Option<u32>
 
 /// The row that the report names of a byte at a point of a thread, where it is the thread's own.
 fn row_before<F: Findings>(findings: &F, at: ThreadPoint, address: u32) -> Option<u32>
-    requires { IsAt (F.shown findings.now) at }
+    requires { IsThreadPoint (F.shown findings.now) at }
     ensures value { result ≡ row_before (F.shown findings.now) at address }
     ensures within { IfSome result (λ row. row < at.point) }
 {
@@ -149,7 +149,7 @@ pub fn writers_text<F: Findings>(
     at: ThreadPoint,
     address: u32,
 ) -> Result<Text, OutOfMemory>
-    requires { IsAt (F.shown findings.now) at }
+    requires { IsThreadPoint (F.shown findings.now) at }
     ensures { IfOk result (λ text. text ≡ writers_text (F.shown findings.now) at address) }
 {
     let mut text = Text::new(alloc);

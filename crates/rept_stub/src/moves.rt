@@ -4,7 +4,7 @@ ghost use Rattle.std.specs.Prelude.{◌≡◌, ◌≤◌, ◌<◌, ◌+◌, ◌-
 ghost use Rattle.std.specs.List.{find, list_any, range_with_len};
 ghost use Rattle.std.specs.Option.{option_or};
 ghost use Rattle.rept_session.specs.LastWriters.{AreLastWriters, IsNamed, named_row, writer_at};
-ghost use Rattle.rept_session.specs.Shown.{IsAt, Shown};
+ghost use Rattle.rept_session.specs.Shown.{IsThreadPoint, Shown};
 ghost use Rattle.rept_session.specs.Texts.{at};
 ghost use Rattle.rept_stub.specs.Halts.{NamesNoOther, before, break_before, came, continued, continued_back, halt, has_changed, has_open, is_break, is_open, is_row, is_stop, is_touched, is_written, last_below, last_write, later, latest, names, point_before, stepped, stepped_back, stop_by, wanted, write_before, written};
 
@@ -34,7 +34,7 @@ pub fn point_at(here: ThreadPoint, point: u32) -> ThreadPoint
 
 /// What a report tells, at a point of a thread, of the last writer of a byte.
 pub fn writer_at<F: Findings>(findings: &F, at: ThreadPoint, address: u32) -> Writer
-    requires { IsAt (F.shown findings.now) at }
+    requires { IsThreadPoint (F.shown findings.now) at }
     ensures value { result ≡ writer_at (F.shown findings.now) at address }
     ensures last { AreLastWriters (F.shown findings.now) at.thread address }
 {
@@ -63,7 +63,7 @@ fn is_row(named: Option<u32>, row: u32) -> bool
 
 /// Whether a point names this row.
 fn names<F: Findings>(findings: &F, at: ThreadPoint, address: u32, row: u32) -> bool
-    requires { IsAt (F.shown findings.now) at }
+    requires { IsThreadPoint (F.shown findings.now) at }
     ensures { result ≡ names (F.shown findings.now) at address row }
 {
     is_row(named_row(writer_at(findings, at, address)), row)
@@ -72,7 +72,7 @@ fn names<F: Findings>(findings: &F, at: ThreadPoint, address: u32, row: u32) -> 
 /// Whether the row that is named at a point came since the point before it.
 fn came<F: Findings>(findings: &F, at: ThreadPoint, address: u32, row: u32) -> bool
     requires some { 0 < at.point }
-    requires at { IsAt (F.shown findings.now) at }
+    requires at { IsThreadPoint (F.shown findings.now) at }
     ensures { result ≡ came (F.shown findings.now) at address (Some row) }
 {
     let step = findings.point(row);
@@ -86,7 +86,7 @@ fn came<F: Findings>(findings: &F, at: ThreadPoint, address: u32, row: u32) -> b
 /// Whether a byte was written since the point before, or may have been.
 fn is_written<F: Findings>(findings: &F, at: ThreadPoint, address: u32) -> bool
     requires some { 0 < at.point }
-    requires at { IsAt (F.shown findings.now) at }
+    requires at { IsThreadPoint (F.shown findings.now) at }
     ensures { result ≡ is_written (F.shown findings.now) at address }
 {
     match named_row(writer_at(findings, at, address)) {
@@ -98,7 +98,7 @@ fn is_written<F: Findings>(findings: &F, at: ThreadPoint, address: u32) -> bool
 /// The first of the bytes of which that is so.
 fn written<F: Findings>(findings: &F, at: ThreadPoint, addresses: &[u32]) -> Option<u32>
     requires some { 0 < at.point }
-    requires at { IsAt (F.shown findings.now) at }
+    requires at { IsThreadPoint (F.shown findings.now) at }
     ensures { result ≡ written (F.shown findings.now) at addresses.now }
 {
     for address in addresses {
@@ -120,7 +120,7 @@ fn stop_by(address: Option<u32>) -> Stop
 
 /// One step forward. `addresses` are those of the bytes that are watched.
 pub fn stepped<F: Findings>(findings: &F, addresses: &[u32], at: ThreadPoint) -> Halt
-    requires { IsAt (F.shown findings.now) at }
+    requires { IsThreadPoint (F.shown findings.now) at }
     ensures value { result ≡ stepped (F.shown findings.now) addresses.now at }
     ensures within { result.point ≤ length ((F.shown findings.now).rows at.thread) }
 {
@@ -139,7 +139,7 @@ pub fn stepped<F: Findings>(findings: &F, addresses: &[u32], at: ThreadPoint) ->
 
 /// One step back.
 pub fn stepped_back<F: Findings>(findings: &F, addresses: &[u32], at: ThreadPoint) -> Halt
-    requires { IsAt (F.shown findings.now) at }
+    requires { IsThreadPoint (F.shown findings.now) at }
     ensures value { result ≡ stepped_back (F.shown findings.now) addresses.now at }
     ensures within { result.point ≤ at.point }
 {
@@ -158,7 +158,7 @@ pub fn stepped_back<F: Findings>(findings: &F, addresses: &[u32], at: ThreadPoin
 
 /// Whether a breakpoint stands at a point.
 fn is_break<F: Findings>(findings: &F, breaks: &[u32], at: ThreadPoint) -> bool
-    requires { IsAt (F.shown findings.now) at }
+    requires { IsThreadPoint (F.shown findings.now) at }
     ensures { result ≡ is_break (F.shown findings.now) breaks.now at }
 {
     let here = address_at(findings, at);
@@ -173,14 +173,14 @@ fn has_address(addresses: &[u32], wanted: u32) -> bool
 
 /// Whether rows may write a byte, and none is named as the last one.
 fn is_open<F: Findings>(findings: &F, at: ThreadPoint, address: u32) -> bool
-    requires { IsAt (F.shown findings.now) at }
+    requires { IsThreadPoint (F.shown findings.now) at }
     ensures { result ≡ is_open (writer_at (F.shown findings.now) at address) }
 {
     matches!(writer_at(findings, at, address), Writer::Several)
 }
 
 fn has_open<F: Findings>(findings: &F, at: ThreadPoint, addresses: &[u32]) -> bool
-    requires { IsAt (F.shown findings.now) at }
+    requires { IsThreadPoint (F.shown findings.now) at }
     ensures { result ≡ has_open (F.shown findings.now) at addresses.now }
 {
     for address in addresses {
@@ -193,7 +193,7 @@ fn has_open<F: Findings>(findings: &F, at: ThreadPoint, addresses: &[u32]) -> bo
 
 /// The first point after this one at which a breakpoint stands.
 fn break_after<F: Findings>(findings: &F, breaks: &[u32], here: ThreadPoint) -> Option<u32>
-    requires { IsAt (F.shown findings.now) here }
+    requires { IsThreadPoint (F.shown findings.now) here }
     ensures value { result ≡ find (λ point. is_break (F.shown findings.now) breaks.now (at here.thread point)) (range_with_len (here.point + 1) (length ((F.shown findings.now).rows here.thread) - here.point)) }
     ensures within { IfSome result (λ found. (here.point < found) × (found ≤ length ((F.shown findings.now).rows here.thread))) }
 {
@@ -219,7 +219,7 @@ fn has_changed(known: Option<u32>, later: Writer) -> bool
 
 /// The point after a row that is named, where that is a row of the thread itself: it is named from there on. Else the point at which it is named.
 fn since<F: Findings>(findings: &F, here: ThreadPoint, address: u32, row: u32) -> u32
-    requires here { IsAt (F.shown findings.now) here }
+    requires here { IsThreadPoint (F.shown findings.now) here }
     requires last { AreLastWriters (F.shown findings.now) here.thread address }
     requires named { IsNamed (F.shown findings.now) here address row }
     ensures within { result ≤ here.point }
@@ -243,8 +243,8 @@ fn changed_by<F: Findings>(
     point: u32,
     address: u32,
 ) -> Option<u32>
-    requires here { IsAt (F.shown findings.now) here }
-    requires later { IsAt (F.shown findings.now) (at here.thread point) }
+    requires here { IsThreadPoint (F.shown findings.now) here }
+    requires later { IsThreadPoint (F.shown findings.now) (at here.thread point) }
     requires known { known ≡ named_row (writer_at (F.shown findings.now) here address) }
     ensures none { result ≡ None → has_changed (F.shown findings.now) here address (writer_at (F.shown findings.now) (at here.thread point) address) ≡ false }
     ensures within { IfSome result (λ found. found ≤ point) }
@@ -269,9 +269,9 @@ fn first_write<F: Findings>(
     bound: u32,
     address: u32,
 ) -> Option<u32>
-    requires here { IsAt (F.shown findings.now) here }
+    requires here { IsThreadPoint (F.shown findings.now) here }
     requires order { here.point ≤ bound }
-    requires bound { IsAt (F.shown findings.now) (at here.thread bound) }
+    requires bound { IsThreadPoint (F.shown findings.now) (at here.thread bound) }
     ensures value { result ≡ find (λ point. is_touched (F.shown findings.now) (at here.thread point) address) (range_with_len (here.point + 1) (bound - here.point)) }
     ensures within { IfSome result (λ found. (here.point < found) × (found ≤ bound)) }
 {
@@ -294,10 +294,10 @@ fn first_change<F: Findings>(
     changed: u32,
     address: u32,
 ) -> u32
-    requires here { IsAt (F.shown findings.now) here }
+    requires here { IsThreadPoint (F.shown findings.now) here }
     requires known { known ≡ named_row (writer_at (F.shown findings.now) here address) }
     requires order { here.point < changed }
-    requires changed { IsAt (F.shown findings.now) (at here.thread changed) }
+    requires changed { IsThreadPoint (F.shown findings.now) (at here.thread changed) }
     requires new { has_changed (F.shown findings.now) here address (writer_at (F.shown findings.now) (at here.thread changed) address) ≡ true }
     requires last { AreLastWriters (F.shown findings.now) here.thread address }
     ensures value { (bound : ℕ) → changed ≤ bound → Some result ≡ find (λ point. is_touched (F.shown findings.now) (at here.thread point) address) (range_with_len (here.point + 1) (bound - here.point)) }
@@ -336,7 +336,7 @@ fn earlier<F: Findings>(
     first: Option<u32>,
     address: u32,
 ) -> Option<u32>
-    requires here { IsAt (F.shown findings.now) here }
+    requires here { IsThreadPoint (F.shown findings.now) here }
     requires within { IfSome first (λ found. (here.point < found) × (found ≤ length ((F.shown findings.now).rows here.thread))) }
     ensures value { (test : ℕ → Bool) → first ≡ find test (range_with_len (here.point + 1) (length ((F.shown findings.now).rows here.thread) - here.point)) → result ≡ find (λ point. test point || is_touched (F.shown findings.now) (at here.thread point) address) (range_with_len (here.point + 1) (length ((F.shown findings.now).rows here.thread) - here.point)) }
     ensures within { IfSome result (λ found. (here.point < found) × (found ≤ length ((F.shown findings.now).rows here.thread))) }
@@ -369,7 +369,7 @@ fn first_stop<F: Findings>(
     addresses: &[u32],
     here: ThreadPoint,
 ) -> Option<u32>
-    requires { IsAt (F.shown findings.now) here }
+    requires { IsThreadPoint (F.shown findings.now) here }
     ensures value { result ≡ find (λ point. is_stop (F.shown findings.now) (wanted breaks.now addresses.now) (at here.thread point)) (range_with_len (here.point + 1) (length ((F.shown findings.now).rows here.thread) - here.point)) }
     ensures within { IfSome result (λ found. (here.point < found) × (found ≤ length ((F.shown findings.now).rows here.thread))) }
 {
@@ -387,7 +387,7 @@ pub fn continued<F: Findings>(
     addresses: &[u32],
     at: ThreadPoint,
 ) -> Halt
-    requires { IsAt (F.shown findings.now) at }
+    requires { IsThreadPoint (F.shown findings.now) at }
     ensures value { result ≡ continued (F.shown findings.now) (wanted breaks.now addresses.now) at }
     ensures within { result.point ≤ length ((F.shown findings.now).rows at.thread) }
 {
@@ -403,7 +403,7 @@ pub fn continued<F: Findings>(
 /// A stop at a point.
 fn stop_at<F: Findings>(findings: &F, addresses: &[u32], at: ThreadPoint) -> Halt
     requires some { 0 < at.point }
-    requires at { IsAt (F.shown findings.now) at }
+    requires at { IsThreadPoint (F.shown findings.now) at }
     ensures { result ≡ halt at.point (stop_by (written (F.shown findings.now) at addresses.now)) }
 {
     Halt {
@@ -414,7 +414,7 @@ fn stop_at<F: Findings>(findings: &F, addresses: &[u32], at: ThreadPoint) -> Hal
 
 /// The last point before this one at which a breakpoint stands.
 fn break_before<F: Findings>(findings: &F, breaks: &[u32], at: ThreadPoint) -> Option<u32>
-    requires { IsAt (F.shown findings.now) at }
+    requires { IsThreadPoint (F.shown findings.now) at }
     ensures value { result ≡ break_before (F.shown findings.now) breaks.now at }
     ensures within { IfSome result (λ found. found < at.point) }
 {
@@ -435,7 +435,7 @@ fn unnamed_before<F: Findings>(
     address: u32,
     row: u32,
 ) -> Option<u32>
-    requires { IsAt (F.shown findings.now) here }
+    requires { IsThreadPoint (F.shown findings.now) here }
     ensures value { result ≡ last_below (λ point. not (names (F.shown findings.now) (at here.thread point) address row)) here.point }
     ensures within { IfSome result (λ found. found < here.point) }
 {
@@ -451,7 +451,7 @@ fn unnamed_before<F: Findings>(
 
 /// The last point before which a row came that is named.
 fn point_before<F: Findings>(findings: &F, at: ThreadPoint, address: u32, row: u32) -> Option<u32>
-    requires { IsAt (F.shown findings.now) at }
+    requires { IsThreadPoint (F.shown findings.now) at }
     ensures value { result ≡ point_before (F.shown findings.now) at address (Some row) }
     ensures within { IfSome result (λ found. found < at.point) }
 {
@@ -472,7 +472,7 @@ pub fn before(point: u32, row: u32) -> Option<u32>
 
 /// The last point before the last write of a byte that the report names.
 fn write_before<F: Findings>(findings: &F, at: ThreadPoint, address: u32) -> Option<u32>
-    requires { IsAt (F.shown findings.now) at }
+    requires { IsThreadPoint (F.shown findings.now) at }
     ensures value { result ≡ write_before (F.shown findings.now) at address }
     ensures within { IfSome result (λ found. found < at.point) }
 {
@@ -497,7 +497,7 @@ fn later(best: Option<Written>, found: Option<u32>, address: u32) -> Option<Writ
 
 /// The last of the writes of these bytes that the report names before a point.
 fn last_write<F: Findings>(findings: &F, at: ThreadPoint, addresses: &[u32]) -> Option<Written>
-    requires { IsAt (F.shown findings.now) at }
+    requires { IsThreadPoint (F.shown findings.now) at }
     ensures value { result ≡ last_write (F.shown findings.now) at addresses.now }
     ensures within { IfSome result (λ write. write.point < at.point) }
 {
@@ -565,7 +565,7 @@ pub fn continued_back<F: Findings>(
     addresses: &[u32],
     at: ThreadPoint,
 ) -> Halt
-    requires { IsAt (F.shown findings.now) at }
+    requires { IsThreadPoint (F.shown findings.now) at }
     ensures value { result ≡ continued_back (F.shown findings.now) (wanted breaks.now addresses.now) at }
     ensures within { result.point ≤ at.point }
 {

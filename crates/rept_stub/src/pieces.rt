@@ -2,7 +2,7 @@
 
 ghost use Rattle.std.specs.Prelude.{◌≡◌, ◌++◌, ◌<◌, ◌+◌, min, map, codes, IfOk, OnOk, option_map};
 ghost use Rattle.std.specs.List.{flat_map, range_with_len};
-ghost use Rattle.rept_session.specs.Shown.{IsAt};
+ghost use Rattle.rept_session.specs.Shown.{IsThreadPoint};
 ghost use Rattle.rept_session.specs.Texts.{wrapped};
 ghost use Rattle.rept_stub.specs.Replies.{big_word, decoded, digits_of, known_bytes, known_run, little_word, memory_bytes, memory_digits, part_reply, register_reply, registers_reply, signal_reply, stop_part, text_reply, value_digits};
 
@@ -68,7 +68,7 @@ pub fn registers<F: Findings>(
     findings: &F,
     at: ThreadPoint,
 ) -> Result<Text, OutOfMemory>
-    requires { IsAt (F.shown findings.now) at }
+    requires { IsThreadPoint (F.shown findings.now) at }
     ensures { IfOk result (λ text. text ≡ registers_reply (F.shown findings.now) at) }
 {
     let mut text = Text::new(alloc);
@@ -90,7 +90,7 @@ pub fn register<F: Findings>(
     at: ThreadPoint,
     number: u32,
 ) -> Result<Text, OutOfMemory>
-    requires { IsAt (F.shown findings.now) at }
+    requires { IsThreadPoint (F.shown findings.now) at }
     ensures { IfOk result (λ text. text ≡ register_reply (F.shown findings.now) at number) }
 {
     let mut text = Text::new(alloc);
@@ -193,7 +193,7 @@ pub fn push_signal<F: Findings>(
     signal: u16,
     at: ThreadPoint,
 ) -> Result<(), OutOfMemory>
-    requires { IsAt (F.shown findings.now) at }
+    requires { IsThreadPoint (F.shown findings.now) at }
     ensures { OnOk result (text.new ≡ text.old ++ signal_reply (F.shown findings.now) signal at) }
 {
     if at.point != last_point(findings, at.thread) {

@@ -3,8 +3,8 @@
 ghost use Rattle.std.specs.Prelude.{◌≡◌, ◌-◌, ◌<◌, ◌∷◌, ◌++◌, IfOk, IfSome, OnOk};
 ghost use Rattle.std.specs.List.{flat_map, range_with_len};
 ghost use Rattle.std.specs.Option.{unwrap_or};
-ghost use Rattle.rept_session.specs.Shown.{IsAt};
-ghost use Rattle.rept_stub.specs.Standing.{IsStanding, is_alone, named_thread, thread_of};
+ghost use Rattle.rept_session.specs.Shown.{IsThreadPoint};
+ghost use Rattle.rept_stub.specs.Standing.{IsStandLawful, is_alone, named_thread, thread_of};
 ghost use Rattle.rept_stub.specs.Threads.{about, about_reply, number_text, reason_reply, stop_reply, there_reply, thread_part, thread_reply, threads_reply};
 
 use crate::answers::Stand;
@@ -24,7 +24,7 @@ fn is_alone<F: Findings>(findings: &F) -> bool
 
 /// The thread that a packet names. None where no thread has the name.
 pub fn named_thread<F: Findings>(findings: &F, stand: &Stand, name: ThreadName) -> Option<u32>
-    requires { IsStanding (F.shown findings.now) stand.now }
+    requires { IsStandLawful (F.shown findings.now) stand.now }
     ensures value { result ≡ named_thread (F.shown findings.now) stand.now name }
     ensures within { IfSome result (λ thread. thread < (F.shown findings.now).threads) }
 {
@@ -106,7 +106,7 @@ pub fn reason<F: Findings>(
     signal: u16,
     at: ThreadPoint,
 ) -> Result<Text, OutOfMemory>
-    requires { IsAt (F.shown findings.now) at }
+    requires { IsThreadPoint (F.shown findings.now) at }
     ensures { IfOk result (λ text. text ≡ reason_reply (F.shown findings.now) signal at) }
 {
     let mut text = Text::new(alloc);

@@ -15,9 +15,9 @@ use Rattle.rept_path.specs.Gap.{Goal, Edge, row, call_row, by_successor, by_flow
 use Rattle.rept_path.specs.Moves.{Stand, way_by, site, successor, ◌>>=◌}
 use Rattle.rept_path.proofs.MoveLemmas.{bind_ok}
 use Rattle.rept_slices.specs.Stamps.{address_of}
-use Rattle.rept_slices.specs.Stretches.{Ran}
+use Rattle.rept_slices.specs.Stretches.{RanSlice}
 use Rattle.rept_slices.specs.Joins.{ThreadGround, stand_at, bridge}
-use Rattle.rept_threads.specs.Linking.{Goes, onward_to, Ready}
+use Rattle.rept_threads.specs.Linking.{GoesFromTo, onward_to, Ready}
 use Rattle.rept_threads.proofs.Leading.{Leads, leads_goes}
 
 one_or_two : (code : Code) (e : Edge) (n : ℕ) (c : Bool) (rows : List StepRow) → cond (n == e.to) (Ok (row e n false ∷ [])) (cond c (Ok (call_row code n e.to ∷ row e n false ∷ [])) (Err e.otherwise)) ≡ Ok rows → Leads rows e.at e.to
@@ -63,11 +63,11 @@ module _ (code : Code) where
       fits false xs l h = absurd (cc)
 
 -- where what is joined leads
-abbrev pub target : ThreadGround → Option Ran → ℕ
+abbrev pub target : ThreadGround → Option RanSlice → ℕ
 target e None = e.pc
 target e (Some q) = address_of q.told.start
 
-pub bridge_goes : (e : ThreadGround) (count : ℕ) (r : Ran) (o : Option Ran) (more : List StepRow) → bridge e count r o ≡ Ok more → Goes (reverse more) (onward_to r o) (target e o)
+pub bridge_goes : (e : ThreadGround) (count : ℕ) (r : RanSlice) (o : Option RanSlice) (more : List StepRow) → bridge e count r o ≡ Ok more → GoesFromTo (reverse more) (onward_to r o) (target e o)
 bridge_goes e count r None more h =
     let s = stand_at e.packets r count in
     leads_goes more r.last.at e.pc (gap_leads e.code s (record { address = e.pc; otherwise = End s.place.at e.pc }) more h)
@@ -75,18 +75,18 @@ bridge_goes e count r (Some q) more h = go (is_none q.told.inside) h where
   a : ℕ
   a = address_of q.told.start
 
-  go : (b : Bool) → cond b (gap_to_start e.code (stand_at q.told.number r count) a) (Ok []) ≡ Ok more → Goes (reverse more) (cond b r.last.at a) a
+  go : (b : Bool) → cond b (gap_to_start e.code (stand_at q.told.number r count) a) (Ok []) ≡ Ok more → GoesFromTo (reverse more) (cond b r.last.at a) a
   go true k =
       let s = stand_at q.told.number r count in
       leads_goes more r.last.at a (gap_leads e.code s (record { address = a; otherwise = Gap s.packet s.place.at a }) more k)
-  go false k = let is : [] ≡ more = cc in subst (λ (xs : List StepRow). Goes (reverse xs) a a) is refl
+  go false k = let is : [] ≡ more = cc in subst (λ (xs : List StepRow). GoesFromTo (reverse xs) a a) is refl
 
-pub ready_of : (e : ThreadGround) (o : Option Ran) (rows : List StepRow) → EndBefore rows (target e o) → Ready rows o
+pub ready_of : (e : ThreadGround) (o : Option RanSlice) (rows : List StepRow) → EndBefore rows (target e o) → Ready rows o
 ready_of e None rows h = tt
 ready_of e (Some q) rows h = h
 
 -- one row of those that lead on
-pub row_of : (rows : List StepRow) (i : ℕ) (r : StepRow) (a b : ℕ) → i < length rows → r ≡ get_or rows i r → Goes (drop i rows) a b → (r.at ≡ a) × Goes (drop (i + 1) rows) r.next b
+pub row_of : (rows : List StepRow) (i : ℕ) (r : StepRow) (a b : ℕ) → i < length rows → r ≡ get_or rows i r → GoesFromTo (drop i rows) a b → (r.at ≡ a) × GoesFromTo (drop (i + 1) rows) r.next b
 row_of rows i r a b within at g =
     let here : drop i rows ≡ r ∷ drop (i + 1) rows = at_drop_more (λ (xs : List StepRow). xs) rows i r within ∙ ap (λ (x : StepRow). x ∷ drop (i + 1) rows) (sym at) in
-    subst (λ (xs : List StepRow). Goes xs a b) here g
+    subst (λ (xs : List StepRow). GoesFromTo xs a b) here g

@@ -14,7 +14,7 @@ use Rattle.rept_path.specs.Packets.{begins, bits, waits_after}
 use Rattle.rept_path.specs.State.{here, Counts}
 use Rattle.rept_slices.specs.Stamps.{is_start, closes, running_after}
 use Rattle.rept_slices.specs.Parts.{ToldSlice, inner, told_from}
-use Rattle.rept_slices.specs.Stretches.{same_stretch, stretch, Walked, last_place, within, rows_of, Ran, ran_by}
+use Rattle.rept_slices.specs.Stretches.{same_stretch, stretch, StretchLegs, last_place, within, rows_of, RanSlice, ran_by}
 use Rattle.rept_slices.specs.Joins.{ran_rows}
 use Rattle.rept_slices.specs.Entries.{AreEntriesOf}
 use Rattle.rept_threads.specs.Kept.{IsRan, AreRan, kept_by}
@@ -71,7 +71,7 @@ front_few j ls =
     let n = ap (length {A = StepRow}) parts in
     omega (arith, n, length-append (rows_by (take j ls)) (rows_by (drop j ls)))
 
-module _ (code : Code) (w : Walked) (all : List Kept) (number total : ℕ) (kept : Kept)
+module _ (code : Code) (w : StretchLegs) (all : List Kept) (number total : ℕ) (kept : Kept)
     (there : slice_get all number ≡ Some kept)
     (last : here kept.walk ≡ record { at = (last_place code w).at; rows = []; branches = (last_place code w).branches })
     (bits_are : kept.walk.bits.items ≡ bits code (reverse (stretch w.head))) (size_is : length kept.rows ≡ total) (empty : kept.walk.steps ≡ []) (counts : Counts kept.walk) where
@@ -110,7 +110,7 @@ module _ (code : Code) (w : Walked) (all : List Kept) (number total : ℕ) (kept
     pub cut : Cut false (same_stretch false later) ls
 
   -- the slices of it, as they are kept
-  abbrev mine : List ToldSlice → List Ran
+  abbrev mine : List ToldSlice → List RanSlice
   mine ts = map (ran_by code w) (filter (within w) ts)
 
   abbrev Kepts : ℕ → List Packet → List (List StepRow) → List Entry → List ToldSlice → Type 0
@@ -253,7 +253,7 @@ module _ (code : Code) (w : Walked) (all : List Kept) (number total : ℕ) (kept
               empty = empty;
               counts = counts;
             } in
-            let sums = sum_by-cons (λ (x : Ran). length x.rows) (ran_by code w here_told) (mine (rest ++ others)) in
+            let sums = sum_by-cons (λ (x : RanSlice). length x.rows) (ran_by code w here_told) (mine (rest ++ others)) in
             let rest_sum = r.1 in
             subst (λ (ts : List ToldSlice). AreRan all (kept_by number total ((n + length l) ∷ counts_from (n + length l) (same_stretch false later) ls) (f ∷ fs)) (map (ran_by code w) ts) × (n + length l + ran_rows (map (ran_by code w) ts) ≡ total)) (sym inside_it)
             ((is, r.0), omega (arith, sums, rest_sum, at, up, own_size))

@@ -3,7 +3,7 @@ use Rattle.std.proofs.Common.{ℕ, ◌+◌, ◌≤◌, List, [], ◌∷◌, leng
 use Rattle.std.specs.List.{sum_by}
 use Rattle.std.proofs.lemmas.List.Sums.{sum_by-cons}
 use Rattle.rept_trace.specs.Header.{several_streams, heading_of, header_bytes}
-use Rattle.rept_trace.specs.Streams.{StreamFile, IsStreamThen, AreStreamsThen, Opens}
+use Rattle.rept_trace.specs.Streams.{StreamFile, IsStreamThen, AreStreamsThen, OpensStreams}
 
 stream_fits : (bytes stream rest : List ℕ) → IsStreamThen bytes stream rest → length stream + length rest ≤ length bytes
 stream_fits bytes stream rest h =
@@ -18,7 +18,7 @@ streams_fit bytes (stream ∷ streams) rest h =
     let f = stream_fits bytes stream h.0 h.1 in
     omega (arith, i, f, sum_by-cons (λ (bs : List ℕ). length bs) stream streams)
 
-pub file_fits : (bytes : List ℕ) (file : StreamFile) → Opens bytes (Ok file) → sum_by (λ bs. length bs) file.streams ≤ length bytes
+pub file_fits : (bytes : List ℕ) (file : StreamFile) → OpensStreams bytes (Ok file) → sum_by (λ bs. length bs) file.streams ≤ length bytes
 file_fits bytes file h =
     let i = streams_fit h.0 file.streams [] h.2 in
     let e = ap (length {A = ℕ}) (h.1).layout in

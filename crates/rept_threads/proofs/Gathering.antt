@@ -7,7 +7,7 @@ use Rattle.rept_trace.specs.declared.packet.Packet.{Packet}
 use Rattle.rept_path.specs.Code.{Code}
 use Rattle.rept_slices.specs.Stamps.{is_start, running_after, context_of}
 use Rattle.rept_slices.specs.Parts.{ToldSlice, told_from}
-use Rattle.rept_slices.specs.Stretches.{same_stretch, stretch, Walked, within, Ran, ran_by}
+use Rattle.rept_slices.specs.Stretches.{same_stretch, stretch, StretchLegs, within, RanSlice, ran_by}
 use Rattle.rept_slices.proofs.InTime.{Each}
 use Rattle.rept_slices.proofs.Calm.{each_append}
 use Rattle.rept_slices.proofs.Following.{From, HeadFirst, head_first_told, each_from_less}
@@ -23,11 +23,11 @@ pub none_inner : (ts : List ToldSlice) → HeadFirst ts → inner_slices ts ≡ 
 none_inner [] h = refl
 none_inner (t ∷ ts) h = ap (λ (o : Option ℕ). cond (is_none o) [] (t ∷ inner_slices ts)) h
 
-pub told_back : (code : Code) (w : Walked) (ts : List ToldSlice) → map (λ (r : Ran). r.told) (map (ran_by code w) ts) ≡ ts
+pub told_back : (code : Code) (w : StretchLegs) (ts : List ToldSlice) → map (λ (r : RanSlice). r.told) (map (ran_by code w) ts) ≡ ts
 told_back code w [] = refl
 told_back code w (t ∷ ts) = ap (λ (us : List ToldSlice). t ∷ us) (told_back code w ts)
 
-module _ (w : Walked) where
+module _ (w : StretchLegs) where
   abbrev end : ℕ
   end = w.head.number + length (stretch w.head)
 

@@ -11,13 +11,13 @@ use Rattle.rept_slices.specs.Stamps.{stamp_of, clock_of, is_start, is_past, clos
 use Rattle.rept_slices.specs.Parts.{ToldSlice, thread_of, begin_of, inner, beyond, told_from}
 use Rattle.rept_slices.specs.Order.{put, by_time, head_of, slices_of, starts_past, lasts_past, meets}
 use Rattle.rept_slices.specs.Checks.{stranger, while_other}
-use Rattle.rept_slices.specs.Stretches.{Ran}
+use Rattle.rept_slices.specs.Stretches.{RanSlice}
 use Rattle.rept_slices.proofs.InTime.{Each, each_put, each_by_time, each_filter}
 use Rattle.rept_slices.proofs.Apart.{each_middle}
 use Rattle.rept_slices.proofs.Whether.{Started}
 use Rattle.rept_slices.proofs.Following.{From, Follows, Following, HeadFirst, head_first_told, later_numbers}
 use Rattle.rept_slices.proofs.Packs.{kind}
-use Rattle.rept_threads.specs.Linking.{Goes, onward_to, Chained}
+use Rattle.rept_threads.specs.Linking.{GoesFromTo, onward_to, Chained}
 use Rattle.rept_threads.proofs.Turning.{Order, Among, among_each, of_meet, true_or}
 
 -- the order of slices: by begin, and those of one begin by number
@@ -256,14 +256,14 @@ none_amid front t n back u r m low high = elim (among_split front u (t ∷ (n �
   late (inr (inr k)) s = let lt = above_among n u back (s.1).0 k in omega (arith, lt, high)
 
 -- a slice in its place among all
-abbrev pub InPlace : List Ran → Ran → Type 0
-InPlace all r = (front : List Ran) × (back : List Ran) × (all ≡ front ++ r ∷ back) × Goes r.rows (address_of r.told.start) (onward_to r (head_of back))
+abbrev pub InPlace : List RanSlice → RanSlice → Type 0
+InPlace all r = (front : List RanSlice) × (back : List RanSlice) × (all ≡ front ++ r ∷ back) × GoesFromTo r.rows (address_of r.told.start) (onward_to r (head_of back))
 
-pub in_place : (front rs : List Ran) → Chained rs → Each (InPlace (front ++ rs)) rs
+pub in_place : (front rs : List RanSlice) → Chained rs → Each (InPlace (front ++ rs)) rs
 in_place front [] c = tt
 in_place front (r ∷ rs) c =
     let shift : (front ++ r ∷ []) ++ rs ≡ front ++ r ∷ rs = append_assoc front (r ∷ []) rs in
-    ((front, rs, refl, c.0), subst (λ (all : List Ran). Each (InPlace all) rs) shift (in_place (front ++ r ∷ []) rs c.1))
+    ((front, rs, refl, c.0), subst (λ (all : List RanSlice). Each (InPlace all) rs) shift (in_place (front ++ r ∷ []) rs c.1))
 
 -- the neighbours of all slices, by what they are told
 abbrev pub Neighbours : List ToldSlice → ToldSlice → ToldSlice → Type 0
@@ -281,9 +281,9 @@ pub record Apt (ts xs : List ToldSlice) : Type 0 where
   pub one : (t n m : ToldSlice) → Neighbours ts t n → Neighbours ts t m → n ≡ m
   pub last : (t m : ToldSlice) (before : List ToldSlice) → Neighbours ts t m → ts ≡ before ++ t ∷ [] → ⊥
 
-module _ (rs : List Ran) (ts : List ToldSlice) (told_are : map (λ (r : Ran). r.told) rs ≡ ts) where
-  abbrev tell : List Ran → List ToldSlice
-  tell qs = map (λ (r : Ran). r.told) qs
+module _ (rs : List RanSlice) (ts : List ToldSlice) (told_are : map (λ (r : RanSlice). r.told) rs ≡ ts) where
+  abbrev tell : List RanSlice → List ToldSlice
+  tell qs = map (λ (r : RanSlice). r.told) qs
 
   among_middle : (front : List ToldSlice) (t : ToldSlice) (back : List ToldSlice) → Among t (front ++ t ∷ back)
   among_middle [] t back = inl refl
@@ -294,11 +294,11 @@ module _ (rs : List Ran) (ts : List ToldSlice) (told_are : map (λ (r : Ran). r.
   among_back (f ∷ front) u back m = inr (among_back front u back m)
 
   -- the next one among all, where it stands so
-  neighbour : (r q : Ran) (front back : List Ran) → rs ≡ front ++ r ∷ (q ∷ back) → Neighbours ts r.told q.told
-  neighbour r q front back e = (tell front, tell back, sym told_are ∙ ap tell e ∙ map-append (λ (x : Ran). x.told) front (r ∷ (q ∷ back)))
+  neighbour : (r q : RanSlice) (front back : List RanSlice) → rs ≡ front ++ r ∷ (q ∷ back) → Neighbours ts r.told q.told
+  neighbour r q front back e = (tell front, tell back, sym told_are ∙ ap tell e ∙ map-append (λ (x : RanSlice). x.told) front (r ∷ (q ∷ back)))
 
   -- one slice of a thread: what follows it among all, and what follows it in the thread
-  onward_same : (front : List ToldSlice) (r : Ran) (later : List Ran) (apt : Apt ts (front ++ r.told ∷ tell later)) → (before : List Ran) (back : List Ran) → rs ≡ before ++ r ∷ back → onward_to r (head_of back) ≡ onward_to r (head_of later)
+  onward_same : (front : List ToldSlice) (r : RanSlice) (later : List RanSlice) (apt : Apt ts (front ++ r.told ∷ tell later)) → (before : List RanSlice) (back : List RanSlice) → rs ≡ before ++ r ∷ back → onward_to r (head_of back) ≡ onward_to r (head_of later)
   onward_same front r later apt before back e = by_back back e where
     xs : List ToldSlice
     xs = front ++ r.told ∷ tell later
@@ -309,22 +309,22 @@ module _ (rs : List Ran) (ts : List ToldSlice) (told_are : map (λ (r : Ran). r.
     -- Nothing follows it while the trace runs.
     stops : ((m : ToldSlice) (y : ℕ) → m.inside ≡ Some y → Neighbours ts r.told m → ⊥) → r.last.at ≡ onward_to r (head_of later)
     stops none = go later refl where
-      go : (qs : List Ran) → later ≡ qs → r.last.at ≡ onward_to r (head_of qs)
+      go : (qs : List RanSlice) → later ≡ qs → r.last.at ≡ onward_to r (head_of qs)
       go [] e = refl
       go (q ∷ qs) e = inner q.told.inside refl where
         there : Among q.told (front ++ r.told ∷ tell later)
-        there = among_back front q.told (r.told ∷ tell later) (inr (subst (λ (ps : List Ran). Among q.told (tell ps)) (sym e) (inl refl)))
+        there = among_back front q.told (r.told ∷ tell later) (inr (subst (λ (ps : List RanSlice). Among q.told (tell ps)) (sym e) (inl refl)))
 
         inner : (o : Option ℕ) → q.told.inside ≡ o → r.last.at ≡ cond (is_none q.told.inside) r.last.at (address_of q.told.start)
         inner None i = sym (ap (λ (o : Option ℕ). cond (is_none o) r.last.at (address_of q.told.start)) i)
         inner (Some y) i = absurd (before_it (apt.back q.told y there i)) where
           next : (front ++ r.told ∷ tell later) ≡ (front ++ r.told ∷ []) ++ q.told ∷ tell qs
-          next = ap (λ (ps : List Ran). front ++ r.told ∷ tell ps) e ∙ sym (append_assoc front (r.told ∷ []) (q.told ∷ tell qs))
+          next = ap (λ (ps : List RanSlice). front ++ r.told ∷ tell ps) e ∙ sym (append_assoc front (r.told ∷ []) (q.told ∷ tell qs))
 
           before_it : (t : ToldSlice) × Neighbours ts t q.told × Among t (front ++ r.told ∷ tell later) → ⊥
           before_it (t, n, m) = place (apt.lex t q.told y n i m there) (among_split front t (r.told ∷ tell later) m) where
             later_lex : (t : ToldSlice) → Lex t q.told → Among t (tell later) → ⊥
-            later_lex t x k = in_later (subst (λ (ps : List Ran). Among t (tell ps)) e k) where
+            later_lex t x k = in_later (subst (λ (ps : List RanSlice). Among t (tell ps)) e k) where
               in_later : Among t (q.told ∷ tell qs) → ⊥
               in_later (inl same) = lex_same t q.told same x
               in_later (inr k) = lex_not t q.told x (among_each (Lex q.told) t (tell qs) ((strict_tail (front ++ r.told ∷ []) (q.told ∷ tell qs) (subst Strict next apt.strict)).0) k)
@@ -333,17 +333,17 @@ module _ (rs : List Ran) (ts : List ToldSlice) (told_are : map (λ (r : Ran). r.
             front_lex t k = strict_front front t r.told (tell later) apt.strict k
 
             here_lex : Lex r.told q.told
-            here_lex = ((strict_tail front (r.told ∷ q.told ∷ tell qs) (subst (λ (ps : List Ran). Strict (front ++ r.told ∷ tell ps)) e apt.strict)).0).0
+            here_lex = ((strict_tail front (r.told ∷ q.told ∷ tell qs) (subst (λ (ps : List RanSlice). Strict (front ++ r.told ∷ tell ps)) e apt.strict)).0).0
 
             place : Lex t q.told → (Among t front ⊎ Among t (r.told ∷ tell later)) → ⊥
             place x (inr (inl same)) = none q.told y i (subst (λ (u : ToldSlice). Neighbours ts u q.told) same n)
             place x (inr (inr later_too)) = later_lex t x later_too
             place x (inl early) = apt.none t q.told r.told y n i m there here (front_lex t early) (here_lex)
 
-    by_back : (back : List Ran) → rs ≡ before ++ r ∷ back → onward_to r (head_of back) ≡ onward_to r (head_of later)
+    by_back : (back : List RanSlice) → rs ≡ before ++ r ∷ back → onward_to r (head_of back) ≡ onward_to r (head_of later)
     by_back [] e = stops (λ m y i n. last_of m n e) where
       last_of : (m : ToldSlice) → Neighbours ts r.told m → rs ≡ before ++ r ∷ [] → ⊥
-      last_of m n e = apt.last r.told m (tell before) n (sym told_are ∙ ap tell e ∙ map-append (λ (x : Ran). x.told) before (r ∷ []))
+      last_of m n e = apt.last r.told m (tell before) n (sym told_are ∙ ap tell e ∙ map-append (λ (x : RanSlice). x.told) before (r ∷ []))
     by_back (q ∷ back) e = inner q.told.inside refl where
       beside : Neighbours ts r.told q.told
       beside = neighbour r q before back e
@@ -356,25 +356,25 @@ module _ (rs : List Ran) (ts : List ToldSlice) (told_are : map (λ (r : Ran). r.
 
         comes : Among q.told (tell later) → address_of q.told.start ≡ onward_to r (head_of later)
         comes k = go later refl k where
-          go : (ps : List Ran) → later ≡ ps → Among q.told (tell ps) → address_of q.told.start ≡ onward_to r (head_of ps)
+          go : (ps : List RanSlice) → later ≡ ps → Among q.told (tell ps) → address_of q.told.start ≡ onward_to r (head_of ps)
           go [] e k = absurd k
           go (p ∷ ps) e (inl same) =
               let run : p.told.inside ≡ Some y = ap (λ (t : ToldSlice). t.inside) (sym same) ∙ i in
               ap (λ (t : ToldSlice). address_of t.start) same ∙ sym (ap (λ (o : Option ℕ). cond (is_none o) r.last.at (address_of p.told.start)) run)
           go (p ∷ ps) e (inr k) = absurd (
-              let at = subst (λ (os : List Ran). Strict (front ++ r.told ∷ tell os)) e apt.strict in
+              let at = subst (λ (os : List RanSlice). Strict (front ++ r.told ∷ tell os)) e apt.strict in
               let tail = strict_tail front (r.told ∷ p.told ∷ tell ps) at in
               let first : Lex r.told p.told = (tail.0).0 in
               let second : Lex p.told q.told = among_each (Lex p.told) q.told (tell ps) (tail.1).0 k in
-              let mid : Among p.told (front ++ r.told ∷ tell later) = among_back front p.told (r.told ∷ tell later) (inr (subst (λ (os : List Ran). Among p.told (tell os)) (sym e) (inl refl))) in
+              let mid : Among p.told (front ++ r.told ∷ tell later) = among_back front p.told (r.told ∷ tell later) (inr (subst (λ (os : List RanSlice). Among p.told (tell os)) (sym e) (inl refl))) in
               apt.none r.told q.told p.told y beside i here there mid first second
               )
 
   -- all slices of a thread in order
-  pub chained : (front : List ToldSlice) (later : List Ran) → Apt ts (front ++ tell later) → Each (InPlace rs) later → Chained later
+  pub chained : (front : List ToldSlice) (later : List RanSlice) → Apt ts (front ++ tell later) → Each (InPlace rs) later → Chained later
   chained front [] apt e = tt
   chained front (r ∷ later) apt e =
       let x = e.0 in
       let same = onward_same front r later apt x.0 x.1 x.2 in
       let shift : front ++ tell (r ∷ later) ≡ (front ++ r.told ∷ []) ++ tell later = sym (append_assoc front (r.told ∷ []) (tell later)) in
-      (subst (λ (a : ℕ). Goes r.rows (address_of r.told.start) a) same x.3, chained (front ++ r.told ∷ []) later (subst (Apt ts) shift apt) e.1)
+      (subst (λ (a : ℕ). GoesFromTo r.rows (address_of r.told.start) a) same x.3, chained (front ++ r.told ∷ []) later (subst (Apt ts) shift apt) e.1)

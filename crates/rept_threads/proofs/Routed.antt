@@ -7,7 +7,7 @@ use Rattle.rept_trace.specs.declared.packet.Packet.{Packet}
 use Rattle.rept_trace.specs.declared.packet.Packet.TheVariants.{Start, Context, Support, Address, Map, MapAddress}
 use Rattle.rept_path.specs.Code.{Code}
 use Rattle.rept_path.specs.Packets.{begins, waiting, waits_after, reported_after}
-use Rattle.rept_path.specs.Moves.{Place, along}
+use Rattle.rept_path.specs.Moves.{Place, place_along}
 use Rattle.rept_path.specs.Route.{Met, WaitingLeg, FirstLeg, Origin, Route, met_by, place}
 use Rattle.rept_path.proofs.PathFacts.{rows_after}
 use Rattle.rept_path.proofs.Waiting.{LegIn}
@@ -59,7 +59,7 @@ start_begins p s = elim (kind p) [
   wrong h = cc
 
 -- a start packet in the midst of a stretch leads to its address
-started_at : (code : Code) (p : Packet) (waits : Bool) (met : Met) (leg : List StepRow) → begins p waits ≡ false → LegIn code p waits met leg → is_start p ≡ true → (along code met.place leg).at ≡ address_of p
+started_at : (code : Code) (p : Packet) (waits : Bool) (met : Met) (leg : List StepRow) → begins p waits ≡ false → LegIn code p waits met leg → is_start p ≡ true → (place_along code met.place leg).at ≡ address_of p
 started_at code p true met leg b x s = absurd (let t = start_begins p s in cc)
 started_at code p false met leg b x s = start_at code p met leg s x
 
@@ -91,7 +91,7 @@ module _ (code : Code) (origin : Origin) where
         cut = ((λ w. leg_empty code origin p (waiting (d ∷ ds)) (met_by code origin (d ∷ ds) ls) l n.0 x.0 w), c);
         steered =
             let met = met_by code origin (d ∷ ds) ls in
-            let there : place code (p ∷ (d ∷ ds)) (l ∷ ls) ≡ along code (place code (d ∷ ds) ls) l = ap (λ (b : Bool). cond b (record { at = reported_after p 0; rows = l ++ (place code (d ∷ ds) ls).rows; branches = 0 }) (along code (place code (d ∷ ds) ls) l)) n.0 in
+            let there : place code (p ∷ (d ∷ ds)) (l ∷ ls) ≡ place_along code (place code (d ∷ ds) ls) l = ap (λ (b : Bool). cond b (record { at = reported_after p 0; rows = l ++ (place code (d ∷ ds) ls).rows; branches = 0 }) (place_along code (place code (d ∷ ds) ls) l)) n.0 in
             let leads : Leads l (place code (d ∷ ds) ls).at (place code (p ∷ (d ∷ ds)) (l ∷ ls)).at = subst (λ (q : Place). Leads l (place code (d ∷ ds) ls).at q.at) (sym there) (leg_leads code p (waiting (d ∷ ds)) met l n.0 x.0) in
             ((place code (p ∷ (d ∷ ds)) (l ∷ ls)).at, leads, (λ s. ap (λ (q : Place). q.at) there ∙ started_at code p (waiting (d ∷ ds)) met l n.0 x.0 s), t);
       }
@@ -160,7 +160,7 @@ rowed code origin first ps legs starts runs n r =
     go q.later q.before q.same q.route (subst (λ (b : Bool). Cut b ps q.later) w q.cut) (subst (λ (xs : List Packet). Steered (place code (first ∷ []) q.before).at ps q.later (place code xs legs).at) (sym e) q.steered)
   where
     first_at : (leg : List StepRow) → (place code (first ∷ []) (leg ∷ [])).at ≡ address_of first
-    first_at leg = ap (λ (b : Bool). (cond b (record { at = reported_after first 0; rows = leg ++ []; branches = 0 }) (along code (record { at = 0; rows = []; branches = 0 }) leg)).at) (start_begins first starts) ∙ reported_is first starts
+    first_at leg = ap (λ (b : Bool). (cond b (record { at = reported_after first 0; rows = leg ++ []; branches = 0 }) (place_along code (record { at = 0; rows = []; branches = 0 }) leg)).at) (start_begins first starts) ∙ reported_is first starts
 
     whole : (later : List (List StepRow)) (l : List StepRow) → l ≡ [] → legs ≡ reverse later ++ l ∷ [] → Cut false ps later → Steered (place code (first ∷ []) (l ∷ [])).at ps later (place code (reverse (first ∷ ps)) legs).at → Rowed code first ps legs
     whole later l empty s c t =

@@ -10,36 +10,36 @@ use Rattle.rept_path.specs.Packets.{waits_after}
 use Rattle.rept_slices.specs.Stamps.{closes, running_after, context_of, address_of}
 use Rattle.rept_slices.specs.Parts.{ToldSlice, inner, told_from}
 use Rattle.rept_slices.specs.Order.{head_of}
-use Rattle.rept_slices.specs.Stretches.{same_stretch, stretch, Walked, last_place, within, rows_of, Ran, ran_by}
+use Rattle.rept_slices.specs.Stretches.{same_stretch, stretch, StretchLegs, last_place, within, rows_of, RanSlice, ran_by}
 use Rattle.rept_slices.proofs.InTime.{Each}
 use Rattle.rept_slices.proofs.Calm.{each_append}
 use Rattle.rept_slices.proofs.Going.{same_off}
 use Rattle.rept_slices.proofs.Following.{From, each_from_less}
 use Rattle.rept_slices.proofs.Packs.{IsOpen, IsEnd, IsInner, kind, stretch_on, rows_by, Cut, first_rows}
 use Rattle.rept_threads.proofs.Routed.{Steered}
-use Rattle.rept_threads.specs.Linking.{Goes}
+use Rattle.rept_threads.specs.Linking.{GoesFromTo}
 use Rattle.rept_threads.proofs.Leading.{Leads, leads_goes, goes_append}
 use Rattle.rept_threads.proofs.Cutting.{stretch_short, after_stretch}
 use Rattle.rept_threads.proofs.Gathering.{out, into}
 
 -- where a slice leads: to the next one of its stretch, or to where the stretch ends
-abbrev pub leads_to : Ran → Option Ran → ℕ
+abbrev pub leads_to : RanSlice → Option RanSlice → ℕ
 leads_to r None = r.last.at
 leads_to r (Some q) = address_of q.told.start
 
 -- the slices of a stretch, each with the next one
-abbrev pub Locals : List Ran → Type 0
+abbrev pub Locals : List RanSlice → Type 0
 Locals [] = Unit {0}
-Locals (r ∷ rs) = Goes r.rows (address_of r.told.start) (leads_to r (head_of rs)) × Locals rs
+Locals (r ∷ rs) = GoesFromTo r.rows (address_of r.told.start) (leads_to r (head_of rs)) × Locals rs
 
-module _ (code : Code) (w : Walked) where
+module _ (code : Code) (w : StretchLegs) where
   abbrev finish : ℕ
   finish = (last_place code w).at
 
   abbrev end : ℕ
   end = w.head.number + length (stretch w.head)
 
-  abbrev mine : List ToldSlice → List Ran
+  abbrev mine : List ToldSlice → List RanSlice
   mine ts = map (ran_by code w) (filter (within w) ts)
 
   -- After the trace ended a stretch stays where it is.
@@ -60,17 +60,17 @@ module _ (code : Code) (w : Walked) where
         same ∙ more t.0 ls (subst (λ (b : Bool). Cut b (same_stretch true later) ls) x k.1) t.3
 
   -- where the rows of a slice lead, from its start packet on
-  abbrev Leaves : List Packet → List (List StepRow) → ℕ → Ran → List ToldSlice → Type 0
-  Leaves later ls c r ts = Goes (first_rows later ls) c (leads_to r (head_of (mine ts)))
+  abbrev Leaves : List Packet → List (List StepRow) → ℕ → RanSlice → List ToldSlice → Type 0
+  Leaves later ls c r ts = GoesFromTo (first_rows later ls) c (leads_to r (head_of (mine ts)))
 
-  nothing_else : (r : Ran) (ts : List ToldSlice) → r.last ≡ last_place code w → filter (within w) ts ≡ [] → finish ≡ leads_to r (head_of (mine ts))
+  nothing_else : (r : RanSlice) (ts : List ToldSlice) → r.last ≡ last_place code w → filter (within w) ts ≡ [] → finish ≡ leads_to r (head_of (mine ts))
   nothing_else r ts last none = ap (λ (p : Place). p.at) (sym last) ∙ sym (ap (λ (us : List ToldSlice). leads_to r (head_of (map (ran_by code w) us))) none)
 
-  leaves : (later : List Packet) (s k x : ℕ) (others : List ToldSlice) (ls : List (List StepRow)) (c : ℕ) (r : Ran) → r.last ≡ last_place code w → w.head.number ≤ k → end ≡ k + length (same_stretch false later) → Each (From (k + length later)) others
+  leaves : (later : List Packet) (s k x : ℕ) (others : List ToldSlice) (ls : List (List StepRow)) (c : ℕ) (r : RanSlice) → r.last ≡ last_place code w → w.head.number ≤ k → end ≡ k + length (same_stretch false later) → Each (From (k + length later)) others
       → Cut false (same_stretch false later) ls → Steered c (same_stretch false later) ls finish → Leaves later ls c r (told_from s k (Some x) later ++ others)
   leaves [] s k x others ls c r last low to far cut steered =
       let none = out w others (each_from_less end (k + 0) (omega (arith, to)) others far) in
-      subst (λ (ks : List (List StepRow)). Goes (rows_by (take 1 ks)) c (leads_to r (head_of (mine others)))) (sym cut) (steered.1 ∙ nothing_else r others last none)
+      subst (λ (ks : List (List StepRow)). GoesFromTo (rows_by (take 1 ks)) c (leads_to r (head_of (mine others)))) (sym cut) (steered.1 ∙ nothing_else r others last none)
   leaves (p ∷ later) s k x others [] c r last low to far cut steered = elim (kind p) [
     | inl i ↦ absurd (subst (λ (ps : List Packet). Cut false ps []) (stretch_on p false false later (i.begins false) (i.waits false)) cut)
     | inr j ↦ elim j [
@@ -110,7 +110,7 @@ module _ (code : Code) (w : Walked) where
         let rows : first_rows (p ∷ later) (l ∷ ls) ≡ reverse l ++ first_rows later ls = ap (λ (b : Bool). rows_by (take (suc (cond (not b) (1 + j) 0)) (l ∷ ls))) i.closes ∙ ap (λ (n : ℕ). rows_by (l ∷ take n ls)) one in
         let own = more t.0 (omega (arith, to, size)) (subst (λ (b : Bool). Cut b (same_stretch false later) ls) (i.waits false) k2.1) t.3 in
         let both = goes_append (reverse l) (first_rows later ls) c t.0 (leads_to r (head_of (mine (told_from s (suc k) (Some x) later ++ others)))) (leads_goes l c t.0 t.1) own in
-        subst (λ (ts : List ToldSlice). Leaves (p ∷ later) (l ∷ ls) c r (ts ++ others)) (sym told) (subst (λ (xs : List StepRow). Goes xs c (leads_to r (head_of (mine (told_from s (suc k) (Some x) later ++ others))))) (sym rows) both)
+        subst (λ (ts : List ToldSlice). Leaves (p ∷ later) (l ∷ ls) c r (ts ++ others)) (sym told) (subst (λ (xs : List StepRow). GoesFromTo xs c (leads_to r (head_of (mine (told_from s (suc k) (Some x) later ++ others))))) (sym rows) both)
 
     ended : IsEnd p → same_stretch false (p ∷ later) ≡ p ∷ same_stretch true later → Leaves (p ∷ later) (l ∷ ls) c r (told_from s k (Some x) (p ∷ later) ++ others)
     ended i e =
@@ -123,8 +123,8 @@ module _ (code : Code) (w : Walked) where
         let none = out w (told_from s (suc k) None later ++ others) (each_append (From end) (told_from s (suc k) None later) others (subst (λ (m : ℕ). Each (From m) (told_from s (suc k) None later)) (sym at) (after_stretch s (suc k) later)) (each_from_less end (suc k + length later) (omega (arith, at, short)) others farther)) in
         let stay = stays t.0 later ls (subst (λ (b : Bool). Cut b (same_stretch true later) ls) (i.waits false) k2.1) t.3 in
         let to_end : t.0 ≡ leads_to r (head_of (mine (told_from s (suc k) None later ++ others))) = stay ∙ nothing_else r (told_from s (suc k) None later ++ others) last none in
-        let own : Goes (reverse l) c (leads_to r (head_of (mine (told_from s (suc k) None later ++ others)))) = subst (λ (b : ℕ). Goes (reverse l) c b) to_end (leads_goes l c t.0 t.1) in
-        subst (λ (ts : List ToldSlice). Leaves (p ∷ later) (l ∷ ls) c r (ts ++ others)) (sym told) (subst (λ (xs : List StepRow). Goes xs c (leads_to r (head_of (mine (told_from s (suc k) None later ++ others))))) (sym (closed i.closes)) own)
+        let own : GoesFromTo (reverse l) c (leads_to r (head_of (mine (told_from s (suc k) None later ++ others)))) = subst (λ (b : ℕ). GoesFromTo (reverse l) c b) to_end (leads_goes l c t.0 t.1) in
+        subst (λ (ts : List ToldSlice). Leaves (p ∷ later) (l ∷ ls) c r (ts ++ others)) (sym told) (subst (λ (xs : List StepRow). GoesFromTo xs c (leads_to r (head_of (mine (told_from s (suc k) None later ++ others))))) (sym (closed i.closes)) own)
 
     opened : IsOpen p → same_stretch false (p ∷ later) ≡ p ∷ same_stretch false later → Leaves (p ∷ later) (l ∷ ls) c r (told_from s k (Some x) (p ∷ later) ++ others)
     opened i e =
@@ -133,8 +133,8 @@ module _ (code : Code) (w : Walked) where
         let told : told_from s k (Some x) (p ∷ later) ≡ here ∷ rest = ap (λ (b : Bool). cond b (here ∷ rest) rest) i.start in
         let inside : filter (within w) (here ∷ rest ++ others) ≡ here ∷ filter (within w) (rest ++ others) = into w here (rest ++ others) low (omega (arith, to, size)) in
         let first : leads_to r (head_of (mine (here ∷ rest ++ others))) ≡ address_of p = ap (λ (us : List ToldSlice). leads_to r (head_of (map (ran_by code w) us))) inside in
-        let own : Goes (reverse l) c (leads_to r (head_of (mine (here ∷ rest ++ others)))) = subst (λ (b : ℕ). Goes (reverse l) c b) (t.2 i.start ∙ sym first) (leads_goes l c t.0 t.1) in
-        subst (λ (ts : List ToldSlice). Leaves (p ∷ later) (l ∷ ls) c r (ts ++ others)) (sym told) (subst (λ (xs : List StepRow). Goes xs c (leads_to r (head_of (mine (here ∷ rest ++ others))))) (sym (closed i.closes)) own)
+        let own : GoesFromTo (reverse l) c (leads_to r (head_of (mine (here ∷ rest ++ others)))) = subst (λ (b : ℕ). GoesFromTo (reverse l) c b) (t.2 i.start ∙ sym first) (leads_goes l c t.0 t.1) in
+        subst (λ (ts : List ToldSlice). Leaves (p ∷ later) (l ∷ ls) c r (ts ++ others)) (sym told) (subst (λ (xs : List StepRow). GoesFromTo xs c (leads_to r (head_of (mine (here ∷ rest ++ others))))) (sym (closed i.closes)) own)
 
   -- each slice of what is left of a stretch
   locals : (later : List Packet) (s k : ℕ) (inside : Option ℕ) (others : List ToldSlice) (ls : List (List StepRow)) (c : ℕ) → w.head.number ≤ k → end ≡ k + length (same_stretch false later) → Each (From (k + length later)) others → drop (k - w.head.number) (reverse w.legs) ≡ ls
@@ -200,12 +200,12 @@ module _ (code : Code) (w : Walked) where
         let within_it : filter (within w) (here ∷ told_from s (suc k) (Some (context_of p)) later ++ others) ≡ here ∷ filter (within w) (told_from s (suc k) (Some (context_of p)) later ++ others) = into w here (told_from s (suc k) (Some (context_of p)) later ++ others) low (omega (arith, to, size)) in
         let next : drop (suc (k - w.head.number)) (reverse w.legs) ≡ ls = ap (λ (j : ℕ). drop j (reverse w.legs)) (let q : suc (k - w.head.number) ≡ (k - w.head.number) + 1 = omega arith in q) ∙ sym (drop-drop 1 (k - w.head.number) (reverse w.legs)) ∙ ap (drop 1) legs in
         let rows : rows_of w here ≡ first_rows later ls = ap (λ (xs : List (List StepRow)). rows_by (take (suc (inner here)) xs)) next in
-        let own : Goes (first_rows later ls) (address_of p) (leads_to (ran_by code w here) (head_of (mine (told_from s (suc k) (Some (context_of p)) later ++ others)))) =
+        let own : GoesFromTo (first_rows later ls) (address_of p) (leads_to (ran_by code w here) (head_of (mine (told_from s (suc k) (Some (context_of p)) later ++ others)))) =
         leaves later s (suc k) (context_of p) others ls (address_of p) (ran_by code w here) refl (omega (arith, low)) (omega (arith, to, size)) farther k3 (subst (λ (a : ℕ). Steered a (same_stretch false later) ls finish) (t.2 i.start) t.3) in
-        let first : Goes (rows_of w here) (address_of p) (leads_to (ran_by code w here) (head_of (mine (told_from s (suc k) (Some (context_of p)) later ++ others)))) = subst (λ (xs : List StepRow). Goes xs (address_of p) (leads_to (ran_by code w here) (head_of (mine (told_from s (suc k) (Some (context_of p)) later ++ others))))) (sym rows) own in
+        let first : GoesFromTo (rows_of w here) (address_of p) (leads_to (ran_by code w here) (head_of (mine (told_from s (suc k) (Some (context_of p)) later ++ others)))) = subst (λ (xs : List StepRow). GoesFromTo xs (address_of p) (leads_to (ran_by code w here) (head_of (mine (told_from s (suc k) (Some (context_of p)) later ++ others))))) (sym rows) own in
         let others_are = more t.0 (Some (context_of p)) (omega (arith, to, size)) k3 t.3 in
         subst (λ (ts : List ToldSlice). Locals (mine (ts ++ others))) (sym told) (subst (λ (us : List ToldSlice). Locals (map (ran_by code w) us)) (sym within_it) (first, others_are))
 
-pub stretch_locals : (code : Code) (w : Walked) (later : List Packet) (s k : ℕ) (inside : Option ℕ) (others : List ToldSlice) (ls : List (List StepRow)) (c : ℕ) → w.head.number ≤ k → w.head.number + length (stretch w.head) ≡ k + length (same_stretch false later) → Each (From (k + length later)) others → drop (k - w.head.number) (reverse w.legs) ≡ ls
+pub stretch_locals : (code : Code) (w : StretchLegs) (later : List Packet) (s k : ℕ) (inside : Option ℕ) (others : List ToldSlice) (ls : List (List StepRow)) (c : ℕ) → w.head.number ≤ k → w.head.number + length (stretch w.head) ≡ k + length (same_stretch false later) → Each (From (k + length later)) others → drop (k - w.head.number) (reverse w.legs) ≡ ls
     → Cut false (same_stretch false later) ls → Steered c (same_stretch false later) ls (last_place code w).at → Locals (map (ran_by code w) (filter (within w) (told_from s k inside later ++ others)))
 stretch_locals code w later s k inside others ls c low to far legs cut steered = locals code w later s k inside others ls c low to far legs cut steered

@@ -24,7 +24,7 @@ use Rattle.rept_path.specs.Trace.{StopsAt}
 use Rattle.rept_slices.specs.Stamps.{is_start}
 use Rattle.rept_slices.specs.Parts.{ToldSlice, told_from, slices_told}
 use Rattle.rept_slices.specs.Skipping.{kept}
-use Rattle.rept_slices.specs.Stretches.{same_stretch, stretch, heads, Walked, last_place, count_of, origin_after, Goes, Walks as AreWalks, WalksFault, Ran, within, ran_by, ran_in, ran, marks}
+use Rattle.rept_slices.specs.Stretches.{same_stretch, stretch, heads, StretchLegs, last_place, count_of, origin_after, Goes, Walks as AreWalks, WalksFault, RanSlice, within, ran_by, ran_in, ran, marks}
 use Rattle.rept_slices.specs.Joins.{ran_rows}
 use Rattle.rept_slices.specs.Entries.{IsEntryOf, AreEntriesOf}
 use Rattle.rept_threads.specs.Kept.{AreRan, kept_by, AreKept}
@@ -61,7 +61,7 @@ follow_there (b ∷ before) t later f = follow_there before t later f.1
 pub started_there : (before : List ToldSlice) (t : ToldSlice) (later : List ToldSlice) → Each Started (before ++ t ∷ later) → Started t
 started_there before t later s = each_middle Started before t later s
 
-pub none_before : (w : Walked) (before xs : List ToldSlice) → Each (Earlier w.head.number) before → filter (within w) (before ++ xs) ≡ filter (within w) xs
+pub none_before : (w : StretchLegs) (before xs : List ToldSlice) → Each (Earlier w.head.number) before → filter (within w) (before ++ xs) ≡ filter (within w) xs
 none_before w [] xs h = refl
 none_before w (b ∷ before) xs h = elim (leb_tells w.head.number b.number) [
   | inl x ↦ absurd (let le = x.1 in let lt = h.0 in omega (arith, le, lt))
@@ -78,30 +78,30 @@ get_new : {A : Type 0} (xs : List A) (x : A) → slice_get (xs ++ x ∷ []) (len
 get_new [] x = refl
 get_new (y ∷ xs) x = get_new xs x
 
-ran_more : (all new : List Kept) (ws : List WalkedSlice) (rs : List Ran) → AreRan all ws rs → AreRan (all ++ new) ws rs
+ran_more : (all new : List Kept) (ws : List WalkedSlice) (rs : List RanSlice) → AreRan all ws rs → AreRan (all ++ new) ws rs
 ran_more all new [] rs a = a
 ran_more all new (w ∷ ws) [] a = absurd a
 ran_more all new (w ∷ ws) (r ∷ rs) a =
     let i = a.0 in
     (record { told = i.told; stretch = i.stretch; there = get_more all new w.stretch i.stretch i.there; rows = i.rows; whole = i.whole; fits = i.fits; last = i.last; bits = i.bits; empty = i.empty; counts = i.counts }, ran_more all new ws rs a.1)
 
-ran_append : (all : List Kept) (vs ws : List WalkedSlice) (qs rs : List Ran) → AreRan all vs qs → AreRan all ws rs → AreRan all (vs ++ ws) (qs ++ rs)
-ran_append all [] ws qs rs a b = subst (λ (xs : List Ran). AreRan all ws (xs ++ rs)) (sym a) b
+ran_append : (all : List Kept) (vs ws : List WalkedSlice) (qs rs : List RanSlice) → AreRan all vs qs → AreRan all ws rs → AreRan all (vs ++ ws) (qs ++ rs)
+ran_append all [] ws qs rs a b = subst (λ (xs : List RanSlice). AreRan all ws (xs ++ rs)) (sym a) b
 ran_append all (v ∷ vs) ws [] rs a b = absurd a
 ran_append all (v ∷ vs) ws (q ∷ qs) rs a b = (a.0, ran_append all vs ws qs rs a.1 b)
 
 module _ (code : Code) where
-  walks_more : (count : ℕ) (hs : List ToldSlice) (ws : List Walked) (t : ToldSlice) (w : Walked) → AreWalks code count hs ws → w.head ≡ t → Goes code (count + sum_by (count_of code) ws) w → AreWalks code count (hs ++ t ∷ []) (ws ++ w ∷ [])
+  walks_more : (count : ℕ) (hs : List ToldSlice) (ws : List StretchLegs) (t : ToldSlice) (w : StretchLegs) → AreWalks code count hs ws → w.head ≡ t → Goes code (count + sum_by (count_of code) ws) w → AreWalks code count (hs ++ t ∷ []) (ws ++ w ∷ [])
   walks_more count [] ws t w a h g =
       let none : count + sum_by (count_of code) ws ≡ count = let e = ap (sum_by (count_of code)) a in omega (arith, e) in
-      subst (λ (vs : List Walked). AreWalks code count (t ∷ []) (vs ++ w ∷ [])) (sym a) (h, subst (λ (n : ℕ). Goes code n w) none g, refl)
+      subst (λ (vs : List StretchLegs). AreWalks code count (t ∷ []) (vs ++ w ∷ [])) (sym a) (h, subst (λ (n : ℕ). Goes code n w) none g, refl)
   walks_more count (k ∷ hs) [] t w a h g = absurd a
   walks_more count (k ∷ hs) (v ∷ ws) t w a h g =
       let s = sum_by-cons (count_of code) v ws in
       let e : count + sum_by (count_of code) (v ∷ ws) ≡ count + count_of code v + sum_by (count_of code) ws = omega (arith, s) in
       (a.0, a.1, walks_more (count + count_of code v) hs ws t w a.2 h (subst (λ (n : ℕ). Goes code n w) e g))
 
-  fault_after : (count : ℕ) (hs : List ToldSlice) (ws : List Walked) (t : ToldSlice) (others : List ToldSlice) (e : PathFault) → AreWalks code count hs ws → StopsAt code (origin_after (count + sum_by (count_of code) ws) t) (stretch t) e → WalksFault code count (hs ++ t ∷ others) e
+  fault_after : (count : ℕ) (hs : List ToldSlice) (ws : List StretchLegs) (t : ToldSlice) (others : List ToldSlice) (e : PathFault) → AreWalks code count hs ws → StopsAt code (origin_after (count + sum_by (count_of code) ws) t) (stretch t) e → WalksFault code count (hs ++ t ∷ others) e
   fault_after count [] ws t others e a s =
       let none : count + sum_by (count_of code) ws ≡ count = let x = ap (sum_by (count_of code)) a in omega (arith, x) in
       inl (subst (λ (n : ℕ). StopsAt code (origin_after n t) (stretch t) e) none s)
@@ -121,15 +121,15 @@ heads_other : (before : List ToldSlice) (t : ToldSlice) (thread : ℕ) → t.ins
 heads_other before t thread some = filter-append is_head before (t ∷ []) ∙ ap (λ (o : Option ℕ). heads before ++ cond (is_none o) (t ∷ []) []) some ∙ append-nil (heads before)
 
 -- A slice with which no stretch begins adds nothing.
-pub not_head : (code : Code) (ts before : List ToldSlice) (t : ToldSlice) (ws : List Walked) (walks : Walks) (thread : ℕ) → t.inside ≡ Some thread → AreWalks code 0 (heads before) ws → AreKept code ts ws walks
-    → (vs : List Walked) × AreWalks code 0 (heads (before ++ t ∷ [])) vs × AreKept code ts vs walks
+pub not_head : (code : Code) (ts before : List ToldSlice) (t : ToldSlice) (ws : List StretchLegs) (walks : Walks) (thread : ℕ) → t.inside ≡ Some thread → AreWalks code 0 (heads before) ws → AreKept code ts ws walks
+    → (vs : List StretchLegs) × AreWalks code 0 (heads (before ++ t ∷ [])) vs × AreKept code ts vs walks
 not_head code ts before t ws walks thread some a k = (ws, subst (λ (hs : List ToldSlice). AreWalks code 0 hs ws) (sym (heads_other before t thread some)) a, k)
 
 -- where a walk begins at a slice, as its entry has it
 abbrev pub origin_by : ℕ → Entry → Origin
 origin_by room e = record { number = e.number; room = room }
 
-pub stopped : (code : Code) (from : ℕ) (lists : List (List Packet)) (before later : List ToldSlice) (t : ToldSlice) (ws : List Walked) (walks : Walks) (e : Entry) (room : ℕ) (fault : PathFault)
+pub stopped : (code : Code) (from : ℕ) (lists : List (List Packet)) (before later : List ToldSlice) (t : ToldSlice) (ws : List StretchLegs) (walks : Walks) (e : Entry) (room : ℕ) (fault : PathFault)
     → slices_told (kept from lists) ≡ before ++ t ∷ later → IsEntryOf e t → t.inside ≡ None → room ≡ 65536 - walks.rows → AreWalks code 0 (heads before) ws → AreKept code (slices_told (kept from lists)) ws walks
     → StopsAt code (origin_by room e) (e.start ∷ same_stretch false t.later) fault → WalksFault code 0 (heads (slices_told (kept from lists))) fault
 stopped code from lists before later t ws walks e room fault whole is none room_is a k s =
@@ -142,7 +142,7 @@ stopped code from lists before later t ws walks e room fault whole is none room_
 
 -- A stretch was walked.
 module _ (code : Code) (from : ℕ) (lists : List (List Packet)) (before later : List ToldSlice) (t : ToldSlice) (whole : slices_told (kept from lists) ≡ before ++ t ∷ later) (none : t.inside ≡ None)
-    (ws : List Walked) (old : Walks) (a : AreWalks code 0 (heads before) ws) (k : AreKept code (slices_told (kept from lists)) ws old) where
+    (ws : List StretchLegs) (old : Walks) (a : AreWalks code 0 (heads before) ws) (k : AreKept code (slices_told (kept from lists)) ws old) where
   abbrev ts : List ToldSlice
   ts = slices_told (kept from lists)
 
@@ -150,7 +150,7 @@ module _ (code : Code) (from : ℕ) (lists : List (List Packet)) (before later :
   parts = (subst (Each Started) whole (starts_told (kept from lists)), subst Following whole (kept_follow from lists))
 
   module _ (walk : Walk) (legs : List (List StepRow)) (s : Stands code (earlier_by (origin_after old.rows t) (reverse (stretch t)) legs) walk) (keeps : Kept) (rows : keeps.rows ≡ walk.steps) (walk_is : keeps.walk ≡ record walk { steps = [] }) where
-    abbrev w : Walked
+    abbrev w : StretchLegs
     w = record { head = t; legs = legs }
 
     -- the legs of its packets
@@ -185,7 +185,7 @@ module _ (code : Code) (from : ℕ) (lists : List (List Packet)) (before later :
 
     added : (new : Walks) (e : Entry) (es : List Entry) (counts : List ℕ) → AreEntriesOf (e ∷ es) (t ∷ later) → counts ≡ marks code (reverse (stretch t)) legs
         → new.slices.items ≡ old.slices.items ++ kept_by (length old.stretches.items) (length walk.steps) counts (e ∷ es) → new.stretches.items ≡ old.stretches.items ++ keeps ∷ [] → new.rows ≡ old.rows + length walk.steps
-        → (vs : List Walked) × AreWalks code 0 (heads (before ++ t ∷ [])) vs × AreKept code ts vs new
+        → (vs : List StretchLegs) × AreWalks code 0 (heads (before ++ t ∷ [])) vs × AreKept code ts vs new
     added new e es counts told_is counts_are slices stretches rows_are =
         let all = old.stretches.items ++ keeps ∷ [] in
         let number = length old.stretches.items in
@@ -212,8 +212,8 @@ module _ (code : Code) (from : ℕ) (lists : List (List Packet)) (before later :
         let here_ran : map (ran_by code w) (filter (within w) (told_from t.stream t.number t.inside (t.start ∷ t.later) ++ f.others)) ≡ ran_in code ts w =
         ap (λ (xs : List ToldSlice). map (ran_by code w) (filter (within w) xs)) (sym f.same) ∙ ap (map (ran_by code w)) (sym (none_before w before (t ∷ later) (before_earlier before t later parts.0 parts.1))) ∙ ap (λ (xs : List ToldSlice). map (ran_by code w) (filter (within w) xs)) (sym whole) in
         let marked : counts_from 0 (same_stretch false (t.start ∷ t.later)) ([] ∷ sheet.later) ≡ counts = ap (λ (ps : List Packet). counts_from 0 ps ([] ∷ sheet.later)) long ∙ sym sheet.marked ∙ sym counts_are in
-        let own : AreRan all (kept_by number total counts (e ∷ es)) (ran_in code ts w) = subst (λ (ms : List ℕ). AreRan all (kept_by number total ms (e ∷ es)) (ran_in code ts w)) marked (subst (λ (rs : List Ran). AreRan all (kept_by number total (counts_from 0 (same_stretch false (t.start ∷ t.later)) ([] ∷ sheet.later)) (e ∷ es)) rs) here_ran got.0) in
-        let both : ran code ts (ws ++ w ∷ []) ≡ ran code ts ws ++ ran_in code ts w = flat_map-append (ran_in code ts) ws (w ∷ []) ∙ ap (λ (xs : List Ran). ran code ts ws ++ xs) (append-nil (ran_in code ts w)) in
+        let own : AreRan all (kept_by number total counts (e ∷ es)) (ran_in code ts w) = subst (λ (ms : List ℕ). AreRan all (kept_by number total ms (e ∷ es)) (ran_in code ts w)) marked (subst (λ (rs : List RanSlice). AreRan all (kept_by number total (counts_from 0 (same_stretch false (t.start ∷ t.later)) ([] ∷ sheet.later)) (e ∷ es)) rs) here_ran got.0) in
+        let both : ran code ts (ws ++ w ∷ []) ≡ ran code ts ws ++ ran_in code ts w = flat_map-append (ran_in code ts) ws (w ∷ []) ∙ ap (λ (xs : List RanSlice). ran code ts ws ++ xs) (append-nil (ran_in code ts w)) in
         let joined : AreRan all (old.slices.items ++ kept_by number total counts (e ∷ es)) (ran code ts ws ++ ran_in code ts w) = ran_append all old.slices.items (kept_by number total counts (e ∷ es)) (ran code ts ws) (ran_in code ts w) (ran_more old.stretches.items (keeps ∷ []) old.slices.items (ran code ts ws) k.slices) own in
         let first : counts_from 0 (t.start ∷ same_stretch false t.later) ([] ∷ sheet.later) ≡ 0 ∷ counts_from 0 (same_stretch false t.later) sheet.later = ap (λ (b : Bool). cond b (0 ∷ []) [] ++ counts_from 0 (same_stretch false t.later) sheet.later) o.start in
         let begins = ap (λ (ps : List Packet). first_or total (counts_from 0 ps ([] ∷ sheet.later))) long in
@@ -221,7 +221,7 @@ module _ (code : Code) (from : ℕ) (lists : List (List Packet)) (before later :
         let sum = got.1 in
         let sum_is = ap ran_rows here_ran in
         let sums = ap ran_rows both in
-        let sums_parts = sum_by-append (λ (r : Ran). length r.rows) (ran code ts ws) (ran_in code ts w) in
+        let sums_parts = sum_by-append (λ (r : RanSlice). length r.rows) (ran code ts ws) (ran_in code ts w) in
         let old_rows = k.rows in
         let old_count = k.count in
         let old_few = k.few in
@@ -233,7 +233,7 @@ module _ (code : Code) (from : ℕ) (lists : List (List Packet)) (before later :
           ws ++ w ∷ [],
           subst (λ (hs : List ToldSlice). AreWalks code 0 hs (ws ++ w ∷ [])) (sym (heads_head before t [] none)) (walks_more code 0 (heads before) ws t w a refl (subst (λ (m : ℕ). Goes code m w) (sym counted) s.route)),
           record {
-            slices = subst (λ (xs : List Kept). AreRan xs new.slices.items (ran code ts (ws ++ w ∷ []))) (sym stretches) (subst (λ (xs : List WalkedSlice). AreRan all xs (ran code ts (ws ++ w ∷ []))) (sym slices) (subst (λ (rs : List Ran). AreRan all (old.slices.items ++ kept_by number total counts (e ∷ es)) rs) (sym both) joined));
+            slices = subst (λ (xs : List Kept). AreRan xs new.slices.items (ran code ts (ws ++ w ∷ []))) (sym stretches) (subst (λ (xs : List WalkedSlice). AreRan all xs (ran code ts (ws ++ w ∷ []))) (sym slices) (subst (λ (rs : List RanSlice). AreRan all (old.slices.items ++ kept_by number total counts (e ∷ es)) rs) (sym both) joined));
             rows = omega (arith, rows_are, sums, sums_parts, old_rows, sum, sum_is, begins, at_zero);
             count = omega (arith, rows_are, old_count, pushed, n);
             few = omega (arith, rows_are, few, room, old_few);
@@ -241,11 +241,11 @@ module _ (code : Code) (from : ℕ) (lists : List (List Packet)) (before later :
         )
 
 -- by the entry of its first slice
-pub walked_on : (code : Code) (from : ℕ) (lists : List (List Packet)) (before later : List ToldSlice) (t : ToldSlice) (ws : List Walked) (old new : Walks) (e : Entry) (es : List Entry) (room : ℕ) (walk : Walk) (legs : List (List StepRow)) (counts : List ℕ) (keeps : Kept)
+pub walked_on : (code : Code) (from : ℕ) (lists : List (List Packet)) (before later : List ToldSlice) (t : ToldSlice) (ws : List StretchLegs) (old new : Walks) (e : Entry) (es : List Entry) (room : ℕ) (walk : Walk) (legs : List (List StepRow)) (counts : List ℕ) (keeps : Kept)
     → slices_told (kept from lists) ≡ before ++ t ∷ later → t.inside ≡ None → AreWalks code 0 (heads before) ws → AreKept code (slices_told (kept from lists)) ws old → AreEntriesOf (e ∷ es) (t ∷ later) → room ≡ 65536 - old.rows
     → Stands code (earlier_by (origin_by room e) (reverse (e.start ∷ same_stretch false t.later)) legs) walk → counts ≡ marks code (reverse (e.start ∷ same_stretch false t.later)) legs → keeps.rows ≡ walk.steps → keeps.walk ≡ record walk { steps = [] }
     → new.slices.items ≡ old.slices.items ++ kept_by (length old.stretches.items) (length walk.steps) counts (e ∷ es) → new.stretches.items ≡ old.stretches.items ++ keeps ∷ [] → new.rows ≡ old.rows + length walk.steps
-    → (vs : List Walked) × AreWalks code 0 (heads (before ++ t ∷ [])) vs × AreKept code (slices_told (kept from lists)) vs new
+    → (vs : List StretchLegs) × AreWalks code 0 (heads (before ++ t ∷ [])) vs × AreKept code (slices_told (kept from lists)) vs new
 walked_on code from lists before later t ws old new e es room walk legs counts keeps whole none a k told_is room_is s counts_are rows walk_is slices stretches rows_are =
     let one = subst (λ (p : Packet). Stands code (earlier_by (origin_by room e) (reverse (p ∷ same_stretch false t.later)) legs) walk) (told_is.0).start s in
     let two = subst (λ (m : ℕ). Stands code (earlier_by (record { number = m; room = room }) (reverse (stretch t)) legs) walk) (told_is.0).number one in
@@ -259,7 +259,7 @@ pub record SoFar (code : Code) (ts : List ToldSlice) (es : List Entry) (walks : 
   pub later : List ToldSlice
   pub same : ts ≡ before ++ later
   pub are : AreEntriesOf es later
-  pub ws : List Walked
+  pub ws : List StretchLegs
   pub walked : AreWalks code 0 (heads before) ws
   pub keeps : AreKept code ts ws walks
 
@@ -287,7 +287,7 @@ pub record First (code : Code) (ts : List ToldSlice) (es rest : List Entry) (wal
   pub same : ts ≡ before ++ t ∷ later
   pub are : AreEntriesOf es (t ∷ later)
   pub others : AreEntriesOf rest later
-  pub ws : List Walked
+  pub ws : List StretchLegs
   pub walked : AreWalks code 0 (heads before) ws
   pub keeps : AreKept code ts ws walks
 
@@ -310,7 +310,7 @@ first_left code ts es i walks within s = go (drop i es) refl where
         keeps = s.keeps;
       }
 
-pub one_walked : (code : Code) (all : List ToldSlice) (es rest : List Entry) (old new : Walks) (f : First code all es rest old) → (vs : List Walked) × AreWalks code 0 (heads (f.before ++ f.t ∷ [])) vs × AreKept code all vs new → SoFar code all rest new
+pub one_walked : (code : Code) (all : List ToldSlice) (es rest : List Entry) (old new : Walks) (f : First code all es rest old) → (vs : List StretchLegs) × AreWalks code 0 (heads (f.before ++ f.t ∷ [])) vs × AreKept code all vs new → SoFar code all rest new
 one_walked code all es rest old new f h = record {
   before = f.before ++ f.t ∷ [];
   later = f.later;
@@ -321,7 +321,7 @@ one_walked code all es rest old new f h = record {
   keeps = h.2;
 }
 
-pub all_walked : (code : Code) (ts : List ToldSlice) (es : List Entry) (i : ℕ) (walks : Walks) → length es ≤ i → SoFar code ts (drop i es) walks → (ws : List Walked) × AreWalks code 0 (heads ts) ws × AreKept code ts ws walks
+pub all_walked : (code : Code) (ts : List ToldSlice) (es : List Entry) (i : ℕ) (walks : Walks) → length es ≤ i → SoFar code ts (drop i es) walks → (ws : List StretchLegs) × AreWalks code 0 (heads ts) ws × AreKept code ts ws walks
 all_walked code ts es i walks past s =
     let none : s.later ≡ [] = subst (λ (xs : List Entry). AreEntriesOf xs s.later) (at_drop_all (λ (xs : List Entry). xs) es i past) s.are in
     let e : ts ≡ s.before = s.same ∙ ap (λ (xs : List ToldSlice). s.before ++ xs) none ∙ append-nil s.before in
@@ -346,17 +346,17 @@ none_left walked number total marks es now i h past =
 
 -- The slices of all stretches are all slices, in their order.
 module _ (code : Code) (ts : List ToldSlice) where
-  gather : (before later : List ToldSlice) (count : ℕ) (ws : List Walked) → ts ≡ before ++ later → Each Started (before ++ later) → Following (before ++ later) → AreWalks code count (heads later) ws → inner_slices later ++ map (λ (r : Ran). r.told) (ran code ts ws) ≡ later
-  gather before [] count ws e s f a = ap (λ (vs : List Walked). map (λ (r : Ran). r.told) (ran code ts vs)) a
+  gather : (before later : List ToldSlice) (count : ℕ) (ws : List StretchLegs) → ts ≡ before ++ later → Each Started (before ++ later) → Following (before ++ later) → AreWalks code count (heads later) ws → inner_slices later ++ map (λ (r : RanSlice). r.told) (ran code ts ws) ≡ later
+  gather before [] count ws e s f a = ap (λ (vs : List StretchLegs). map (λ (r : RanSlice). r.told) (ran code ts vs)) a
   gather before (t ∷ later) count ws e s f a = go t.inside refl ws a (λ n vs b. gather (before ++ t ∷ []) later n vs (e ∙ sym shift) (subst (Each Started) (sym shift) s) (subst Following (sym shift) f) b) where
     shift : (before ++ t ∷ []) ++ later ≡ before ++ t ∷ later
     shift = append_assoc before (t ∷ []) later
 
-    go : (o : Option ℕ) → t.inside ≡ o → (ws : List Walked) → AreWalks code count (cond (is_none t.inside) (t ∷ heads later) (heads later)) ws
-        → ((n : ℕ) (vs : List Walked) → AreWalks code n (heads later) vs → inner_slices later ++ map (λ (r : Ran). r.told) (ran code ts vs) ≡ later) → cond (is_none t.inside) [] (t ∷ inner_slices later) ++ map (λ (r : Ran). r.told) (ran code ts ws) ≡ t ∷ later
+    go : (o : Option ℕ) → t.inside ≡ o → (ws : List StretchLegs) → AreWalks code count (cond (is_none t.inside) (t ∷ heads later) (heads later)) ws
+        → ((n : ℕ) (vs : List StretchLegs) → AreWalks code n (heads later) vs → inner_slices later ++ map (λ (r : RanSlice). r.told) (ran code ts vs) ≡ later) → cond (is_none t.inside) [] (t ∷ inner_slices later) ++ map (λ (r : RanSlice). r.told) (ran code ts ws) ≡ t ∷ later
     go (Some x) is ws a more =
         let b = subst (λ (o : Option ℕ). AreWalks code count (cond (is_none o) (t ∷ heads later) (heads later)) ws) is a in
-        ap (λ (o : Option ℕ). cond (is_none o) [] (t ∷ inner_slices later) ++ map (λ (r : Ran). r.told) (ran code ts ws)) is ∙ ap (λ (us : List ToldSlice). t ∷ us) (more count ws b)
+        ap (λ (o : Option ℕ). cond (is_none o) [] (t ∷ inner_slices later) ++ map (λ (r : RanSlice). r.told) (ran code ts ws)) is ∙ ap (λ (us : List ToldSlice). t ∷ us) (more count ws b)
     go None is [] a more = absurd (subst (λ (o : Option ℕ). AreWalks code count (cond (is_none o) (t ∷ heads later) (heads later)) []) is a)
     go None is (w ∷ vs) a more =
         let b = subst (λ (o : Option ℕ). AreWalks code count (cond (is_none o) (t ∷ heads later) (heads later)) (w ∷ vs)) is a in
@@ -364,14 +364,14 @@ module _ (code : Code) (ts : List ToldSlice) where
         let number = ap (λ (u : ToldSlice). u.number) b.0 in
         let early = subst (λ (n : ℕ). Each (Earlier n) before) (sym number) (before_earlier before t later s f) in
         let own : filter (within w) ts ≡ t ∷ inner_slices later = ap (filter (within w)) e ∙ none_before w before (t ∷ later) early ∙ gathered w t later x.others b.0 (started_there before t later s) x.same x.after x.heads in
-        let told : map (λ (r : Ran). r.told) (ran code ts (w ∷ vs)) ≡ (t ∷ inner_slices later) ++ map (λ (r : Ran). r.told) (ran code ts vs) =
-        map-append (λ (r : Ran). r.told) (ran_in code ts w) (ran code ts vs) ∙ ap (λ (us : List ToldSlice). us ++ map (λ (r : Ran). r.told) (ran code ts vs)) (told_back code w (filter (within w) ts) ∙ own) in
-        ap (λ (o : Option ℕ). cond (is_none o) [] (t ∷ inner_slices later) ++ map (λ (r : Ran). r.told) (ran code ts (w ∷ vs))) is ∙ told ∙ ap (λ (us : List ToldSlice). t ∷ us) (more (count + count_of code w) vs b.2)
+        let told : map (λ (r : RanSlice). r.told) (ran code ts (w ∷ vs)) ≡ (t ∷ inner_slices later) ++ map (λ (r : RanSlice). r.told) (ran code ts vs) =
+        map-append (λ (r : RanSlice). r.told) (ran_in code ts w) (ran code ts vs) ∙ ap (λ (us : List ToldSlice). us ++ map (λ (r : RanSlice). r.told) (ran code ts vs)) (told_back code w (filter (within w) ts) ∙ own) in
+        ap (λ (o : Option ℕ). cond (is_none o) [] (t ∷ inner_slices later) ++ map (λ (r : RanSlice). r.told) (ran code ts (w ∷ vs))) is ∙ told ∙ ap (λ (us : List ToldSlice). t ∷ us) (more (count + count_of code w) vs b.2)
 
-pub all_gathered : (code : Code) (from : ℕ) (lists : List (List Packet)) (ws : List Walked) → AreWalks code 0 (heads (slices_told (kept from lists))) ws → map (λ (r : Ran). r.told) (ran code (slices_told (kept from lists)) ws) ≡ slices_told (kept from lists)
+pub all_gathered : (code : Code) (from : ℕ) (lists : List (List Packet)) (ws : List StretchLegs) → AreWalks code 0 (heads (slices_told (kept from lists))) ws → map (λ (r : RanSlice). r.told) (ran code (slices_told (kept from lists)) ws) ≡ slices_told (kept from lists)
 all_gathered code from lists ws a =
     let whole = slices_told (kept from lists) in
-    sym (ap (λ (us : List ToldSlice). us ++ map (λ (r : Ran). r.told) (ran code whole ws)) (none_inner whole (kept_heads from lists))) ∙ gather code whole [] whole 0 ws refl (starts_told (kept from lists)) (kept_follow from lists) a
+    sym (ap (λ (us : List ToldSlice). us ++ map (λ (r : RanSlice). r.told) (ran code whole ws)) (none_inner whole (kept_heads from lists))) ∙ gather code whole [] whole 0 ws refl (starts_told (kept from lists)) (kept_follow from lists) a
 
 -- the first one of slices, which is told first
 pub first_entry : (es : List Entry) (e : Entry) (t : ToldSlice) (later : List ToldSlice) → AreEntriesOf es (t ∷ later) → Some e ≡ slice_get es 0 → (rest : List Entry) × AreEntriesOf (e ∷ rest) (t ∷ later) × (es ≡ e ∷ rest)
@@ -393,7 +393,7 @@ some_inside e t is h = go t.inside (ap is_some (sym is.inside) ∙ h) where
 abbrev pub begins_at : Entry → Begin
 begins_at e = record { number = e.number; first = e.start; later = e.later }
 
-pub stopped_or : (code : Code) (from : ℕ) (lists : List (List Packet)) (before later : List ToldSlice) (t : ToldSlice) (ws : List Walked) (walks : Walks) (e : Entry) (room : ℕ) (b : Begin) (fault : PathFault)
+pub stopped_or : (code : Code) (from : ℕ) (lists : List (List Packet)) (before later : List ToldSlice) (t : ToldSlice) (ws : List StretchLegs) (walks : Walks) (e : Entry) (room : ℕ) (b : Begin) (fault : PathFault)
     → slices_told (kept from lists) ≡ before ++ t ∷ later → IsEntryOf e t → is_some e.inside ≡ false → room ≡ 65536 - walks.rows → AreWalks code 0 (heads before) ws → AreKept code (slices_told (kept from lists)) ws walks → b ≡ begins_at e
     → (fault ≡ OutOfMemory) ⊎ StopsAt code (record { number = b.number; room = room }) (b.first ∷ same_stretch false t.later) fault → (fault ≡ OutOfMemory) ⊎ WalksFault code 0 (heads (slices_told (kept from lists))) fault
 stopped_or code from lists before later t ws walks e room b fault whole is some room_is a k b_is h = elim h [
@@ -404,12 +404,12 @@ stopped_or code from lists before later t ws walks e room b fault whole is some 
 pub held_at : (e : Entry) (t : ToldSlice) (b : Begin) → IsEntryOf e t → b ≡ begins_at e → Hold (rest_of b.later) t.later
 held_at e t b is b_is = subst (λ (x : Begin). Hold (rest_of x.later) t.later) (sym b_is) is.later
 
-pub stretch_on_from : (code : Code) (from : ℕ) (lists : List (List Packet)) (before later : List ToldSlice) (t : ToldSlice) (ws : List Walked) (old new : Walks) (e : Entry) (es rest : List Entry) (room : ℕ) (b : Begin) (walk : Walk) (counts : List ℕ) (keeps : Kept)
+pub stretch_on_from : (code : Code) (from : ℕ) (lists : List (List Packet)) (before later : List ToldSlice) (t : ToldSlice) (ws : List StretchLegs) (old new : Walks) (e : Entry) (es rest : List Entry) (room : ℕ) (b : Begin) (walk : Walk) (counts : List ℕ) (keeps : Kept)
     → slices_told (kept from lists) ≡ before ++ t ∷ later → AreWalks code 0 (heads before) ws → AreKept code (slices_told (kept from lists)) ws old → AreEntriesOf (e ∷ rest) (t ∷ later) → es ≡ e ∷ rest → is_some e.inside ≡ false → room ≡ 65536 - old.rows → b ≡ begins_at e
     → ((legs : List (List StepRow)) × Stands code (earlier_by (record { number = b.number; room = room }) (reverse (b.first ∷ same_stretch false t.later)) legs) walk × (counts ≡ marks code (reverse (b.first ∷ same_stretch false t.later)) legs))
     → keeps.rows ≡ walk.steps → keeps.walk ≡ record walk { steps = [] } → (number : ℕ) → number ≡ length old.stretches.items → new.slices.items ≡ old.slices.items ++ kept_by number (length walk.steps) counts es → new.stretches.items ≡ old.stretches.items ++ keeps ∷ []
     → (n : ℕ) → n ≡ length walk.steps → new.rows ≡ old.rows + n
-    → (vs : List Walked) × AreWalks code 0 (heads (before ++ t ∷ [])) vs × AreKept code (slices_told (kept from lists)) vs new
+    → (vs : List StretchLegs) × AreWalks code 0 (heads (before ++ t ∷ [])) vs × AreKept code (slices_told (kept from lists)) vs new
 stretch_on_from code from lists before later t ws old new e es rest room b walk counts keeps whole a k told_is es_is some room_is b_is h rows walk_is number number_is slices stretches n n_is rows_are =
     let s = subst (λ (x : Begin). Stands code (earlier_by (record { number = x.number; room = room }) (reverse (x.first ∷ same_stretch false t.later)) h.0) walk) b_is h.1 in
     let m = h.2 ∙ ap (λ (x : Begin). marks code (reverse (x.first ∷ same_stretch false t.later)) h.0) b_is in

@@ -3,7 +3,7 @@ use Rattle.std.proofs.Common.{◌≡◌, ◌⊎◌, inl, inr, ℕ, ◌<◌, ◌^
 use Rattle.std.specs.Prelude.{IfOk, IfErr, MatchResult}
 use Rattle.std.specs.List.{All, sum_by}
 use Rattle.std.proofs.lemmas.List.Elements.{All-nil, All-cons, All-same}
-use Rattle.rept_steps.specs.Course.{IsSound}
+use Rattle.rept_steps.specs.Course.{IsSoundCourse}
 use Rattle.rept_trace.specs.declared.parameters.Parameters.{Parameters}
 use Rattle.rept_trace.specs.declared.packet.Packet.TheVariants.{Start, Context, Support, Address, Map, MapAddress}
 use Rattle.rept_trace.specs.Grammar.{timed, IsPacket}
@@ -27,10 +27,10 @@ use Rattle.rept_path.specs.Moves.{◌>>=◌}
 use Rattle.rept_slices.specs.Parts.{ToldSlice, slices_told}
 use Rattle.rept_slices.specs.Skipping.{windows, greatest, ends_of, kept, skipped, dark}
 use Rattle.rept_slices.specs.Checks.{first_fault, check}
-use Rattle.rept_slices.specs.Stretches.{heads, Walked, Walks, WalksFault, ran}
-use Rattle.rept_slices.specs.Joins.{Note, ran_rows, threads}
-use Rattle.rept_slices.specs.Many.{Traces, processes, ground, overlap_fault, unmet, run_by, joined, IsRunOfStreams, IsRefused}
-use Rattle.rept_slices.specs.Raw.{streams_of, HoldEach, Files, code_in, traces, IsRunOf, HasNoRun, IsRefusedBefore, PassBefore, note_in, files_of}
+use Rattle.rept_slices.specs.Stretches.{heads, StretchLegs, Walks, WalksFault, ran}
+use Rattle.rept_slices.specs.Joins.{ThreadNote, ran_rows, threads}
+use Rattle.rept_slices.specs.Many.{Traces, processes, ground, overlap_fault, unmet, run_by, joined, IsRunOfStreams, HasNoRunOfStreams}
+use Rattle.rept_slices.specs.Raw.{streams_of, HoldEach, RawFiles, code_in, traces, IsRunOfFiles, HasNoRun, IsRefusedBefore, PassBefore, note_in, files_of}
 use Rattle.rept_threads.specs.Notes.{known_by}
 use Rattle.rept_slices.specs.Surveyed.{IsSurvey}
 use Rattle.rept_slices.specs.declared.survey.Survey.{Survey}
@@ -42,7 +42,7 @@ pub record Parts (file : StreamFile) (descs : List (List ℕ)) (from : ℕ) (pro
   pub noted : map known_by notes ≡ map note_in descs
   pub processes : processes_are ≡ map (λ (n : KeptNote). n.process) notes
 
-known_processes : (notes : List KeptNote) → map (λ (n : KeptNote). n.process) notes ≡ map (λ (n : Note). n.process) (map known_by notes)
+known_processes : (notes : List KeptNote) → map (λ (n : KeptNote). n.process) notes ≡ map (λ (n : ThreadNote). n.process) (map known_by notes)
 known_processes [] = refl
 known_processes (n ∷ notes) = ap (λ (ps : List ℕ). n.process ∷ ps) (known_processes notes)
 
@@ -65,7 +65,7 @@ pub dark_is : (from : ℕ) (lists : List (List Packet)) (s : Survey) (d : Option
 dark_is from lists s d is h = h ∙ (λ i. cond (is.several i) (Some (greatest (is.time i ∷ ends_of (is.time i) (slices_told (windows from lists))))) None)
 
 module _ (dump : Dump) (file : StreamFile) (descs : List (List ℕ)) (from : ℕ) (processes_are : List ℕ) (notes : List KeptNote) (lists : List (List Packet)) (p : Parts file descs from processes_are notes lists) where
-  abbrev files : Files
+  abbrev files : RawFiles
   files = files_of dump file descs from
 
   abbrev all : Traces
@@ -75,7 +75,7 @@ module _ (dump : Dump) (file : StreamFile) (descs : List (List ℕ)) (from : ℕ
   ts = slices_told (kept from lists)
 
   same_processes : processes_are ≡ processes all
-  same_processes = p.processes ∙ known_processes notes ∙ ap (map (λ (n : Note). n.process)) p.noted
+  same_processes = p.processes ∙ known_processes notes ∙ ap (map (λ (n : ThreadNote). n.process)) p.noted
 
   passes : check from (processes all) lists ≡ None
   passes = ap (λ (ps : List ℕ). check from ps lists) (sym same_processes) ∙ p.passed.1
@@ -83,7 +83,7 @@ module _ (dump : Dump) (file : StreamFile) (descs : List (List ℕ)) (from : ℕ
   pub no_walk : (code : Code) (e : PathFault) → code ≡ code_in files → WalksFault code 0 (heads ts) e → HasNoRun files e
   no_walk code e is h = inr (lists, p.passed.0, inr (passes, inl (subst (λ (c : Code). WalksFault c 0 (heads ts) e) is h)))
 
-  module _ (code : Code) (is : code ≡ code_in files) (ws : List Walked) (walks : Walks code 0 (heads ts) ws) where
+  module _ (code : Code) (is : code ≡ code_in files) (ws : List StretchLegs) (walks : Walks code 0 (heads ts) ws) where
     walks_too : Walks (code_in files) 0 (heads ts) ws
     walks_too = subst (λ (c : Code). Walks c 0 (heads ts) ws) is walks
 
@@ -112,7 +112,7 @@ module _ (dump : Dump) (file : StreamFile) (descs : List (List ℕ)) (from : ℕ
         inr (lists, p.passed.0, inr (passes, inr (ws, walks_too, apart ∙ ap (λ (r : Result (List ThreadRows) PathFault). r >>= onward) (same_threads packets count (Err e) packets_are counted h))))
 
     pub has_run : (packets count : ℕ) (rows : List ThreadRows) (d : Option ℕ) (n : ℕ) → None ≡ first_fault (overlap_fault ts) processes_are → packets ≡ sum_by (λ ps. length ps) lists → count ≡ ran_rows (ran code ts ws)
-        → threads (record { code = code; packets = packets }) count (map known_by notes) (ran code ts ws) ≡ Ok rows → d ≡ dark from lists → n ≡ skipped from lists → IsRunOf files (record { threads = rows; dark = d; skipped = n })
+        → threads (record { code = code; packets = packets }) count (map known_by notes) (ran code ts ws) ≡ Ok rows → d ≡ dark from lists → n ≡ skipped from lists → IsRunOfFiles files (record { threads = rows; dark = d; skipped = n })
     has_run packets count rows d n unmet_is packets_are counted h dark_of skips =
         let apart = ap (λ (o : Option PathFault). unmet o >>= (λ none. by_threads >>= onward)) (found_is None unmet_is) in
         let result : joined all ws ≡ Ok (run_by all rows) = apart ∙ ap (λ (r : Result (List ThreadRows) PathFault). r >>= onward) (same_threads packets count (Ok rows) packets_are counted h) in
@@ -124,7 +124,7 @@ pub refused_before : (dump : Dump) (file : StreamFile) (descs : List (List ℕ))
     → IsRefusedBefore (record { file = file; processes = processes_are; from = from }) e → HasNoRun (files_of dump file descs from) e
 refused_before dump file descs from processes_are notes e noted processes_is (inl x) = inl x
 refused_before dump file descs from processes_are notes e noted processes_is (inr x) =
-    let same : processes_are ≡ map (λ (n : Note). n.process) (map note_in descs) = processes_is ∙ known_processes notes ∙ ap (map (λ (n : Note). n.process)) noted in
+    let same : processes_are ≡ map (λ (n : ThreadNote). n.process) (map note_in descs) = processes_is ∙ known_processes notes ∙ ap (map (λ (n : ThreadNote). n.process)) noted in
     inr (x.0, x.1, inl (ap (λ (ps : List ℕ). check from ps x.0) (sym same) ∙ x.2))
 
 -- times have 64 bits
@@ -149,22 +149,22 @@ all_clocks halves (s ∷ streams) [] h = absurd h
 all_clocks halves (s ∷ streams) (p ∷ lists) h = All-cons (All (λ (q : Packet). clock_of q < 2 ^ 64)) p lists (clocks_fit halves (record { widths = timed halves; bytes = s }) p refl h.0) (all_clocks halves streams lists h.1)
 
 -- The run of a file is sound.
-pub file_sound : (f : Files) (run : Run) → IsRunOf f run → IsSound (record { threads = run.threads; dark = run.dark })
+pub file_sound : (f : RawFiles) (run : Run) → IsRunOfFiles f run → IsSoundCourse (record { threads = run.threads; dark = run.dark })
 file_sound f run x = is_sound (traces f x.0) run (all_clocks f.file.halves f.file.streams x.0 x.1) x.2
 
 -- There is one answer.
-pub one_run_of : (f : Files) (a b : Run) → IsRunOf f a → IsRunOf f b → a ≡ b
+pub one_run_of : (f : RawFiles) (a b : Run) → IsRunOfFiles f a → IsRunOfFiles f b → a ≡ b
 one_run_of f a b x y = one_run (traces f y.0) a b (subst (λ (ps : List (List Packet)). IsRunOfStreams (traces f ps) a) (same_lists (streams_of f.file) x.0 y.0 x.1 y.1) x.2) y.2
 
-pub run_or_none : (f : Files) (a : Run) (e : PathFault) → IsRunOf f a → HasNoRun f e → ⊥
+pub run_or_none : (f : RawFiles) (a : Run) (e : PathFault) → IsRunOfFiles f a → HasNoRun f e → ⊥
 run_or_none f a e x (inl y) = held_or_refused 0 (streams_of f.file) x.0 y.0 x.1 y.1
 run_or_none f a e x (inr y) = run_or_refusal (traces f y.0) a e (subst (λ (ps : List (List Packet)). IsRunOfStreams (traces f ps) a) (same_lists (streams_of f.file) x.0 y.0 x.1 y.1) x.2) y.2
 
-pub one_refusal_of : (f : Files) (d e : PathFault) → HasNoRun f d → HasNoRun f e → d ≡ e
+pub one_refusal_of : (f : RawFiles) (d e : PathFault) → HasNoRun f d → HasNoRun f e → d ≡ e
 one_refusal_of f d e (inl x) (inl y) = x.2 ∙ ap fault.Packet (same_refused 0 (streams_of f.file) x.0 y.0 x.1 y.1) ∙ sym y.2
 one_refusal_of f d e (inl x) (inr y) = absurd (held_or_refused 0 (streams_of f.file) y.0 x.0 y.1 x.1)
 one_refusal_of f d e (inr x) (inl y) = absurd (held_or_refused 0 (streams_of f.file) x.0 y.0 x.1 y.1)
-one_refusal_of f d e (inr x) (inr y) = one_refusal (traces f y.0) d e (subst (λ (ps : List (List Packet)). IsRefused (traces f ps) d) (same_lists (streams_of f.file) x.0 y.0 x.1 y.1) x.2) y.2
+one_refusal_of f d e (inr x) (inr y) = one_refusal (traces f y.0) d e (subst (λ (ps : List (List Packet)). HasNoRunOfStreams (traces f ps) d) (same_lists (streams_of f.file) x.0 y.0 x.1 y.1) x.2) y.2
 
 -- What holds of a result by one clause each makes it the only one.
 pub only_found : {A : Type 0} (P : A → Type 0) (Q : PathFault → Type 0) (r : Result A PathFault) (x : A) → IfOk r P → IfErr r (λ e. (e ≡ OutOfMemory) ⊎ Q e) → ((a : A) → P a → a ≡ x) → ((e : PathFault) → Q e → ⊥) → MatchResult r (λ a. a ≡ x) (λ e. e ≡ OutOfMemory)

@@ -4,11 +4,11 @@ use Rattle.std.specs.List.{filter}
 use Rattle.rept_path.specs.Program.{code_of}
 use Rattle.rept_path.specs.declared.fault.PathFault.TheVariants.{Gap, End}
 use Rattle.rept_slices.specs.Stamps.{address_of, context_of}
-use Rattle.rept_slices.specs.Joins.{Ground, Joined, ThreadGround, of_thread}
+use Rattle.rept_slices.specs.Joins.{JoinGround, JoinedSlice, ThreadGround, of_thread}
 use Rattle.rept_slices.specs.Parts.{begin_of, end_before}
 use Rattle.rept_steps.specs.declared.slice.Slice.{Slice}
 use Rattle.rept_threads.specs.Kept.{AreRan}
-use Rattle.rept_slices.specs.Stretches.{Ran}
+use Rattle.rept_slices.specs.Stretches.{RanSlice}
 use Rattle.rept_slices.specs.declared.telling.Entry.{Entry}
 use Rattle.rept_threads.specs.declared.walks.Kept.{Kept}
 use Rattle.rept_threads.specs.declared.walks.Walked.{Walked}
@@ -23,22 +23,22 @@ onward packets at pc (Some e) = if is_none e.inside then Some (record { packet =
 abbrev pub ending_of : Joins → ℕ → ThreadGround
 ending_of j pc = record { code = code_of j.program; packets = j.packets; pc = pc }
 
-abbrev pub ground_of : Joins → Ground
+abbrev pub ground_of : Joins → JoinGround
 ground_of j = record { code = code_of j.program; packets = j.packets }
 
 -- Slices that stand in order have, of each thread, those that its slices are in order.
-abbrev pub AreRanInOrder : List Kept → List Walked → List Ran → Type 0
+abbrev pub AreRanInOrder : List Kept → List Walked → List RanSlice → Type 0
 AreRanInOrder kept ws rs = (process : ℕ) → AreRan kept (filter (λ (w : Walked). context_of w.slice.start == process) ws) (of_thread process rs)
 
 -- a slice of a thread, by when the next one begins, of so many rows from this one on
-abbrev pub slice_before : Joined → Option ℕ → ℕ → Slice
+abbrev pub slice_before : JoinedSlice → Option ℕ → ℕ → Slice
 slice_before j next first = record { stream = j.told.stream; begin = begin_of j.told; end = end_before j.told next; first = first; count = length j.rows }
 
-abbrev pub begin_of_ran : Ran → ℕ
+abbrev pub begin_of_ran : RanSlice → ℕ
 begin_of_ran r = begin_of r.told
 
 -- The joins stand as before, but for the count of rows, which is this one.
-pub record GoesOn (old new : Joins) (n : ℕ) : Type 0 where
+pub record JoinsGoOn (old new : Joins) (n : ℕ) : Type 0 where
   pub program : new.program ≡ old.program
   pub packets : new.packets ≡ old.packets
   pub stretches : new.stretches.items ≡ old.stretches.items

@@ -4,7 +4,7 @@ use Rattle.std.specs.List.{sum_by}
 use Rattle.rept_path.specs.Code.{Code}
 use Rattle.rept_path.specs.State.{here, Counts}
 use Rattle.rept_slices.specs.Parts.{ToldSlice}
-use Rattle.rept_slices.specs.Stretches.{Ran, Walked as WalkedStretch, count_of, ran}
+use Rattle.rept_slices.specs.Stretches.{RanSlice, StretchLegs as WalkedStretch, count_of, ran}
 use Rattle.rept_slices.specs.Joins.{ran_rows}
 use Rattle.rept_slices.specs.Entries.{IsEntryOf}
 use Rattle.rept_slices.specs.declared.telling.Entry.{Entry}
@@ -15,7 +15,7 @@ use Rattle.rept_slices.specs.Ends.{first_or}
 
 -- A slice is kept as its entry, the number of its stretch, and which rows of the stretch it has; the stretch as its rows, and the walk
 -- as it ended, without them.
-pub record IsRan (kept : List Kept) (w : Walked) (r : Ran) : Type 0 where
+pub record IsRan (kept : List Kept) (w : Walked) (r : RanSlice) : Type 0 where
   pub told : IsEntryOf w.slice r.told
   pub stretch : Kept
   pub there : slice_get kept w.stretch ≡ Some stretch
@@ -27,7 +27,7 @@ pub record IsRan (kept : List Kept) (w : Walked) (r : Ran) : Type 0 where
   pub empty : stretch.walk.steps ≡ []
   pub counts : Counts stretch.walk
 
-abbrev pub AreRan : List Kept → List Walked → List Ran → Type 0
+abbrev pub AreRan : List Kept → List Walked → List RanSlice → Type 0
 AreRan kept [] rs = rs ≡ []
 AreRan kept (w ∷ ws) [] = ⊥
 AreRan kept (w ∷ ws) (r ∷ rs) = IsRan kept w r × AreRan kept ws rs

@@ -4,24 +4,24 @@ use Rattle.rept_isa.specs.declared.row.StepRow.{StepRow}
 use Rattle.rept_steps.specs.Linked.{EndBefore}
 use Rattle.rept_slices.specs.Stamps.{address_of}
 use Rattle.rept_slices.specs.Order.{head_of}
-use Rattle.rept_slices.specs.Stretches.{Ran}
+use Rattle.rept_slices.specs.Stretches.{RanSlice}
 
 -- Rows, oldest first, that lead from the one address to the other.
-abbrev pub Goes : List StepRow → ℕ → ℕ → Type 0
-Goes [] a b = a ≡ b
-Goes (r ∷ rows) a b = (r.at ≡ a) × Goes rows r.next b
+abbrev pub GoesFromTo : List StepRow → ℕ → ℕ → Type 0
+GoesFromTo [] a b = a ≡ b
+GoesFromTo (r ∷ rows) a b = (r.at ≡ a) × GoesFromTo rows r.next b
 
 -- where a slice leads: to the next one of its thread, if that begins while the trace runs, or else to where its stretch ends
-abbrev pub onward_to : Ran → Option Ran → ℕ
+abbrev pub onward_to : RanSlice → Option RanSlice → ℕ
 onward_to r None = r.last.at
 onward_to r (Some q) = if is_none q.told.inside then r.last.at else address_of q.told.start
 
 -- slices, each of which leads on from its start packet's address
-abbrev pub Chained : List Ran → Type 0
+abbrev pub Chained : List RanSlice → Type 0
 Chained [] = Unit {0}
-Chained (r ∷ rs) = Goes r.rows (address_of r.told.start) (onward_to r (head_of rs)) × Chained rs
+Chained (r ∷ rs) = GoesFromTo r.rows (address_of r.told.start) (onward_to r (head_of rs)) × Chained rs
 
 -- Rows end where the next slice begins, if there is one.
-abbrev pub Ready : List StepRow → Option Ran → Type 0
+abbrev pub Ready : List StepRow → Option RanSlice → Type 0
 Ready rows None = Unit {0}
 Ready rows (Some r) = EndBefore rows (address_of r.told.start)

@@ -8,14 +8,14 @@ ghost use Rattle.rept_path.specs.Program.{code_of};
 ghost use Rattle.rept_path.specs.State.{here, Counts};
 ghost use Rattle.rept_slices.specs.Entries.{IsEntryOf};
 ghost use Rattle.rept_isa.specs.declared.row.StepRow.{StepRow};
-ghost use Rattle.rept_threads.specs.Linking.{Goes, onward_to, Chained, Ready};
-ghost use Rattle.rept_slices.specs.Joins.{Joined, of_thread as slices_in_order, bridge, with_rows, join, thread, threads, rows_in, ran_rows};
+ghost use Rattle.rept_threads.specs.Linking.{GoesFromTo, onward_to, Chained, Ready};
+ghost use Rattle.rept_slices.specs.Joins.{JoinedSlice, of_thread as slices_in_order, bridge, with_rows, join, thread, threads, rows_in, ran_rows};
 ghost use Rattle.rept_slices.specs.Order.{head_of};
 ghost use Rattle.rept_threads.specs.Kept.{AreRan};
-ghost use Rattle.rept_threads.specs.Joining.{onward, ending_of, ground_of, AreRanInOrder, GoesOn, slice_before, begin_of_ran};
+ghost use Rattle.rept_threads.specs.Joining.{onward, ending_of, ground_of, AreRanInOrder, JoinsGoOn, slice_before, begin_of_ran};
 ghost use Rattle.rept_threads.specs.Notes.{known_by};
 ghost use Rattle.rept_slices.specs.Parts.{ToldSlice, begin_of, end_before};
-ghost use Rattle.rept_slices.specs.Stretches.{Ran};
+ghost use Rattle.rept_slices.specs.Stretches.{RanSlice};
 ghost use Rattle.rept_slices.specs.declared.telling.Entry.{Entry};
 ghost use Rattle.rept_threads.specs.declared.walks.Walked.{Walked};
 ghost use Rattle.rept_path.specs.declared.fault.PathFault.TheVariants.{OutOfMemory};
@@ -91,7 +91,7 @@ fn add_row(steps: &mut Steps, row: &StepRow) -> Result<(), PathFault>
 
 /// Adds steps after others, which lead to them.
 fn add_rows(steps: &mut Steps, rows: &[StepRow]) -> Result<(), PathFault>
-    requires { (a : ℕ) × (b : ℕ) × EndBefore steps.old a × Goes rows.now a b }
+    requires { (a : ℕ) × (b : ℕ) × EndBefore steps.old a × GoesFromTo rows.now a b }
     ensures ok { OnOk result (steps.new ≡ steps.old ++ rows.now) }
     ensures err { IfErr result (λ e. e ≡ OutOfMemory) }
 {
@@ -197,10 +197,10 @@ impl<'a> Joins<'a> {
     /// The rows that lead on from the first one of slices of a thread that stand in order: to the next one, or to the end, where the thread stands at this address.
     fn bridge(&mut self, alloc: Global, walked: &[Walked<'_>], pc: u32) -> Result<Steps, PathFault>
         requires few { self.old.count ≤ 65536 }
-        requires ran { (r : Ran) × (rs : List Ran) × AreRan self.old.stretches.items walked.now (r ∷ rs) }
-        ensures ok { (r : Ran) (rs : List Ran) → AreRan self.old.stretches.items walked.now (r ∷ rs) → IfOk result (λ more. bridge (ending_of self.old pc) self.old.count r (head_of rs) ≡ Ok (reverse more)) }
-        ensures err { (r : Ran) (rs : List Ran) → AreRan self.old.stretches.items walked.now (r ∷ rs) → IfErr result (λ e. (e ≡ OutOfMemory) ⊎ (bridge (ending_of self.old pc) self.old.count r (head_of rs) ≡ Err e)) }
-        ensures count { IfOk result (λ more. GoesOn self.old self.new (self.old.count + length more)) }
+        requires ran { (r : RanSlice) × (rs : List RanSlice) × AreRan self.old.stretches.items walked.now (r ∷ rs) }
+        ensures ok { (r : RanSlice) (rs : List RanSlice) → AreRan self.old.stretches.items walked.now (r ∷ rs) → IfOk result (λ more. bridge (ending_of self.old pc) self.old.count r (head_of rs) ≡ Ok (reverse more)) }
+        ensures err { (r : RanSlice) (rs : List RanSlice) → AreRan self.old.stretches.items walked.now (r ∷ rs) → IfErr result (λ e. (e ≡ OutOfMemory) ⊎ (bridge (ending_of self.old pc) self.old.count r (head_of rs) ≡ Err e)) }
+        ensures count { IfOk result (λ more. JoinsGoOn self.old self.new (self.old.count + length more)) }
         ensures few { IfOk result (λ more. self.old.count + length more ≤ 65536) }
     {
         let Some(first) = walked.first() else {
@@ -228,14 +228,14 @@ impl<'a> Joins<'a> {
         pc: u32,
     ) -> Result<(), PathFault>
         requires few { self.old.count ≤ 65536 }
-        requires ran { (r : Ran) × (rs : List Ran) × AreRan self.old.stretches.items walked.now (r ∷ rs) × EndBefore thread.old.steps (address_of r.told.start) × Goes r.rows (address_of r.told.start) (onward_to r (head_of rs)) }
-        ensures ok { (r : Ran) (rs : List Ran) → AreRan self.old.stretches.items walked.now (r ∷ rs) →
-            OnOk result ((more : List StepRow) × (bridge (ending_of self.old pc) self.old.count r (head_of rs) ≡ Ok more) × GoesOn self.old self.new (self.old.count + length more)
+        requires ran { (r : RanSlice) × (rs : List RanSlice) × AreRan self.old.stretches.items walked.now (r ∷ rs) × EndBefore thread.old.steps (address_of r.told.start) × GoesFromTo r.rows (address_of r.told.start) (onward_to r (head_of rs)) }
+        ensures ok { (r : RanSlice) (rs : List RanSlice) → AreRan self.old.stretches.items walked.now (r ∷ rs) →
+            OnOk result ((more : List StepRow) × (bridge (ending_of self.old pc) self.old.count r (head_of rs) ≡ Ok more) × JoinsGoOn self.old self.new (self.old.count + length more)
             × (self.old.count + length more ≤ 65536) × (thread.new ≡ record { steps = thread.old.steps ++ (with_rows r more).rows; slices = thread.old.slices ++ slice_before (with_rows r more) (option_map begin_of_ran (head_of rs)) (length thread.old.steps) ∷ [] })) }
-        ensures err { (r : Ran) (rs : List Ran) → AreRan self.old.stretches.items walked.now (r ∷ rs) → IfErr result (λ e. (e ≡ OutOfMemory) ⊎ (bridge (ending_of self.old pc) self.old.count r (head_of rs) ≡ Err e)) }
+        ensures err { (r : RanSlice) (rs : List RanSlice) → AreRan self.old.stretches.items walked.now (r ∷ rs) → IfErr result (λ e. (e ≡ OutOfMemory) ⊎ (bridge (ending_of self.old pc) self.old.count r (head_of rs) ≡ Err e)) }
 
         // The rows lead to the next slice.
-        ensures ready { (r : Ran) (rs : List Ran) → AreRan self.old.stretches.items walked.now (r ∷ rs) → EndBefore thread.old.steps (address_of r.told.start) → Goes r.rows (address_of r.told.start) (onward_to r (head_of rs)) → OnOk result (Ready thread.new.steps (head_of rs)) }
+        ensures ready { (r : RanSlice) (rs : List RanSlice) → AreRan self.old.stretches.items walked.now (r ∷ rs) → EndBefore thread.old.steps (address_of r.told.start) → GoesFromTo r.rows (address_of r.told.start) (onward_to r (head_of rs)) → OnOk result (Ready thread.new.steps (head_of rs)) }
     {
         let Some(slice) = walked.first() else {
             return Ok(());
@@ -265,10 +265,10 @@ impl<'a> Joins<'a> {
         pc: u32,
     ) -> Result<ThreadRows, PathFault>
         requires few { self.old.count ≤ 65536 }
-        requires ran { (rs : List Ran) × AreRan self.old.stretches.items walked.now rs × Chained rs }
-        ensures ok { (rs : List Ran) → AreRan self.old.stretches.items walked.now rs →
-            IfOk result (λ rows. (js : List Joined) × (join (ending_of self.old pc) self.old.count rs ≡ Ok js) × (rows ≡ thread js) × GoesOn self.old self.new (self.old.count + (rows_in js - ran_rows rs)) × (self.new.count ≤ 65536)) }
-        ensures err { (rs : List Ran) → AreRan self.old.stretches.items walked.now rs → IfErr result (λ e. (e ≡ OutOfMemory) ⊎ (join (ending_of self.old pc) self.old.count rs ≡ Err e)) }
+        requires ran { (rs : List RanSlice) × AreRan self.old.stretches.items walked.now rs × Chained rs }
+        ensures ok { (rs : List RanSlice) → AreRan self.old.stretches.items walked.now rs →
+            IfOk result (λ rows. (js : List JoinedSlice) × (join (ending_of self.old pc) self.old.count rs ≡ Ok js) × (rows ≡ thread js) × JoinsGoOn self.old self.new (self.old.count + (rows_in js - ran_rows rs)) × (self.new.count ≤ 65536)) }
+        ensures err { (rs : List RanSlice) → AreRan self.old.stretches.items walked.now rs → IfErr result (λ e. (e ≡ OutOfMemory) ⊎ (join (ending_of self.old pc) self.old.count rs ≡ Err e)) }
     {
         let mut rows = ThreadRows {
             steps: Steps::new(alloc),
@@ -290,10 +290,10 @@ impl<'a> Joins<'a> {
         notes: &[Note],
     ) -> Result<Threads, PathFault>
         requires few { self.old.count ≤ 65536 }
-        requires ran { (rs : List Ran) × AreRanInOrder self.old.stretches.items walked.now rs × ((process : ℕ) → Chained (slices_in_order process rs)) }
+        requires ran { (rs : List RanSlice) × AreRanInOrder self.old.stretches.items walked.now rs × ((process : ℕ) → Chained (slices_in_order process rs)) }
         requires order { IsNonDecreasingBy (λ (w : Walked). context_of w.slice.start) walked.now }
-        ensures ok { (rs : List Ran) → AreRanInOrder self.old.stretches.items walked.now rs → IfOk result (λ all. threads (ground_of self.old) self.old.count (map known_by notes.now) rs ≡ Ok all) }
-        ensures err { (rs : List Ran) → AreRanInOrder self.old.stretches.items walked.now rs → IfErr result (λ e. (e ≡ OutOfMemory) ⊎ (threads (ground_of self.old) self.old.count (map known_by notes.now) rs ≡ Err e)) }
+        ensures ok { (rs : List RanSlice) → AreRanInOrder self.old.stretches.items walked.now rs → IfOk result (λ all. threads (ground_of self.old) self.old.count (map known_by notes.now) rs ≡ Ok all) }
+        ensures err { (rs : List RanSlice) → AreRanInOrder self.old.stretches.items walked.now rs → IfErr result (λ e. (e ≡ OutOfMemory) ⊎ (threads (ground_of self.old) self.old.count (map known_by notes.now) rs ≡ Err e)) }
     {
         let mut threads = Threads::new(alloc);
         for note in notes {

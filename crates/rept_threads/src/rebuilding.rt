@@ -2,11 +2,11 @@
 
 ghost use Rattle.std.specs.Prelude.{◌≡◌, ◌⊎◌, ◌<◌, ◌^◌, ℕ, List, length, IfOk, IfErr, MatchResult};
 ghost use Rattle.rept_dump.specs.Dump.{HasThreads, threads_of};
-ghost use Rattle.rept_steps.specs.Course.{IsSound};
+ghost use Rattle.rept_steps.specs.Course.{IsSoundCourse};
 ghost use Rattle.rept_steps.specs.declared.run.Run.{Run};
 ghost use Rattle.rept_path.specs.declared.fault.PathFault.{PathFault};
 ghost use Rattle.rept_path.specs.declared.fault.PathFault.TheVariants.{OutOfMemory};
-ghost use Rattle.rept_slices.specs.Raw.{files_of, IsRunOf, HasNoRun};
+ghost use Rattle.rept_slices.specs.Raw.{files_of, IsRunOfFiles, HasNoRun};
 ghost use Rattle.std.specs.List.{sum_by};
 
 use crate::joins::Joins;
@@ -40,7 +40,7 @@ fn rebuild_once(
     from: u32,
 ) -> Result<Run, PathFault>
     requires { sum_by (λ bytes. length bytes) streams.streams < 2 ^ 32 }
-    ensures ok { (descs : List (List ℕ)) → HasThreads dump.now descs → threads_of dump.now ≡ length descs → IfOk result (λ run. IsRunOf (files_of dump.now streams.entry descs from) run) }
+    ensures ok { (descs : List (List ℕ)) → HasThreads dump.now descs → threads_of dump.now ≡ length descs → IfOk result (λ run. IsRunOfFiles (files_of dump.now streams.entry descs from) run) }
     ensures err { (descs : List (List ℕ)) → HasThreads dump.now descs → threads_of dump.now ≡ length descs → IfErr result (λ e. (e ≡ OutOfMemory) ⊎ HasNoRun (files_of dump.now streams.entry descs from) e) }
 {
     let notes = notes_of(alloc, dump)?;
@@ -88,15 +88,15 @@ pub fn rebuild_many(
     from: u32,
 ) -> Result<Run, PathFault>
     requires { sum_by (λ bytes. length bytes) streams.streams < 2 ^ 32 }
-    ensures ok { (descs : List (List ℕ)) → HasThreads dump.now descs → threads_of dump.now ≡ length descs → IfOk result (λ run. IsRunOf (files_of dump.now streams.entry descs from) run) }
+    ensures ok { (descs : List (List ℕ)) → HasThreads dump.now descs → threads_of dump.now ≡ length descs → IfOk result (λ run. IsRunOfFiles (files_of dump.now streams.entry descs from) run) }
     ensures err { (descs : List (List ℕ)) → HasThreads dump.now descs → threads_of dump.now ≡ length descs → IfErr result (λ e. (e ≡ OutOfMemory) ⊎ HasNoRun (files_of dump.now streams.entry descs from) e) }
 
     // There is no other run, and no other refusal. Want of memory is none of the definition's.
-    ensures only_run { (descs : List (List ℕ)) (found : Run) → HasThreads dump.now descs → threads_of dump.now ≡ length descs → IsRunOf (files_of dump.now streams.entry descs from) found → MatchResult result (λ run. run ≡ found) (λ e. e ≡ OutOfMemory) }
+    ensures only_run { (descs : List (List ℕ)) (found : Run) → HasThreads dump.now descs → threads_of dump.now ≡ length descs → IsRunOfFiles (files_of dump.now streams.entry descs from) found → MatchResult result (λ run. run ≡ found) (λ e. e ≡ OutOfMemory) }
     ensures only_refusal { (descs : List (List ℕ)) (fault : PathFault) → HasThreads dump.now descs → threads_of dump.now ≡ length descs → HasNoRun (files_of dump.now streams.entry descs from) fault → MatchResult result (λ _. ⊥) (λ e. (e ≡ OutOfMemory) ⊎ (e ≡ fault)) }
 
     // Runs are sound.
-    ensures sound { (descs : List (List ℕ)) → HasThreads dump.now descs → threads_of dump.now ≡ length descs → IfOk result (λ run. IsSound (record { threads = run.threads; dark = run.dark })) }
+    ensures sound { (descs : List (List ℕ)) → HasThreads dump.now descs → threads_of dump.now ≡ length descs → IfOk result (λ run. IsSoundCourse (record { threads = run.threads; dark = run.dark })) }
 {
     rebuild_once(alloc, streams, dump, from)
 }

@@ -4,7 +4,7 @@ ghost use Rattle.std.specs.Prelude.{◌≡◌, ◌⊎◌, ◌++◌, ◌<◌, ◌
 ghost use Rattle.rept_isa.specs.declared.row.StepRow.{StepRow};
 ghost use Rattle.rept_trace.specs.declared.packet.Packet.{Packet};
 ghost use Rattle.rept_trace.specs.Packets.{rest_of, number_of};
-ghost use Rattle.rept_trace.specs.Stream.{Hold, Answers};
+ghost use Rattle.rept_trace.specs.Stream.{Hold, AnswersNext};
 ghost use Rattle.rept_path.specs.declared.fault.PathFault.TheVariants.{OutOfMemory};
 ghost use Rattle.rept_path.specs.Packets.{begins};
 ghost use Rattle.rept_path.specs.Program.{code_of};
@@ -35,7 +35,7 @@ fn begins(packet: Packet, waits: bool) -> bool
 /// The next packet of bytes that hold whole packets alone, if it is one of the same stretch.
 fn next_of_stretch(rest: &mut Packets<'_>, waits: bool) -> Option<Packet>
     requires { (more : List Packet) × Hold (rest_of rest.old) more }
-    ensures some { IfSome result (λ packet. Answers (number_of rest.old) (rest_of rest.old) (Ok (Some packet)) (number_of rest.new) (rest_of rest.new)) }
+    ensures some { IfSome result (λ packet. AnswersNext (number_of rest.old) (rest_of rest.old) (Ok (Some packet)) (number_of rest.new) (rest_of rest.new)) }
     ensures same { IfSome result (λ packet. begins packet waits ≡ false) }
     ensures none { IfNone result ((more : List Packet) → Hold (rest_of rest.old) more → same_stretch waits more ≡ []) }
 {

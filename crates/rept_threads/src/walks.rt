@@ -14,7 +14,7 @@ ghost use Rattle.rept_slices.specs.Order.{by_time};
 ghost use Rattle.rept_slices.specs.Parts.{ToldSlice, slices_told};
 ghost use Rattle.rept_slices.specs.Skipping.{kept};
 ghost use Rattle.rept_slices.specs.Stamps.{clock_of, context_of, is_start};
-ghost use Rattle.rept_slices.specs.Stretches.{heads, Walked as WalkedStretch, Walks as AreWalks, WalksFault};
+ghost use Rattle.rept_slices.specs.Stretches.{heads, StretchLegs as WalkedStretch, Walks as AreWalks, WalksFault};
 ghost use Rattle.rept_threads.specs.declared.walks.Walked.{Walked};
 
 use crate::stretch::{Stretch, walk_stretch};

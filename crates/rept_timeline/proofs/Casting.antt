@@ -31,7 +31,7 @@ pub moment_as : (M : Moments) (o : Option StepRow) (p : ℕ) → seen.moment_by 
 moment_as M None p = refl
 moment_as M (Some row) p = refl
 
-pub row_at_as : (x : seen.Seen) (m : ℕ) (o : Option ℕ) → seen.IsRowAt x m o → report.IsRowAt (as_timeline x) m o
+pub row_at_as : (x : seen.SeenMoments) (m : ℕ) (o : Option ℕ) → seen.IsRowAt x m o → report.IsRowAt (as_timeline x) m o
 row_at_as x m None its = its
 row_at_as x m (Some i) its = its
 

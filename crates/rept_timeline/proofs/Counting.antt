@@ -5,7 +5,7 @@ use Rattle.std.proofs.lemmas.Option.{slice_get_past}
 use Rattle.rept_isa.specs.declared.row.StepRow.{StepRow}
 use Rattle.rept_steps.specs.declared.slice.Slice.{Slice}
 use Rattle.rept_steps.specs.declared.threads.ThreadRows.{ThreadRows}
-use Rattle.rept_steps.specs.Course.{Course, rows_of, row_at, IsSound}
+use Rattle.rept_steps.specs.Course.{Course, rows_of, row_at, IsSoundCourse}
 use Rattle.rept_order.specs.Moments.{Moment}
 use Rattle.rept_order.specs.Legs.{points_before, number_of, leg_row, row_from}
 use Rattle.rept_order.proofs.Legs.{point_number}
@@ -13,7 +13,7 @@ use Rattle.rept_report.specs.Timeline.{IsTimeline}
 use Rattle.rept_course.specs.Making.{lasts, keeps}
 use Rattle.rept_moments.specs.declared.side.Timed.{Timed}
 use Rattle.rept_moments.specs.Points.{points_in}
-use Rattle.rept_moments.specs.Ordering.{side, timed, timed_at, timed_to, put, by_time, in_time, back, in_order, moment_at}
+use Rattle.rept_moments.specs.Ordering.{side, timed, timed_at, timed_to, put, by_time, in_time, back, in_order, moment_at_side}
 use Rattle.rept_moments.specs.Seen.{rows_in, alone_by, seen_by, seen}
 use Rattle.rept_moments.proofs.Apart.{legs_seen, moments_seen}
 use Rattle.rept_moments.proofs.Places.{next_thread}
@@ -115,7 +115,7 @@ module _ (C : Course) where
 
   back_length : (xs : List Timed) → length (back C xs) ≡ length xs
   back_length [] = refl
-  back_length (x ∷ xs) = let rest = back_length xs in let all = length-append (back C xs) (moment_at C x.side ∷ []) in omega arith
+  back_length (x ∷ xs) = let rest = back_length xs in let all = length-append (back C xs) (moment_at_side C x.side ∷ []) in omega arith
 
   keep_length : (b : Bool) (x : Moment) (xs : List Moment) → length (cond b (x ∷ xs) xs) ≤ suc (length xs)
   keep_length true x xs = omega arith
@@ -145,7 +145,7 @@ module _ (C : Course) where
   pub few_points : IsSmall C → points_in C ≤ 66560
   few_points its = let all = all_points C.threads in let rows = its.rows in let threads = its.threads in omega arith
 
-  pub is_timeline : IsSound C → IsSmall C → IsTimeline (as_timeline (seen C))
+  pub is_timeline : IsSoundCourse C → IsSmall C → IsTimeline (as_timeline (seen C))
   is_timeline sound its = record {
     legs = legs_seen C;
     moments = moments_seen C sound;

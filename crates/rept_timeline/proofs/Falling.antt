@@ -4,14 +4,14 @@ use Rattle.std.proofs.Props.{props}
 use Rattle.std.proofs.Common.{◌≡◌, ℕ, ◌<◌, ◌≤◌, ◌&&◌, not, eqb, Bool, true, false, List, Some, None, inl, inr, refl, sym, ap, ◌∙◌, subst, arith}
 use Rattle.std.specs.Option.{IsSome}
 use Rattle.std.proofs.lemmas.Bool.{false≢true, cases_lt, and_parts, eq-eqb, ne_eqb, eqb-true}
-use Rattle.rept_steps.specs.Course.{Course, IsSound}
+use Rattle.rept_steps.specs.Course.{Course, IsSoundCourse}
 use Rattle.rept_order.specs.Moments.{stores}
 use Rattle.rept_order.specs.Legs.{leg_row}
 use Rattle.rept_report.specs.Timeline.{IsFallingFrom}
 use Rattle.rept_course.specs.Numbered.{row_on}
 use Rattle.rept_course.proofs.Naming.{are_moments}
 use Rattle.rept_moments.specs.Numbers.{numbers_of, numbered}
-use Rattle.rept_moments.specs.Between.{IsOwn, IsBetween}
+use Rattle.rept_moments.specs.Between.{IsOwn, IsOwnBetween}
 use Rattle.rept_moments.specs.Seen.{seen_many}
 use Rattle.rept_moments.proofs.Apart.{are_numbers}
 use Rattle.rept_moments.proofs.Falls.{own_falls, rest_falls}
@@ -65,14 +65,14 @@ module _ (C : Course) (list : List ℕ) (its : ∥ AreStoring C list ∥₁) (m 
             ]
       ]
 
-module _ (C : Course) (sound : ∥ IsSound C ∥₁) (m w : ℕ) (next : (numbered C).next m w ≡ true) where
-  inside : IsSound C → (m ≤ (numbers_of C).end) × (w ≤ (numbers_of C).end)
+module _ (C : Course) (sound : ∥ IsSoundCourse C ∥₁) (m w : ℕ) (next : (numbered C).next m w ≡ true) where
+  inside : IsSoundCourse C → (m ≤ (numbers_of C).end) × (w ≤ (numbers_of C).end)
   inside s = (are_moments C s (numbers_of C) (are_numbers C s)).inside m w next
 
   pub from_inside : m ≤ (numbers_of C).end
   from_inside = ∥∥₁_elim sound (hlevel props) (λ s. (inside s).0)
 
-  module _ (none : IsBetween C m w None) where
+  module _ (none : IsOwnBetween C m w None) where
     by_parts : (i : ℕ) → (stores C (row_on C i) && (not ((numbered C).past i m) && not ((numbered C).ahead i w))) ≡ (numbered C).falls i m w
     by_parts i = ∥∥₁_elim sound (hlevel props) (λ s. rest_falls C s m w i next none)
 

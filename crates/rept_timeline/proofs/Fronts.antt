@@ -3,7 +3,7 @@ use Rattle.std.proofs.Common.{◌≡◌, ℕ, zero, suc, ◌+◌, ◌-◌, ◌<�
 use Rattle.std.specs.Option.{IsSome}
 use Rattle.std.proofs.lemmas.Bool.{false≢true, cases_lt, or_right}
 use Rattle.rept_isa.specs.declared.row.StepRow.{StepRow}
-use Rattle.rept_steps.specs.Course.{Course, Row, row_of, IsSound}
+use Rattle.rept_steps.specs.Course.{Course, Row, row_of, IsSoundCourse}
 use Rattle.rept_order.specs.Moments.{Moment, IsMoment, stores, is_writing}
 use Rattle.rept_order.specs.Moments.Moment.{before, after}
 use Rattle.rept_order.specs.Moments.Act.{row}
@@ -67,7 +67,7 @@ module _ (C : Course) where
       let step : (row_on C j).step ≡ (row_on C i).step + (j - i) = ap (λ (r : Row). r.step) there in
       record { thread = sym (ap (λ (r : Row). r.thread) there); order = omega arith }
 
-  module _ (sound : IsSound C) where
+  module _ (sound : IsSoundCourse C) where
     last_moment : (m : ℕ) → m ≤ (numbers_of C).end → IsMoment C ((numbers_of C).last m)
     last_moment m few = ((are_numbers C sound).named m few).0
 

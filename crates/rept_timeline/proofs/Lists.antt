@@ -8,7 +8,7 @@ use Rattle.std.specs.List.Sorted.{IsNonDecreasingBy}
 use Rattle.std.proofs.lemmas.Bool.{false≢true, cases_lt, cases_order}
 use Rattle.std.proofs.lemmas.List.{get_or_default, get_or_append_left, get_or_push}
 use Rattle.std.proofs.lemmas.List.Elements.{Contains-append_left, Contains-push}
-use Rattle.rept_steps.specs.Course.{Course, IsSound}
+use Rattle.rept_steps.specs.Course.{Course, IsSoundCourse}
 use Rattle.rept_order.specs.Moments.{stores}
 use Rattle.rept_order.specs.Legs.{leg_row}
 use Rattle.rept_course.specs.Numbered.{row_on}
@@ -163,7 +163,7 @@ module _ (C : Course) (list : List ℕ) (its : ∥ AreStoring C list ∥₁) whe
   all_is : list ≡ storing_in C
   all_is = ∥∥₁_elim its (hlevel props) (λ a. a.all)
 
-  pub sound_of : ∥ IsSound C ∥₁
+  pub sound_of : ∥ IsSoundCourse C ∥₁
   sound_of = ∥∥₁_elim its ∥∥₁_prop (λ a. ∣ a.sound ∣₁)
 
   pub up_list : IsUp list

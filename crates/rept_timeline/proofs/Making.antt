@@ -4,10 +4,10 @@ use Rattle.std.specs.Option.{is_some, IsSome}
 use Rattle.std.proofs.lemmas.Bool.{false≢true, le-ltb, ltb-false, eqb-true}
 use Rattle.std.proofs.lemmas.Option.{slice_get_cases}
 use Rattle.rept_isa.specs.declared.row.StepRow.{StepRow}
-use Rattle.rept_steps.specs.Course.{IsSound}
+use Rattle.rept_steps.specs.Course.{IsSoundCourse}
 use Rattle.rept_steps.specs.Course as runs
 use Rattle.rept_report.specs.Timeline.{Timeline, IsTimeline}
-use Rattle.rept_moments.specs.Seen.{Seen, seen, alone_by, seen_alone}
+use Rattle.rept_moments.specs.Seen.{SeenMoments, seen, alone_by, seen_alone}
 use Rattle.rept_moments.specs.declared.course.Course.{Course}
 use Rattle.rept_moments.specs.declared.course.Course as courses
 use Rattle.rept_moments.specs.Courses.{seen_in, is_one, IsCourseOf}
@@ -25,16 +25,16 @@ use Rattle.rept_carry.specs.declared.lines.Lines.{Lines}
 use Rattle.rept_moments.specs.Several.{seen_of}
 use Rattle.rept_timeline.proofs.Counting.{is_timeline}
 
-pub sound_in : (C : runs.Course) (c : Course) → IsSound C → IsCourseOf C c → IsSoundIn c
+pub sound_in : (C : runs.Course) (c : Course) → IsSoundCourse C → IsCourseOf C c → IsSoundIn c
 sound_in C (courses.TheVariants.One steps) sound its = tt
-sound_in C (courses.TheVariants.Many many) sound its = subst (λ (D : runs.Course). IsSound D) (sym its.0) sound
+sound_in C (courses.TheVariants.Many many) sound its = subst (λ (D : runs.Course). IsSoundCourse D) (sym its.0) sound
 
 pub one_of : (C : runs.Course) (c : Course) → IsCourseOf C c → IsSome (alone_by C.threads C.dark) → is_one c ≡ true
 one_of C (courses.TheVariants.One steps) its some = refl
 one_of C (courses.TheVariants.Many many) its some = absurd (false≢true (sym (ap is_some its.1) ∙ some))
 
-pub timeline_in : (C : runs.Course) (c : Course) → IsSound C → IsSmall C → seen_in c ≡ seen C → IsTimeline (time_of c)
-timeline_in C c sound small same = subst (λ (s : Seen). IsTimeline (as_timeline s)) (sym same) (is_timeline C sound small)
+pub timeline_in : (C : runs.Course) (c : Course) → IsSoundCourse C → IsSmall C → seen_in c ≡ seen C → IsTimeline (time_of c)
+timeline_in C c sound small same = subst (λ (s : SeenMoments). IsTimeline (as_timeline s)) (sym same) (is_timeline C sound small)
 
 -- the list of several threads
 pub many_storing : (c : Course) (many : runs.Course) (list : List ℕ) → c ≡ courses.TheVariants.Many many → ∥ AreListed c list ∥₁ → ∥ AreStoring many list ∥₁

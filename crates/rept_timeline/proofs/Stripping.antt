@@ -5,7 +5,7 @@ use Rattle.std.proofs.Common.{◌≡◌, ℕ, zero, suc, ◌+◌, ◌-◌, ◌<�
 use Rattle.std.specs.Option.{IsSome}
 use Rattle.std.proofs.lemmas.Bool.{false≢true, cases_lt, cases_order, and_parts, eqb-true}
 use Rattle.std.proofs.lemmas.Option.{slice_get_past}
-use Rattle.rept_steps.specs.Course.{Course, Row, IsSound}
+use Rattle.rept_steps.specs.Course.{Course, Row, IsSoundCourse}
 use Rattle.rept_order.specs.Moments.{Stretch, stores}
 use Rattle.rept_order.specs.Moments.Act.{row}
 use Rattle.rept_order.specs.Times.{falls_between}
@@ -15,7 +15,7 @@ use Rattle.rept_report.specs.declared.paths.Strip.{Strip}
 use Rattle.rept_course.specs.Numbered.{row_on, falls_by}
 use Rattle.rept_course.proofs.Ends.{ahead_back}
 use Rattle.rept_moments.specs.Numbers.{numbers_of, numbered}
-use Rattle.rept_moments.specs.Between.{IsOwn, IsBetween}
+use Rattle.rept_moments.specs.Between.{IsOwn, IsOwnBetween}
 use Rattle.rept_moments.specs.Seen.{seen_many}
 use Rattle.rept_moments.proofs.Apart.{are_numbers}
 use Rattle.rept_moments.proofs.Falls.{own_falls, rest_falls, dark_is}
@@ -58,7 +58,7 @@ module _ (C : Course) where
   falling_stores i m w e = falls_stores (row_on C i) ((numbers_of C).link m w) e
 
   -- between the numbers of a row
-  pub clear_own : ∥ IsSound C ∥₁ → (k own : ℕ) → (numbered C).next k (k + 1) ≡ true → IsOwn C k (k + 1) own → IsClear T k
+  pub clear_own : ∥ IsSoundCourse C ∥₁ → (k own : ℕ) → (numbered C).next k (k + 1) ≡ true → IsOwn C k (k + 1) own → IsClear T k
   clear_own sound k own next its = record {
     light = ∥∥₁_elim sound (hlevel props) (λ s. sym (dark_is C s k (k + 1) (Some own) next its));
     own = λ i e. ∥∥₁_elim sound (hlevel props) (λ s.
@@ -86,7 +86,7 @@ module _ (C : Course) where
   pub other_crosses : (k : ℕ) → DoesOtherFall T k → IsClear T k → ⊥
   other_crosses k other clear = other.2 (clear.own other.0 other.1)
 
-  module _ (sound : ∥ IsSound C ∥₁) (p k : ℕ) (two : AreTwo C p k) where
+  module _ (sound : ∥ IsSoundCourse C ∥₁) (p k : ℕ) (two : AreTwo C p k) where
     first_next : (numbered C).next p (p + 1) ≡ true
     first_next = let up = two.order in two.next p (omega arith) up
 
@@ -94,7 +94,7 @@ module _ (C : Course) where
     second_next = let up = two.order in two.next k up (omega arith)
 
     -- what lies ahead of a later number lies ahead of an earlier one
-    ahead_down : IsSound C → (i d : ℕ) → stores C (row_on C i) ≡ true → p + d ≤ k → (numbered C).ahead i (p + d + 1) ≡ true → (numbered C).ahead i (p + 1) ≡ true
+    ahead_down : IsSoundCourse C → (i d : ℕ) → stores C (row_on C i) ≡ true → p + d ≤ k → (numbered C).ahead i (p + d + 1) ≡ true → (numbered C).ahead i (p + 1) ≡ true
     ahead_down s i zero writes up ahead = subst (λ (n : ℕ). (numbered C).ahead i n ≡ true) (let here : p + zero + 1 ≡ p + 1 = omega arith in here) ahead
     ahead_down s i (suc d) writes up ahead =
         let next : (numbered C).next (p + suc d) (p + suc d + 1) ≡ true = two.next (p + suc d) (omega arith) up in
@@ -202,7 +202,7 @@ module _ (C : Course) (strip more : Strip) (part : IsPart C strip) (first : more
   )
 
   -- more falls, and all that falls at the pause does: it is the pause from then on
-  pub crossed_more : more.pause ≡ Some strip.last → (IsClear S strip.last → ⊥) → IsBetween C strip.last (strip.last + 1) None → ((p : ℕ) → strip.pause ≡ Some p → FallsToo S p strip.last) → IsLonger C strip (Some more)
+  pub crossed_more : more.pause ≡ Some strip.last → (IsClear S strip.last → ⊥) → IsOwnBetween C strip.last (strip.last + 1) None → ((p : ℕ) → strip.pause ≡ Some p → FallsToo S p strip.last) → IsLonger C strip (Some more)
   crossed_more here crossed apart too = (
     record {
       up = let up = part.up in omega arith;
@@ -217,14 +217,14 @@ module _ (C : Course) (strip more : Strip) (part : IsPart C strip) (first : more
           ]);
       pause = λ p some.
           let same : strip.last ≡ p = some_same (sym here ∙ some) in
-          record { pause = record { from = let up = part.up in omega arith; to = omega arith; crossed = subst (λ (n : ℕ). IsClear S n → ⊥) same crossed }; apart = subst (λ (n : ℕ). IsBetween C n (n + 1) None) same apart };
+          record { pause = record { from = let up = part.up in omega arith; to = omega arith; crossed = subst (λ (n : ℕ). IsClear S n → ⊥) same crossed }; apart = subst (λ (n : ℕ). IsOwnBetween C n (n + 1) None) same apart };
     },
     first,
     last,
   )
 
 -- the pause and the last number
-pub two_of : (C : Course) (strip : Strip) (p : ℕ) → IsPart C strip → strip.pause ≡ Some p → strip.last < (numbers_of C).end → IsJoined (numbered C) strip.last → IsBetween C strip.last (strip.last + 1) None → AreTwo C p strip.last
+pub two_of : (C : Course) (strip : Strip) (p : ℕ) → IsPart C strip → strip.pause ≡ Some p → strip.last < (numbers_of C).end → IsJoined (numbered C) strip.last → IsOwnBetween C strip.last (strip.last + 1) None → AreTwo C p strip.last
 two_of C strip p part some inside joined apart =
     let its = part.pause p some in
     record {

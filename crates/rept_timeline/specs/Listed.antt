@@ -2,7 +2,7 @@
 use Rattle.std.specs.Prelude.{◌≡◌, ℕ, zero, suc, ◌-◌, ◌≤◌, ◌<◌, if◌then◌else◌, List, [], ◌∷◌, ◌++◌, length, true, Option, slice_index_or}
 use Rattle.std.specs.Option.{IsSome}
 use Rattle.std.specs.List.{Contains}
-use Rattle.rept_steps.specs.Course.{Course, IsSound}
+use Rattle.rept_steps.specs.Course.{Course, IsSoundCourse}
 use Rattle.rept_order.specs.Moments.{stores}
 use Rattle.rept_report.specs.Moments.{Moments}
 use Rattle.rept_report.specs.Timeline.{Timeline, IsLeastFrom}
@@ -24,7 +24,7 @@ storing_in C = storing_to C (points_in C - 1)
 
 -- the list has them all
 pub record AreStoring (C : Course) (list : List ℕ) : Type 0 where
-  pub sound : IsSound C
+  pub sound : IsSoundCourse C
   pub all : list ≡ storing_in C
 
 -- of several threads; of one thread alone no list is looked at
@@ -34,7 +34,7 @@ AreListed (courses.TheVariants.Many many) list = AreStoring many list
 
 abbrev pub IsSoundIn : courses.Course → Type 0
 IsSoundIn (courses.TheVariants.One steps) = Unit {0}
-IsSoundIn (courses.TheVariants.Many many) = IsSound many
+IsSoundIn (courses.TheVariants.Many many) = IsSoundCourse many
 
 -- the least one of the list from one on, or that there is none
 abbrev pub IsFirstFrom : List ℕ → ℕ → Option ℕ → Type 0

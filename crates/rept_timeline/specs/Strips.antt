@@ -5,7 +5,7 @@ use Rattle.rept_report.specs.declared.paths.Strip.{Strip}
 use Rattle.rept_report.specs.Timeline.{Timeline, IsJoined, IsAlike, IsCut, IsPause, IsStrip}
 use Rattle.rept_moments.specs.declared.course.Course as courses
 use Rattle.rept_moments.specs.Several.{seen_of}
-use Rattle.rept_moments.specs.Between.{IsBetween}
+use Rattle.rept_moments.specs.Between.{IsOwnBetween}
 use Rattle.rept_timeline.specs.Times.{as_timeline}
 
 -- two numbers of a line, of which no row has one before it and the number after that one after it
@@ -13,8 +13,8 @@ pub record AreTwo (C : Course) (p k : ℕ) : Type 0 where
   pub order : p ≤ k
   pub inside : k < (seen_of C).moments.end
   pub next : (j : ℕ) → p ≤ j → j ≤ k → (seen_of C).moments.next j (j + 1) ≡ true
-  pub first : IsBetween C p (p + 1) None
-  pub second : IsBetween C k (k + 1) None
+  pub first : IsOwnBetween C p (p + 1) None
+  pub second : IsOwnBetween C k (k + 1) None
 
 -- no row that falls between a number and the one after it lies wholly before another number
 abbrev pub DoRowsStay : Timeline → ℕ → ℕ → Type 0
@@ -27,7 +27,7 @@ DoesOtherFall t k = (i : ℕ) × (t.moments.falls i k (k + 1) ≡ true) × (t.mo
 -- a pause, of which no row has it before it and the number after it after it
 pub record IsPauseApart (C : Course) (strip : Strip) (p : ℕ) : Type 0 where
   pub pause : IsPause (as_timeline (seen_of C)) strip p
-  pub apart : IsBetween C p (p + 1) None
+  pub apart : IsOwnBetween C p (p + 1) None
 
 -- a part of a strip: it may go on
 pub record IsPart (C : Course) (strip : Strip) : Type 0 where

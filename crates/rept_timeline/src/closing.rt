@@ -1,7 +1,7 @@
 //! Rows of several threads than which another row isn't later.
 
 ghost use Rattle.std.specs.Prelude.{◌≡◌, ◌≤◌, ◌<◌, ℕ, true, false, IsSome};
-ghost use Rattle.rept_steps.specs.Course.{IsSound};
+ghost use Rattle.rept_steps.specs.Course.{IsSoundCourse};
 ghost use Rattle.rept_moments.specs.Several.{seen_of};
 ghost use Rattle.rept_report.specs.Timeline.{IsLeastFrom};
 ghost use Rattle.rept_timeline.specs.Times.{as_timeline, IsCloseFrom};
@@ -26,7 +26,7 @@ fn row_from(many: &Many<'_>, least: u32) -> Option<u32>
 
 /// The first of the rows of a thread from one on to before another point than which a row isn't later, or that point, found by halves.
 fn first_close(many: &Many<'_>, row: u32, first: u32, last: u32) -> u32
-    requires sound { ∥ IsSound many.now ∥₁ }
+    requires sound { ∥ IsSoundCourse many.now ∥₁ }
     requires row { IsSome ((seen_of many.now).legs.row row) }
     requires order { first ≤ last }
     requires rows { (q : ℕ) → first ≤ q → q < last → IsSome ((seen_of many.now).legs.row q) }
@@ -50,7 +50,7 @@ fn first_close(many: &Many<'_>, row: u32, first: u32, last: u32) -> u32
 
 /// The least row from one on than which a row isn't later.
 pub fn close_from(many: &Many<'_>, row: u32, least: u32) -> Option<u32>
-    requires sound { ∥ IsSound many.now ∥₁ }
+    requires sound { ∥ IsSoundCourse many.now ∥₁ }
     requires row { IsSome ((seen_of many.now).legs.row row) }
     ensures { IsCloseFrom (as_timeline (seen_of many.now)) row least result }
 {

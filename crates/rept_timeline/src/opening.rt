@@ -3,7 +3,7 @@
 ghost use Rattle.std.specs.Prelude.{◌≡◌, ◌≤◌, ◌<◌, ℕ, true, false, IsSome, None, slice_index_or};
 ghost use Rattle.rept_report.specs.Timeline.{IsFallingFrom};
 ghost use Rattle.rept_moments.specs.Several.{seen_of};
-ghost use Rattle.rept_moments.specs.Between.{IsBetween};
+ghost use Rattle.rept_moments.specs.Between.{IsOwnBetween};
 ghost use Rattle.rept_timeline.specs.Times.{as_timeline, IsOpenFrom};
 ghost use Rattle.rept_timeline.specs.Listed.{AreStoring, ArePastFirst};
 
@@ -88,7 +88,7 @@ pub fn open_from(storing: &Storing, many: &Many<'_>, m: u32, least: u32) -> Opti
 pub fn rest_from(storing: &Storing, many: &Many<'_>, m: u32, w: u32, least: u32) -> Option<u32>
     requires listed { ∥ AreStoring many.now storing.now ∥₁ }
     requires next { (seen_of many.now).moments.next m w ≡ true }
-    requires apart { IsBetween many.now m w None }
+    requires apart { IsOwnBetween many.now m w None }
     ensures { IsFallingFrom (as_timeline (seen_of many.now)) m w least result }
 {
     let mut from = least;

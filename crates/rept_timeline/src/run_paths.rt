@@ -1,7 +1,7 @@
 //! The rows and moments of a run.
 
 ghost use Rattle.std.specs.Prelude.{◌≡◌, ◌≤◌, ◌<◌, true, IfOk, IsOk, IsSome};
-ghost use Rattle.rept_steps.specs.Course.{IsSound};
+ghost use Rattle.rept_steps.specs.Course.{IsSoundCourse};
 ghost use Rattle.rept_steps.specs.Runs.{course_of};
 ghost use Rattle.rept_report.specs.Timeline.{IsTimeline};
 ghost use Rattle.rept_moments.specs.Seen.{seen, alone_by};
@@ -76,9 +76,9 @@ fn strips_of(
 
 impl<'a> RunPaths<'a> {
     /// The rows and moments of this run, which must be sound and have at most 65,536 rows and 1,024 threads. Of one thread in one slice, all of which is told, it takes no
-    /// memory; else memory for a few entries a point, for two a number and for two a pair of numbers that are next to one another.
+    /// memory; else memory for a few entries a point, for two entries and two lists a number, and for two entries a pair of numbers that are next to one another.
     pub fn new(alloc: Global, run: &'a Run) -> Result<RunPaths<'a>, OutOfMemory>
-        requires sound { IsSound (course_of run.now) }
+        requires sound { IsSoundCourse (course_of run.now) }
         requires small { IsSmall (course_of run.now) }
         ensures course { IfOk result (λ p. IsCourseOf (course_of run.now) p.ways) }
         ensures time { IfOk result (λ p. time_of p.ways ≡ as_timeline (seen (course_of run.now))) }

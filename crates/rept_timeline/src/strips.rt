@@ -3,7 +3,7 @@
 ghost use Rattle.std.specs.Prelude.{◌≡◌, ◌≤◌, ◌<◌, ◌+◌, ℕ, [], true, false, length, IfOk, Some, None, slice_get};
 ghost use Rattle.rept_report.specs.Timeline.{IsJoined, IsClear, FallsToo, IsCut, IsStrip};
 ghost use Rattle.rept_moments.specs.Several.{seen_of};
-ghost use Rattle.rept_moments.specs.Between.{IsBetween};
+ghost use Rattle.rept_moments.specs.Between.{IsOwnBetween};
 ghost use Rattle.rept_timeline.specs.Times.{as_timeline};
 ghost use Rattle.rept_timeline.specs.Listed.{AreStoring, AreLinesOf};
 ghost use Rattle.rept_timeline.specs.Strips.{AreTwo, DoRowsStay, DoesOtherFall, IsPart, IsLonger, AreStripsBelow, AreManyStrips};
@@ -36,7 +36,7 @@ fn does_other_fall(storing: &Storing, many: &Many<'_>, number: u32) -> bool
     requires listed { ∥ AreStoring many.now storing.now ∥₁ }
     requires inside { number < (seen_of many.now).moments.end }
     requires next { (seen_of many.now).moments.next number (number + 1) ≡ true }
-    requires apart { IsBetween many.now number (number + 1) None }
+    requires apart { IsOwnBetween many.now number (number + 1) None }
     ensures yes { result ≡ true → DoesOtherFall (as_timeline (seen_of many.now)) number }
     ensures no { result ≡ false → (i : ℕ) → (seen_of many.now).moments.falls i number (number + 1) ≡ true → (seen_of many.now).moments.before i ≡ number }
 {
@@ -62,7 +62,7 @@ fn is_crossed(storing: &Storing, many: &Many<'_>, number: u32) -> bool
     requires next { (seen_of many.now).moments.next number (number + 1) ≡ true }
     ensures clear { result ≡ false → IsClear (as_timeline (seen_of many.now)) number }
     ensures crossed { result ≡ true → IsClear (as_timeline (seen_of many.now)) number → ⊥ }
-    ensures apart { result ≡ true → IsBetween many.now number (number + 1) None }
+    ensures apart { result ≡ true → IsOwnBetween many.now number (number + 1) None }
 {
     let _end = many.end();
     match many.row_between(number, number + 1) {

@@ -6,7 +6,7 @@ use Rattle.rept_trace.specs.declared.fault.TraceFault.{TraceFault}
 use Rattle.rept_trace.specs.declared.fault.TraceFault.TheVariants.{BadMagic, BadHeader, Truncated, Optional, Trap, BadSupport, StreamPastEnd, Rest}
 use Rattle.rept_trace.specs.Grammar.{Spells}
 use Rattle.rept_trace.specs.declared.parameters.Parameters.{Parameters}
-use Rattle.rept_trace.specs.Stream.{Stream, AreAfterZeros, IsFrame, IsEnded, IsCutShort, Fails, Begins, Answers}
+use Rattle.rept_trace.specs.Stream.{Stream, AreAfterZeros, IsFrame, IsStreamEnded, IsCutShort, FailsNext, Begins, AnswersNext}
 use Rattle.rept_trace.proofs.Reading.{one_spelling}
 
 -- the list is empty or its first number is above 0
@@ -58,7 +58,7 @@ one_frame bytes p r q s x y =
     let t : p ++ r ≡ q ++ s = cc in
     same_cut p q r s n t
 
-frame_or_end : (bytes p r : List ℕ) → IsFrame bytes p r → IsEnded bytes → ⊥
+frame_or_end : (bytes p r : List ℕ) → IsFrame bytes p r → IsStreamEnded bytes → ⊥
 frame_or_end bytes p r x y =
     let e = one_rest bytes (length p ∷ (p ++ r)) [] x.1 y (above_some (length p) (p ++ r) x.0) above_none in
     cc
@@ -75,7 +75,7 @@ frame_or_cut bytes p r x y =
     let l = ap (length {A = ℕ}) t in
     omega (arith, n, l, lt, length-append p r)
 
-end_or_cut : (bytes : List ℕ) → IsEnded bytes → IsCutShort bytes → ⊥
+end_or_cut : (bytes : List ℕ) → IsStreamEnded bytes → IsCutShort bytes → ⊥
 end_or_cut bytes x y =
     let e = one_rest bytes [] (y.0 ∷ y.1) x y.2 above_none (cut_above bytes y) in
     cc
@@ -84,7 +84,7 @@ end_or_cut bytes x y =
 abbrev Refused : ℕ → Stream → TraceFault → Type 0
 Refused k x fault = (payload : List ℕ) × (rest : List ℕ) × IsFrame x.bytes payload rest × Spells x.widths k payload (Err fault)
 
-kinds : (k : ℕ) (x : Stream) (fault : TraceFault) → Fails k x fault → ((fault ≡ Truncated k) × IsCutShort x.bytes) ⊎ Refused k x fault
+kinds : (k : ℕ) (x : Stream) (fault : TraceFault) → FailsNext k x fault → ((fault ≡ Truncated k) × IsCutShort x.bytes) ⊎ Refused k x fault
 kinds k x BadMagic h = elim h [ ]
 kinds k x (BadHeader i) h = elim h [ ]
 kinds k x (Truncated j) h = inl (ap Truncated h.0, h.1)
@@ -94,7 +94,7 @@ kinds k x (BadSupport j) h = inr (h.0, h.1, h.2, h.3)
 kinds k x (StreamPastEnd j) h = elim h [ ]
 kinds k x (Rest j) h = elim h [ ]
 
-pub fails_by : (k : ℕ) (x : Stream) (payload rest : List ℕ) (fault : TraceFault) → IsFrame x.bytes payload rest → Spells x.widths k payload (Err fault) → Fails k x fault
+pub fails_by : (k : ℕ) (x : Stream) (payload rest : List ℕ) (fault : TraceFault) → IsFrame x.bytes payload rest → Spells x.widths k payload (Err fault) → FailsNext k x fault
 fails_by k x payload rest BadMagic f h = h
 fails_by k x payload rest (BadHeader i) f h = h
 fails_by k x payload rest (Truncated j) f h = elim h [ ]
@@ -110,7 +110,7 @@ same_spelling w k bytes p r q s x y f g a b =
     let e = one_frame bytes p r q s f g in
     one_spelling w k q x y (subst (λ (l : List ℕ). Spells w k l x) e.0 a) b
 
-pub one_fault : (k : ℕ) (x : Stream) (f g : TraceFault) → Fails k x f → Fails k x g → f ≡ g
+pub one_fault : (k : ℕ) (x : Stream) (f g : TraceFault) → FailsNext k x f → FailsNext k x g → f ≡ g
 one_fault k x f g m n = elim (kinds k x f m) [
   | inl a ↦ elim (kinds k x g n) [
     | inl b ↦ a.0 ∙ sym b.0
@@ -122,13 +122,13 @@ one_fault k x f g m n = elim (kinds k x f m) [
   ]
 ]
 
-end_or_fault : (k : ℕ) (x : Stream) (f : TraceFault) → IsEnded x.bytes → Fails k x f → ⊥
+end_or_fault : (k : ℕ) (x : Stream) (f : TraceFault) → IsStreamEnded x.bytes → FailsNext k x f → ⊥
 end_or_fault k x f m n = elim (kinds k x f n) [
   | inl b ↦ end_or_cut x.bytes m b.1
   | inr b ↦ frame_or_end x.bytes b.0 b.1 b.2 m
 ]
 
-packet_or_fault : (k : ℕ) (x : Stream) (p : Packet) (r : Stream) (f : TraceFault) → Begins x p r → Fails k x f → ⊥
+packet_or_fault : (k : ℕ) (x : Stream) (p : Packet) (r : Stream) (f : TraceFault) → Begins x p r → FailsNext k x f → ⊥
 packet_or_fault k x p r f m n = elim (kinds k x f n) [
   | inl b ↦ frame_or_cut x.bytes m.0 r.bytes m.1 b.1
   | inr b ↦ let h : ◌≡◌ {A = Result Packet TraceFault} (Ok p) (Err f) = same_spelling x.widths k x.bytes m.0 r.bytes b.0 b.1 (Ok p) (Err f) m.1 b.2 m.2 b.3 in cc
@@ -147,7 +147,7 @@ one_packet x p q r s m n =
     ((cc), same_stream r s (m.3 ∙ sym n.3) e.1)
 
 -- there is one answer
-pub one_answer : (k : ℕ) (x : Stream) (a b : Result (Option Packet) TraceFault) (i j : ℕ) (r s : Stream) → Answers k x a i r → Answers k x b j s → (a ≡ b) × (i ≡ j) × (r ≡ s)
+pub one_answer : (k : ℕ) (x : Stream) (a b : Result (Option Packet) TraceFault) (i j : ℕ) (r s : Stream) → AnswersNext k x a i r → AnswersNext k x b j s → (a ≡ b) × (i ≡ j) × (r ≡ s)
 one_answer k x (Ok None) (Ok None) i j r s m n = (refl, m.1 ∙ sym n.1, m.2 ∙ sym n.2)
 one_answer k x (Ok None) (Ok (Some q)) i j r s m n = absurd (let b = n.0 in frame_or_end x.bytes b.0 s.bytes b.1 m.0)
 one_answer k x (Ok None) (Err g) i j r s m n = absurd (end_or_fault k x g m.0 n.0)

@@ -3,7 +3,7 @@ use Rattle.std.proofs.Common.{◌≡◌, ℕ, ◌+◌, List, [], ◌∷◌, ◌+
 use Rattle.std.proofs.lemmas.List.{append-nil}
 use Rattle.rept_trace.specs.declared.packet.Packet.{Packet}
 use Rattle.rept_trace.specs.declared.fault.TraceFault.{TraceFault}
-use Rattle.rept_trace.specs.Stream.{Stream, IsEnded, Fails, Answers, Hold, FailsAfter}
+use Rattle.rept_trace.specs.Stream.{Stream, IsStreamEnded, FailsNext, AnswersNext, Hold, FailsAfter}
 use Rattle.rept_trace.proofs.Frames.{one_answer}
 
 -- So many packets were read, and what is told of the rest is told of all the bytes.
@@ -17,7 +17,7 @@ pub record Reached (first : ℕ) (bytes : Stream) (count number : ℕ) (rest : S
 pub begins : (first : ℕ) (bytes : Stream) → Reached first bytes 0 first bytes
 begins first bytes = record { packets = []; counted = refl; numbered = omega arith; hold = λ tail h. h; fails = λ tail fault h. h }
 
-pub goes_on : (first : ℕ) (bytes : Stream) (count number : ℕ) (rest : Stream) (packet : Packet) (next : ℕ) (after : Stream) → Reached first bytes count number rest → Answers number rest (Ok (Some packet)) next after → Reached first bytes (count + 1) next after
+pub goes_on : (first : ℕ) (bytes : Stream) (count number : ℕ) (rest : Stream) (packet : Packet) (next : ℕ) (after : Stream) → Reached first bytes count number rest → AnswersNext number rest (Ok (Some packet)) next after → Reached first bytes (count + 1) next after
 goes_on first bytes count number rest packet next after r a =
     let counted = r.counted in
     let numbered = r.numbered in
@@ -31,10 +31,10 @@ goes_on first bytes count number rest packet next after r a =
       fails = λ tail fault h. rw (append_assoc r.packets (packet ∷ []) tail) (r.fails (packet ∷ tail) fault (after, a.0, h));
     })
 
-pub ends : (first : ℕ) (bytes : Stream) (count number : ℕ) (rest : Stream) (r : Reached first bytes count number rest) → IsEnded rest.bytes → Hold bytes r.packets
+pub ends : (first : ℕ) (bytes : Stream) (count number : ℕ) (rest : Stream) (r : Reached first bytes count number rest) → IsStreamEnded rest.bytes → Hold bytes r.packets
 ends first bytes count number rest r e = rw append-nil at (r.hold [] e)
 
-pub fails : (first : ℕ) (bytes : Stream) (count number : ℕ) (rest : Stream) (fault : TraceFault) → (r : Reached first bytes count number rest) → Fails number rest fault → FailsAfter first bytes r.packets fault
+pub fails : (first : ℕ) (bytes : Stream) (count number : ℕ) (rest : Stream) (fault : TraceFault) → (r : Reached first bytes count number rest) → FailsNext number rest fault → FailsAfter first bytes r.packets fault
 fails first bytes count number rest fault r f = rw append-nil at (r.fails [] fault f)
 
 -- the bytes hold one list, or have one fault

@@ -12,7 +12,7 @@ use Rattle.rept_trace.specs.declared.packet.Packet.TheVariants.{Start, Context, 
 use Rattle.rept_trace.specs.declared.fault.TraceFault.{TraceFault}
 use Rattle.rept_trace.specs.declared.fault.TraceFault.TheVariants.{BadMagic, BadHeader, Truncated, Optional, Trap, BadSupport, StreamPastEnd, Rest}
 use Rattle.rept_trace.specs.declared.parameters.Parameters.{Parameters}
-use Rattle.rept_trace.specs.Grammar.{Stamp, changes, address_lsb, address_width, map_width, after_stamp, stamp_of, IsReport, IsStamp, IsPacket, Spells}
+use Rattle.rept_trace.specs.Grammar.{Stamp, changes, address_lsb, address_width, map_width, after_stamp, stamp_of, IsReportAt, IsStamp, IsPacket, Spells}
 use Rattle.rept_trace.specs.Shortened.{filler, IsShortened}
 
 -- the bit at a place that stands in the payload
@@ -85,7 +85,7 @@ module _ (a b : List ℕ) (same : (i : ℕ) → bit_of a i ≡ bit_of b i) where
   same_change : (i : ℕ) → changes a i ≡ changes b i
   same_change i = rw (same i, same (i - 1)) refl
 
-  same_report : (w : Parameters) (i : ℕ) (r : Report) → IsReport w a i r → IsReport w b i r
+  same_report : (w : Parameters) (i : ℕ) (r : Report) → IsReportAt w a i r → IsReportAt w b i r
   same_report w i r s = record {
     address = s.address ∙ ap (λ n. 2 ^ address_lsb w * n) (same_field i (address_width w));
     asked = s.asked ∙ same_change (i + address_width w);

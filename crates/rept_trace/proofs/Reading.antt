@@ -10,7 +10,7 @@ use Rattle.rept_trace.specs.declared.packet.Packet.TheVariants.{Start, Context, 
 use Rattle.rept_trace.specs.declared.fault.TraceFault.{TraceFault}
 use Rattle.rept_trace.specs.declared.fault.TraceFault.TheVariants.{BadMagic, BadHeader, Truncated, Optional, Trap, BadSupport, StreamPastEnd, Rest}
 use Rattle.rept_trace.specs.declared.parameters.Parameters.{Parameters}
-use Rattle.rept_trace.specs.Grammar.{changes, address_width, sent_address, map_width, qual_number, after_stamp, IsReport, IsBadSupport, Spells}
+use Rattle.rept_trace.specs.Grammar.{changes, address_width, sent_address, map_width, qual_number, after_stamp, IsReportAt, IsBadSupport, Spells}
 
 unfoldable report_at : Parameters → List ℕ → ℕ → Report
 report_at widths payload i = record { difference = sent_address widths payload i; notify = changes payload (i + address_width widths); updiscon = changes payload (i + (address_width widths + 1)); irreport = changes payload (i + (address_width widths + 2)) }
@@ -44,7 +44,7 @@ qual_back EndedRep = refl
 qual_back TraceLost = refl
 qual_back EndedNtr = refl
 
-same_report : (w : Parameters) (p : List ℕ) (i : ℕ) (r : Report) → IsReport w p i r → report_at w p i ≡ r
+same_report : (w : Parameters) (p : List ℕ) (i : ℕ) (r : Report) → IsReportAt w p i r → report_at w p i ≡ r
 unfolding report_at
 same_report w p i r x =
     let f : ℕ → Bool → Bool → Bool → Report = λ a b c d. record { difference = a; notify = b; updiscon = c; irreport = d } in

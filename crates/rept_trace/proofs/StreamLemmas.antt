@@ -7,7 +7,7 @@ use Rattle.rept_trace.specs.declared.fault.TraceFault.{TraceFault}
 use Rattle.rept_trace.specs.declared.fault.TraceFault.TheVariants.{BadMagic, BadHeader, Truncated, Optional, Trap, BadSupport, StreamPastEnd, Rest}
 use Rattle.rept_trace.specs.declared.header.Heading.{Heading}
 use Rattle.rept_trace.specs.Header.{several_streams, heading_of, HasHeader}
-use Rattle.rept_trace.specs.Streams.{StreamFile, IsStreamThen, AreStreamsThen, IsStreamCut, IsCutAfter, GoesOn, AreNoStreams, AreStreams, Opens}
+use Rattle.rept_trace.specs.Streams.{StreamFile, IsStreamThen, AreStreamsThen, IsStreamCut, IsCutAfter, GoesOn, AreNoStreams, AreStreams, OpensStreams}
 use Rattle.rept_trace.specs.Opened.{streams_in}
 use Rattle.rept_trace.proofs.Frames.{same_cut}
 use Rattle.rept_trace.proofs.HeaderLemmas.{one_header, no_wrong_byte, one_header_fault, no_magic, length_of_header}
@@ -142,7 +142,7 @@ one_reason b (Rest o) (Rest p) x y =
     let j = y.place in
     ap Rest (omega (arith, n, i, j))
 
-pub one_opening : (b : List ℕ) (x y : Result StreamFile TraceFault) → Opens b x → Opens b y → x ≡ y
+pub one_opening : (b : List ℕ) (x y : Result StreamFile TraceFault) → OpensStreams b x → OpensStreams b y → x ≡ y
 one_opening b (Ok x) (Ok y) m n = let o = one_end b x y m.0 n.0 [] [] m.1 m.2 n.1 n.2 in ap Ok o.0
 one_opening b (Ok x) (Err g) m n = absurd (streams_or_fault b x g m n)
 one_opening b (Err f) (Ok y) m n = absurd (streams_or_fault b y f n m)

@@ -54,7 +54,7 @@ abbrev pub sent_address : Parameters → List ℕ → ℕ → ℕ
 sent_address widths payload i = 2 ^ address_lsb widths * field payload i (address_width widths)
 
 -- From bit i on: a difference of addresses, notify, updiscon, irreport.
-pub record IsReport (widths : Parameters) (payload : List ℕ) (i : ℕ) (report : Report) : Type 0 where
+pub record IsReportAt (widths : Parameters) (payload : List ℕ) (i : ℕ) (report : Report) : Type 0 where
   pub address : report.difference ≡ sent_address widths payload i
   pub asked : report.notify ≡ changes payload (i + address_width widths)
   pub discontinuity : report.updiscon ≡ changes payload (i + (address_width widths + 1))
@@ -105,7 +105,7 @@ pub record IsSupport (payload : List ℕ) (enabled : Bool) (status : Qual) : Typ
 -- format 2
 pub record IsAddress (widths : Parameters) (payload : List ℕ) (report : Report) : Type 0 where
   pub format : field payload 0 2 ≡ 2
-  pub fields : IsReport widths payload 2 report
+  pub fields : IsReportAt widths payload 2 report
 
 -- format 1 with a branch count of 0
 pub record IsMap (payload : List ℕ) (map : ℕ) : Type 0 where
@@ -125,7 +125,7 @@ pub record IsMapAddress (widths : Parameters) (payload : List ℕ) (sent : MapFi
   pub some : 0 < sent.count
   pub number : sent.count ≡ field payload 2 5
   pub bits : sent.map ≡ field payload 7 (map_width sent.count)
-  pub fields : IsReport widths payload (7 + map_width sent.count) sent.report
+  pub fields : IsReportAt widths payload (7 + map_width sent.count) sent.report
 
 abbrev pub stamp_of : ℕ → ℕ → Stamp
 stamp_of time context = record { time = time; context = context }
@@ -147,17 +147,17 @@ pub record IsBadSupport (payload : List ℕ) : Type 0 where
   pub wrong : (field payload 5 1 ≢ 0) ⊎ (field payload 8 5 ≢ 0)
 
 -- The payload of the packet of this number is refused.
-abbrev pub IsRefused : ℕ → List ℕ → TraceFault → Type 0
-IsRefused number payload (Optional k) = (k ≡ number) × (field payload 0 2 ≡ 0)
-IsRefused number payload (Trap k) = (k ≡ number) × (field payload 0 2 ≡ 3) × (field payload 2 2 ≡ 1)
-IsRefused number payload (BadSupport k) = (k ≡ number) × IsBadSupport payload
-IsRefused number payload BadMagic = ⊥
-IsRefused number payload (BadHeader i) = ⊥
-IsRefused number payload (Truncated k) = ⊥
-IsRefused number payload (StreamPastEnd s) = ⊥
-IsRefused number payload (Rest offset) = ⊥
+abbrev pub IsRefusedPayload : ℕ → List ℕ → TraceFault → Type 0
+IsRefusedPayload number payload (Optional k) = (k ≡ number) × (field payload 0 2 ≡ 0)
+IsRefusedPayload number payload (Trap k) = (k ≡ number) × (field payload 0 2 ≡ 3) × (field payload 2 2 ≡ 1)
+IsRefusedPayload number payload (BadSupport k) = (k ≡ number) × IsBadSupport payload
+IsRefusedPayload number payload BadMagic = ⊥
+IsRefusedPayload number payload (BadHeader i) = ⊥
+IsRefusedPayload number payload (Truncated k) = ⊥
+IsRefusedPayload number payload (StreamPastEnd s) = ⊥
+IsRefusedPayload number payload (Rest offset) = ⊥
 
 -- What the payload of the packet of this number spells, by an encoder with these widths.
 abbrev pub Spells : Parameters → ℕ → List ℕ → Result Packet TraceFault → Type 0
 Spells widths number payload (Ok packet) = IsPacket widths payload packet
-Spells widths number payload (Err fault) = IsRefused number payload fault
+Spells widths number payload (Err fault) = IsRefusedPayload number payload fault

@@ -6,7 +6,7 @@ use Rattle.rept_trace.specs.declared.packet.Packet.{Packet}
 use Rattle.rept_trace.specs.declared.fault.TraceFault.{TraceFault}
 use Rattle.rept_trace.specs.declared.fault.TraceFault.TheVariants.{BadMagic, BadHeader, Truncated, Optional, Trap, BadSupport, StreamPastEnd, Rest}
 use Rattle.rept_trace.specs.declared.parameters.Parameters.{Parameters}
-use Rattle.rept_trace.specs.Grammar.{untimed, IsPacket, IsRefused}
+use Rattle.rept_trace.specs.Grammar.{untimed, IsPacket, IsRefusedPayload}
 use Rattle.rept_trace.specs.Header.{one_stream, heading_of, header_bytes}
 
 -- bytes of packets, by an encoder that sends fields of these widths
@@ -32,23 +32,23 @@ abbrev pub IsFrame : List ℕ → List ℕ → List ℕ → Type 0
 IsFrame bytes payload rest = (0 < length payload) × AreAfterZeros bytes (length payload ∷ (payload ++ rest))
 
 -- No packet follows.
-abbrev pub IsEnded : List ℕ → Type 0
-IsEnded bytes = AreAfterZeros bytes []
+abbrev pub IsStreamEnded : List ℕ → Type 0
+IsStreamEnded bytes = AreAfterZeros bytes []
 
 -- The next packet's length passes the end.
 abbrev pub IsCutShort : List ℕ → Type 0
 IsCutShort bytes = (size : ℕ) × (others : List ℕ) × AreAfterZeros bytes (size ∷ others) × (length others < size)
 
 -- The packet of this number, which comes next, is refused.
-abbrev pub Fails : ℕ → Stream → TraceFault → Type 0
-Fails number stream BadMagic = ⊥
-Fails number stream (BadHeader i) = ⊥
-Fails number stream (Truncated k) = (k ≡ number) × IsCutShort stream.bytes
-Fails number stream (Optional k) = (payload : List ℕ) × (rest : List ℕ) × IsFrame stream.bytes payload rest × IsRefused number payload (Optional k)
-Fails number stream (Trap k) = (payload : List ℕ) × (rest : List ℕ) × IsFrame stream.bytes payload rest × IsRefused number payload (Trap k)
-Fails number stream (BadSupport k) = (payload : List ℕ) × (rest : List ℕ) × IsFrame stream.bytes payload rest × IsRefused number payload (BadSupport k)
-Fails number stream (StreamPastEnd s) = ⊥
-Fails number stream (Rest offset) = ⊥
+abbrev pub FailsNext : ℕ → Stream → TraceFault → Type 0
+FailsNext number stream BadMagic = ⊥
+FailsNext number stream (BadHeader i) = ⊥
+FailsNext number stream (Truncated k) = (k ≡ number) × IsCutShort stream.bytes
+FailsNext number stream (Optional k) = (payload : List ℕ) × (rest : List ℕ) × IsFrame stream.bytes payload rest × IsRefusedPayload number payload (Optional k)
+FailsNext number stream (Trap k) = (payload : List ℕ) × (rest : List ℕ) × IsFrame stream.bytes payload rest × IsRefusedPayload number payload (Trap k)
+FailsNext number stream (BadSupport k) = (payload : List ℕ) × (rest : List ℕ) × IsFrame stream.bytes payload rest × IsRefusedPayload number payload (BadSupport k)
+FailsNext number stream (StreamPastEnd s) = ⊥
+FailsNext number stream (Rest offset) = ⊥
 
 -- The next packet is this one, and this is left after it.
 abbrev pub Begins : Stream → Packet → Stream → Type 0
@@ -56,17 +56,17 @@ Begins stream packet rest = (payload : List ℕ) × IsFrame stream.bytes payload
 
 -- What is answered where packet `number` comes next in this stream, which number comes after, and what is left.
 -- The end and a fault change nothing.
-abbrev pub Answers : ℕ → Stream → Result (Option Packet) TraceFault → ℕ → Stream → Type 0
-Answers number stream (Ok None) next rest = IsEnded stream.bytes × (next ≡ number) × (rest ≡ stream)
-Answers number stream (Ok (Some packet)) next rest = Begins stream packet rest × (next ≡ number + 1)
-Answers number stream (Err fault) next rest = Fails number stream fault × (next ≡ number) × (rest ≡ stream)
+abbrev pub AnswersNext : ℕ → Stream → Result (Option Packet) TraceFault → ℕ → Stream → Type 0
+AnswersNext number stream (Ok None) next rest = IsStreamEnded stream.bytes × (next ≡ number) × (rest ≡ stream)
+AnswersNext number stream (Ok (Some packet)) next rest = Begins stream packet rest × (next ≡ number + 1)
+AnswersNext number stream (Err fault) next rest = FailsNext number stream fault × (next ≡ number) × (rest ≡ stream)
 
 -- The stream holds these packets, in order, and no more.
 abbrev pub Hold : Stream → List Packet → Type 0
-Hold stream [] = IsEnded stream.bytes
+Hold stream [] = IsStreamEnded stream.bytes
 Hold stream (packet ∷ packets) = (rest : Stream) × Begins stream packet rest × Hold rest packets
 
 -- The stream begins with these packets, and then comes this fault. The first packet has this number.
 abbrev pub FailsAfter : ℕ → Stream → List Packet → TraceFault → Type 0
-FailsAfter number stream [] fault = Fails number stream fault
+FailsAfter number stream [] fault = FailsNext number stream fault
 FailsAfter number stream (packet ∷ packets) fault = (rest : Stream) × Begins stream packet rest × FailsAfter (number + 1) rest packets fault

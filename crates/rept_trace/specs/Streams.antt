@@ -66,6 +66,6 @@ abbrev pub AreStreams : List ℕ → StreamFile → Type 0
 AreStreams bytes file = (rest : List ℕ) × HasHeader several_streams bytes (heading_of (length file.streams) file.halves) rest × AreStreamsThen rest file.streams []
 
 -- what the bytes are
-abbrev pub Opens : List ℕ → Result StreamFile TraceFault → Type 0
-Opens bytes (Ok file) = AreStreams bytes file
-Opens bytes (Err fault) = AreNoStreams bytes fault
+abbrev pub OpensStreams : List ℕ → Result StreamFile TraceFault → Type 0
+OpensStreams bytes (Ok file) = AreStreams bytes file
+OpensStreams bytes (Err fault) = AreNoStreams bytes fault

@@ -28,7 +28,7 @@ impl<'a> Packets<'a> {
     ghost use Rattle.rept_trace.specs.Packets.{rest_of, number_of};
     ghost use Rattle.rept_trace.specs.Shortened.{IsShortened};
     ghost use Rattle.rept_trace.specs.Header.{one_stream, IsHeaderFault};
-    ghost use Rattle.rept_trace.specs.Stream.{header, plain, Answers, Hold, FailsAfter, Stream};
+    ghost use Rattle.rept_trace.specs.Stream.{header, plain, AnswersNext, Hold, FailsAfter, Stream};
 
     /// The packets of a trace file, from its first on. The file begins with `RTR1`, the count 1 of its streams, 1 where code may
     /// be compressed or else 0, and two zero bytes, and then has, for each packet, a length byte and so many bytes of payload.
@@ -70,12 +70,12 @@ impl<'a> Packets<'a> {
     /// The next packet. `None` comes exactly at the end of the bytes, and a fault exactly where the next packet has it.
     /// Neither changes anything, so the same is answered again. No memory is taken.
     pub fn next(&mut self) -> Result<Option<Packet>, TraceFault>
-        ensures answer { Answers (number_of self.old) (rest_of self.old) result
+        ensures answer { AnswersNext (number_of self.old) (rest_of self.old) result
             (number_of self.new) (rest_of self.new) }
 
         // There is no other answer.
         ensures only { (answer : Result (Option Packet) TraceFault) (number : ℕ) (rest : Stream) →
-            Answers (number_of self.old) (rest_of self.old) answer number rest →
+            AnswersNext (number_of self.old) (rest_of self.old) answer number rest →
             (result ≡ answer) × (number_of self.new ≡ number) × (rest_of self.new ≡ rest) }
         ensures unchanged { OnErr result (self.new ≡ self.old) }
 
@@ -128,7 +128,7 @@ impl<'a> Packets<'a> {
 
     /// Reads the next packet, if there is one, and goes past it.
     fn advance(&mut self) -> Result<Option<Packet>, TraceFault>
-        ensures answer { Answers (number_of self.old) (rest_of self.old) result
+        ensures answer { AnswersNext (number_of self.old) (rest_of self.old) result
             (number_of self.new) (rest_of self.new) }
         ensures unchanged { OnErr result (self.new ≡ self.old) }
     {

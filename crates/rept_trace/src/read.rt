@@ -4,7 +4,7 @@ ghost use Rattle.std.specs.Prelude.{◌≡◌, ◌+◌, ◌<◌, ◌≤◌, ℕ,
 ghost use Rattle.rept_word.specs.Bits.{field};
 ghost use Rattle.rept_word.specs.Cursor.{IsAt};
 ghost use Rattle.rept_trace.specs.declared.parameters.Parameters.{Parameters as Widths};
-ghost use Rattle.rept_trace.specs.Grammar.{address_width, sent_address, map_width, qual_number, after_stamp, stamp_of, IsReport, IsStamp, IsPacket, Spells};
+ghost use Rattle.rept_trace.specs.Grammar.{address_width, sent_address, map_width, qual_number, after_stamp, stamp_of, IsReportAt, IsStamp, IsPacket, Spells};
 
 use crate::fault::TraceFault;
 use crate::packet::{Packet, Qual, Report};
@@ -134,7 +134,7 @@ fn address(cursor: &mut BitCursor<'_>, widths: Parameters) -> u32
 
 /// A difference with its three flags, each of which says something where it differs from the bit before it.
 fn report(cursor: &mut BitCursor<'_>, widths: Parameters) -> Report
-    ensures { (payload : List ℕ) (i : ℕ) → IsAt cursor.old payload i → IsReport widths payload i result }
+    ensures { (payload : List ℕ) (i : ℕ) → IsAt cursor.old payload i → IsReportAt widths payload i result }
 {
     let difference = address(cursor, widths);
     let notify = cursor.take(1);

@@ -1,7 +1,7 @@
 //! A trace file of several streams.
 
 ghost use Rattle.std.specs.Prelude.{◌≡◌, ◌<◌, List, ℕ, length, slice_get, IfOk, IfErr, IfSome, IfNone, MatchOption, Some};
-ghost use Rattle.rept_trace.specs.Streams.{IsStreamThen, AreStreamsThen, IsStreamCut, IsCutAfter, Opens};
+ghost use Rattle.rept_trace.specs.Streams.{IsStreamThen, AreStreamsThen, IsStreamCut, IsCutAfter, OpensStreams};
 
 use crate::fault::TraceFault;
 use crate::header::{SEVERAL, read_header};
@@ -38,16 +38,16 @@ impl<'a> Streams<'a> {
     ghost use Rattle.rept_trace.specs.declared.fault.TraceFault.{TraceFault};
     ghost use Rattle.rept_trace.specs.Grammar.{timed};
     ghost use Rattle.rept_trace.specs.Packets.{rest_of, number_of};
-    ghost use Rattle.rept_trace.specs.Streams.{StreamFile, Opens};
+    ghost use Rattle.rept_trace.specs.Streams.{StreamFile, OpensStreams};
 
     /// The streams of a trace file. The file begins with `RTR2`, the count of its streams, 1 to 64, 1 where code may be compressed or else 0, and two zero bytes, and then has, for each stream, its
     /// length in 32 bits and so many bytes of packets. The refusals are, in this order, `BadMagic`, `BadHeader`, `StreamPastEnd` of the first
     /// stream that isn't whole, and `Rest`. The packets aren't looked at: a stream of no bytes is a stream. No memory is taken.
     pub fn open(bytes: &'a [u8]) -> Result<Streams<'a>, TraceFault>
-        ensures opens { Opens bytes.now result }
+        ensures opens { OpensStreams bytes.now result }
 
         // The bytes are nothing else.
-        ensures only { (found : Result StreamFile TraceFault) → Opens bytes.now found → result ≡ found }
+        ensures only { (found : Result StreamFile TraceFault) → OpensStreams bytes.now found → result ≡ found }
     {
         find_streams(bytes)
     }
@@ -75,7 +75,7 @@ impl<'a> Streams<'a> {
 
 /// The streams of a trace file.
 fn find_streams(bytes: &[u8]) -> Result<Streams<'_>, TraceFault>
-    ensures { Opens bytes.now result }
+    ensures { OpensStreams bytes.now result }
 {
     let (heading, rest) = read_header(SEVERAL, bytes)?;
     let count = heading.count;

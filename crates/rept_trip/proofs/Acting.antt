@@ -3,12 +3,12 @@ use Rattle.std.proofs.Common.{◌≡◌, ℕ, suc, ◌+◌, ◌<◌, ◌≤◌, 
 use Rattle.std.proofs.lemmas.Bool.{false≢true}
 use Rattle.rept_isa.specs.declared.row.StepRow.{StepRow}
 use Rattle.rept_machine.proofs.StepLaws.{written_by_registers}
-use Rattle.rept_steps.specs.Course.{Course, Row, IsRow, row_at, IsSound}
+use Rattle.rept_steps.specs.Course.{Course, Row, IsRow, row_at, IsSoundCourse}
 use Rattle.rept_order.specs.Moments.{IsMoment, Act, IsAct, WhollyBefore, WhollyAfter}
 use Rattle.rept_order.specs.Moments.Moment.{before, after}
 use Rattle.rept_order.specs.Moments.Act.{row, dark}
 use Rattle.rept_order.specs.History.{History, Ending, tick, state_at}
-use Rattle.rept_order.specs.Points.{registers_at}
+use Rattle.rept_order.specs.Points.{thread_registers}
 use Rattle.rept_order.specs.Legs.{Point, number_of, registers_on}
 use Rattle.rept_order.specs.Interleaved.{leg_of}
 use Rattle.rept_order.specs.Writing.{WritesBy, RowWrites, ActWrites, By}
@@ -41,7 +41,7 @@ match_is (Some x) P h = (x, refl, h)
 match_at : (o : Option StepRow) (x : StepRow) (P : StepRow → Type 0) → o ≡ Some x → P x → MatchOption o ⊥ P
 match_at o x P e h = subst (λ (y : Option StepRow). MatchOption y ⊥ P) (sym e) h
 
-module _ {W : Type 0} (t : Trip W) (h : History) (sound : IsSound t.course) (x : IsHistoryOf t h) where
+module _ {W : Type 0} (t : Trip W) (h : History) (sound : IsSoundCourse t.course) (x : IsHistoryOf t h) where
   abbrev C : Course
   C = t.course
 
@@ -58,12 +58,12 @@ module _ {W : Type 0} (t : Trip W) (h : History) (sound : IsSound t.course) (x :
   told = told_by C sound (alone_by C.threads C.dark) refl
 
   before_leg : (r : Row) → IsRow C r → registers_on C h (leg_of C r) ≡ (h.world (tick C h (before r))).register r.thread
-  before_leg r is = ap (λ (y : Point). registers_at C h y.thread y.number) (point_number C r.thread r.step (thread_inside C r is) (omega arith)) ∙ registers_before C D h x r.thread r.step is
+  before_leg r is = ap (λ (y : Point). thread_registers C h y.thread y.number) (point_number C r.thread r.step (thread_inside C r is) (omega arith)) ∙ registers_before C D h x r.thread r.step is
 
   after_leg : (r : Row) → IsRow C r → registers_on C h (leg_of C r + 1) ≡ (h.world (tick C h (after r))).register r.thread
   after_leg r is =
       let next : leg_of C r + 1 ≡ number_of C r.thread (suc r.step) = omega arith in
-      ap (registers_on C h) next ∙ ap (λ (y : Point). registers_at C h y.thread y.number) (point_number C r.thread (suc r.step) (thread_inside C r is) is) ∙ registers_after C D h x r.thread r.step is
+      ap (registers_on C h) next ∙ ap (λ (y : Point). thread_registers C h y.thread y.number) (point_number C r.thread (suc r.step) (thread_inside C r is) is) ∙ registers_after C D h x r.thread r.step is
 
   -- the number of the row at a number
   leg_here : (i : ℕ) → leg_of C (row_on C i) ≡ i

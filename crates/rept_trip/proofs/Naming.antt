@@ -2,7 +2,7 @@
 use Rattle.std.proofs.Common.{◌≡◌, ℕ, ◌<◌, ◌≤◌, ◌==◌, if◌then◌else◌, Bool, true, false, List, length, Option, Some, None, refl, arith}
 use Rattle.std.proofs.lemmas.Bool.{eqb-true}
 use Rattle.rept_isa.specs.declared.row.StepRow.{StepRow}
-use Rattle.rept_steps.specs.Course.{Course, rows_of, IsSound}
+use Rattle.rept_steps.specs.Course.{Course, rows_of, IsSoundCourse}
 use Rattle.rept_order.specs.Moments.{Moment, IsMoment}
 use Rattle.rept_order.specs.Moments.Moment.{before, after, at_end}
 use Rattle.rept_order.specs.Legs.{points_before}
@@ -15,7 +15,7 @@ use Rattle.rept_trip.proofs.Single.{count_is}
 use Rattle.rept_trip.proofs.Telling.{told_by}
 use Rattle.rept_trip.proofs.Pointing.{moment_inside, moment_last}
 
-module _ (C : Course) (sound : IsSound C) where
+module _ (C : Course) (sound : IsSoundCourse C) where
   -- the first thread, if it is the only one, ends by the last point
   count_by : (o : Option (List StepRow)) → alone_by C.threads C.dark ≡ o → length C.threads ≡ 1 → length (rows_of C 0) ≤ (seen_by C o).legs.count
   count_by (Some rows) e one = let all = count_is C rows e in omega arith

@@ -2,7 +2,7 @@
 use Rattle.std.proofs.Common.{ℕ, zero, suc, List, length, inl, refl, sym, arith, zero-add}
 use Rattle.rept_isa.specs.declared.row.StepRow.{StepRow}
 use Rattle.rept_steps.specs.Runs.{course_of, run_of_one, whole_slice, thread_of_one}
-use Rattle.rept_steps.specs.Course.{rows_of, slices_of, TakeRows, KeepTime, IsAlone, IsSound}
+use Rattle.rept_steps.specs.Course.{rows_of, slices_of, TakeRows, KeepTime, IsAlone, IsSoundCourse}
 use Rattle.rept_order.specs.Alone.{SavesOne}
 use Rattle.rept_report.specs.OneThread.{ThreadPath}
 use Rattle.rept_trip.specs.Alone.{trip_of}
@@ -18,7 +18,7 @@ in_time : (rows : List StepRow) (t : ℕ) → KeepTime (slices_of (course_of (ru
 in_time rows zero = (omega arith, tt, tt)
 in_time rows (suc t) = tt
 
-pub is_sound : (rows : List StepRow) → IsSound (course_of (run_of_one rows 0))
+pub is_sound : (rows : List StepRow) → IsSoundCourse (course_of (run_of_one rows 0))
 is_sound rows = record { taken = taken rows; in_time = in_time rows; calls = inl (is_alone rows) }
 
 pub saves_one : {W : Type 0} (P : ThreadPath W) → SavesOne (trip_of P).ending

@@ -2,13 +2,13 @@
 use Rattle.std.proofs.Common.{◌≡◌, ℕ, ◌<◌, ◌≤◌, true, false, List, length, Option, Some, None, inl, inr, refl, sym, ap, ◌∙◌, subst, arith, zero-add}
 use Rattle.std.proofs.lemmas.Bool.{false≢true, cases_lt, cases_order, lt-ltb, le-ltb, false_from_ne_true}
 use Rattle.rept_isa.specs.declared.row.StepRow.{StepRow}
-use Rattle.rept_steps.specs.Course.{Course, Row, row_of, rows_of, IsRow, IsSound}
+use Rattle.rept_steps.specs.Course.{Course, Row, row_of, rows_of, IsRow, IsSoundCourse}
 use Rattle.rept_order.specs.Events.{first_event, PrecedesOrIs}
 use Rattle.rept_order.specs.Events.IsBefore.{by_row}
 use Rattle.rept_order.specs.Moments.{Moment, NotLater, WhollyAfter}
 use Rattle.rept_order.specs.Moments.Moment.{before, after, at_end}
 use Rattle.rept_order.specs.Moments.Act.{row}
-use Rattle.rept_order.specs.Points.{moment_of}
+use Rattle.rept_order.specs.Points.{moment_of_point}
 use Rattle.rept_order.specs.Legs.{number_of}
 use Rattle.rept_order.proofs.Sequence.{first_is_event, directly, or_after, not_later_trans}
 use Rattle.rept_order.proofs.Times.{precedes_irreflexive}
@@ -32,15 +32,15 @@ use Rattle.rept_trip.proofs.Telling.{IsTold, told_by}
 -- it is within, and its last moment is that of the thread's point
 pub record IsAtPoint (C : Course) (o : Option (List StepRow)) (t p m : ℕ) : Type 0 where
   pub within : m ≤ (seen_by C o).moments.end
-  pub moment : last_by C o m ≡ moment_of C t p
+  pub moment : last_by C o m ≡ moment_of_point C t p
 
-pub moment_inside : (C : Course) (t p : ℕ) → p < length (rows_of C t) → moment_of C t p ≡ before (row_of t p)
+pub moment_inside : (C : Course) (t p : ℕ) → p < length (rows_of C t) → moment_of_point C t p ≡ before (row_of t p)
 moment_inside C t p inside = rw (lt-ltb p (length (rows_of C t)) inside) refl
 
-pub moment_last : (C : Course) (t p : ℕ) → length (rows_of C t) ≤ p → moment_of C t p ≡ at_end
+pub moment_last : (C : Course) (t p : ℕ) → length (rows_of C t) ≤ p → moment_of_point C t p ≡ at_end
 moment_last C t p past = rw (le-ltb p (length (rows_of C t)) past) refl
 
-module _ (C : Course) (sound : IsSound C) where
+module _ (C : Course) (sound : IsSoundCourse C) where
   names : AreNames C (numbers_of C)
   names = are_numbers C sound
 
@@ -72,7 +72,7 @@ module _ (C : Course) (sound : IsSound C) where
         let all = count_is C rows e in
         record {
           within = omega arith;
-          moment = ap (last_by C (Some rows)) at ∙ elim (cases_lt p (length rows)) as (λ _. last_by C (Some rows) p ≡ moment_of C 0 p) [
+          moment = ap (last_by C (Some rows)) at ∙ elim (cases_lt p (length rows)) as (λ _. last_by C (Some rows) p ≡ moment_of_point C 0 p) [
             | inl less ↦ last_low C rows e p less ∙ sym (moment_inside C 0 p (omega arith))
             | inr past ↦ last_high C rows e p past ∙ sym (moment_last C 0 p (omega arith))
           ];
@@ -107,17 +107,17 @@ module _ (C : Course) (sound : IsSound C) where
   before_end m e (after r) = subst (λ (y : Moment). NotLater C (after r) y) (sym e) tt
   before_end m e at_end = subst (λ (y : Moment). NotLater C at_end y) (sym e) tt
 
-  in_order : (t q p : ℕ) → q ≤ p → p ≤ length (rows_of C t) → NotLater C (moment_of C t q) (moment_of C t p)
+  in_order : (t q p : ℕ) → q ≤ p → p ≤ length (rows_of C t) → NotLater C (moment_of_point C t q) (moment_of_point C t p)
   in_order t q p few most =
       elim (cases_lt p (length (rows_of C t))) [
-        | inr past ↦ before_end (moment_of C t p) (moment_last C t p past) (moment_of C t q)
+        | inr past ↦ before_end (moment_of_point C t p) (moment_last C t p past) (moment_of_point C t q)
         | inl inside ↦
             let here : q < length (rows_of C t) = omega arith in
-            subst (λ (m : Moment). NotLater C m (moment_of C t p)) (sym (moment_inside C t q here)) (subst (λ (m : Moment). NotLater C (before (row_of t q)) m) (sym (moment_inside C t p inside)) (begun t q p here inside few))
+            subst (λ (m : Moment). NotLater C m (moment_of_point C t p)) (sym (moment_inside C t q here)) (subst (λ (m : Moment). NotLater C (before (row_of t q)) m) (sym (moment_inside C t p inside)) (begun t q p here inside few))
       ]
 
 -- rows that lie wholly after the moment at a point of a thread
-module _ {W : Type 0} (trip : Trip W) (sound : IsSound trip.course) (t : ℕ) (below : t < length trip.course.threads) where
+module _ {W : Type 0} (trip : Trip W) (sound : IsSoundCourse trip.course) (t : ℕ) (below : t < length trip.course.threads) where
   abbrev C : Course
   C = trip.course
 
@@ -136,15 +136,15 @@ module _ {W : Type 0} (trip : Trip W) (sound : IsSound trip.course) (t : ℕ) (b
   is_at : (p : ℕ) → p ≤ n → IsAtPoint C (alone_by C.threads C.dark) t p (at p)
   is_at p few = at_point C sound t p below few
 
-  way_of : (p k : ℕ) → p ≤ n → IsRow C (row_on C k) → S.moments.ahead k (at p) ≡ true → NotLater C (moment_of C t p) (before (row_on C k))
+  way_of : (p k : ℕ) → p ≤ n → IsRow C (row_on C k) → S.moments.ahead k (at p) ≡ true → NotLater C (moment_of_point C t p) (before (row_on C k))
   way_of p k few is e = subst (λ (m : Moment). WhollyAfter C (row (row_on C k)) m) (is_at p few).moment (told.ahead k (at p) (is_at p few).within is e)
 
-  of_way : (p k : ℕ) → p ≤ n → IsRow C (row_on C k) → NotLater C (moment_of C t p) (before (row_on C k)) → S.moments.ahead k (at p) ≡ true
+  of_way : (p k : ℕ) → p ≤ n → IsRow C (row_on C k) → NotLater C (moment_of_point C t p) (before (row_on C k)) → S.moments.ahead k (at p) ≡ true
   of_way p k few is h = told.ahead_from k (at p) (is_at p few).within is (subst (λ (m : Moment). WhollyAfter C (row (row_on C k)) m) (sym (is_at p few).moment) h)
 
   -- what lies wholly after a point lies so after each earlier one
   ahead_back : (q p k : ℕ) → q ≤ p → p ≤ n → IsRow C (row_on C k) → S.moments.ahead k (at p) ≡ true → S.moments.ahead k (at q) ≡ true
-  ahead_back q p k few most is e = of_way q k (omega arith) is (not_later_trans C (moment_of C t q) (moment_of C t p) (before (row_on C k)) (in_order C sound t q p few most) (way_of p k most is e))
+  ahead_back q p k few most is e = of_way q k (omega arith) is (not_later_trans C (moment_of_point C t q) (moment_of_point C t p) (before (row_on C k)) (in_order C sound t q p few most) (way_of p k most is e))
 
   may_row : (K : Knowledge) (i a : ℕ) → may_write S K i a ≡ true → IsRow C (row_on C i)
   may_row K i a may = by (S.legs.row i) refl
@@ -170,7 +170,7 @@ module _ {W : Type 0} (trip : Trip W) (sound : IsSound trip.course) (t : ℕ) (b
       same : row_on C k ≡ row_of t (row_on C k).step
       same = ap (λ (u : ℕ). row_of u (row_on C k).step) own
 
-      never : NotLater C (moment_of C t p) (before (row_on C k)) → ⊥
+      never : NotLater C (moment_of_point C t p) (before (row_on C k)) → ⊥
       never h =
           elim (cases_lt p n) [
             | inr past ↦ subst (λ (m : Moment). NotLater C m (before (row_on C k))) (moment_last C t p past) h

@@ -8,7 +8,7 @@ use Rattle.rept_isa.specs.Operands.{is_call}
 use Rattle.rept_machine.specs.Step.{IsStep}
 use Rattle.rept_machine.proofs.StepLaws.{written_by_registers}
 use Rattle.rept_steps.specs.declared.threads.ThreadRows.{ThreadRows}
-use Rattle.rept_steps.specs.Course.{Course, row_of, rows_of, row_at, is_call_row, calls, IsSound}
+use Rattle.rept_steps.specs.Course.{Course, row_of, rows_of, row_at, is_call_row, calls, IsSoundCourse}
 use Rattle.rept_order.specs.Moments.{Act, IsAct, Stretch, stretch, Falls, ArePause}
 use Rattle.rept_order.specs.Moments.Moment.{before, after, at_end}
 use Rattle.rept_order.specs.Moments.Act.{row, dark}
@@ -79,7 +79,7 @@ thread_here C p some few =
 abbrev numbered_run : Course → interleaved.CourseRun → Option (List StepRow) → Run
 numbered_run C run o = record { register = run.register; memory = λ m. run.memory (last_by C o m) }
 
-module _ {W : Type 0} (sets : Sets W) (moves : Moves W) (rules : Rules) (C : Course) (D : Ending) (run : interleaved.CourseRun) (sound : IsSound C) (x : IsCourseRun C D run) where
+module _ {W : Type 0} (sets : Sets W) (moves : Moves W) (rules : Rules) (C : Course) (D : Ending) (run : interleaved.CourseRun) (sound : IsSoundCourse C) (x : IsCourseRun C D run) where
   -- of one thread in one slice, all of which is told
   module _ (rows : List StepRow) (e : alone_by C.threads C.dark ≡ Some rows) where
     abbrev S : Setting W
@@ -149,12 +149,12 @@ module _ {W : Type 0} (sets : Sets W) (moves : Moves W) (rules : Rules) (C : Cou
     still : (i a : ℕ) → i < length rows → (StepWrites S it i a → ⊥) → (act : Act) → IsAct C act → Falls C act (stretch (before (row_of 0 i)) (after (row_of 0 i))) → WritesIn C D run act a → ⊥
     still i a less none act is falls writes =
         let own = subst (λ (y : Act). WritesIn C D run y a) (only_own i less act is falls) writes in
-        let its = match_is (row_at C (row_of 0 i)) (λ its_row. WritesBy its_row.instr D.image_end (interleaved.state_before C run (row_of 0 i)) (interleaved.state_after C run (row_of 0 i)) a) own in
+        let its = match_is (row_at C (row_of 0 i)) (λ its_row. WritesBy its_row.instr D.image_end (interleaved.state_before_row C run (row_of 0 i)) (interleaved.state_after_row C run (row_of 0 i)) a) own in
         let at : slice_get rows i ≡ Some its.0 = ap (λ (xs : List StepRow). slice_get xs i) (sym (rows_are C rows e)) ∙ its.1 in
         none (record {
           row = its.0;
           is_row = at;
-          writes = written_by_registers its.0.instr D.image_end (interleaved.state_before C run (row_of 0 i)) (interleaved.state_after C run (row_of 0 i)) (runs.state_before S it i) (runs.state_after S it i its.0) a (ap run.register (zero-add i)) (ap (λ (k : ℕ). run.register (suc k)) (zero-add i) ∙ ap run.register (one_more i)) its.2;
+          writes = written_by_registers its.0.instr D.image_end (interleaved.state_before_row C run (row_of 0 i)) (interleaved.state_after_row C run (row_of 0 i)) (runs.state_before S it i) (runs.state_after S it i its.0) a (ap run.register (zero-add i)) (ap (λ (k : ℕ). run.register (suc k)) (zero-add i) ∙ ap run.register (one_more i)) its.2;
         })
 
     quiet : (a m w : ℕ) → S.moments.next m w ≡ true → S.moments.dark m w ≡ false → ((i : ℕ) → S.moments.falls i m w ≡ true → StepWrites S it i a → ⊥) → it.memory w a ≡ it.memory m a
@@ -194,5 +194,5 @@ module _ {W : Type 0} (sets : Sets W) (moves : Moves W) (rules : Rules) (C : Cou
   runs_by some None e = many_runs some
 
 -- each execution is a run
-pub history_runs : {W : Type 0} (t : Trip W) (h : History) → IsSound t.course → 0 < length t.course.threads → IsHistoryOf t h → Runs (setting_on t) (run_on t.course h)
+pub history_runs : {W : Type 0} (t : Trip W) (h : History) → IsSoundCourse t.course → 0 < length t.course.threads → IsHistoryOf t h → Runs (setting_on t) (run_on t.course h)
 history_runs t h sound some x = runs_by t.sets t.moves t.rules t.course t.ending (run_of_history t.course h) sound (execution_is_run t.course t.ending h x) some (alone_by t.course.threads t.course.dark) refl

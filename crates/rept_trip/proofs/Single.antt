@@ -8,7 +8,7 @@ use Rattle.rept_steps.specs.declared.threads.ThreadRows.{ThreadRows}
 use Rattle.rept_steps.specs.Course.{Course, Row, row_of, rows_of, IsRow, IsAlone}
 use Rattle.rept_order.specs.Moments.{Moment, IsMoment}
 use Rattle.rept_order.specs.Moments.Moment.{before, at_end}
-use Rattle.rept_order.specs.Legs.{point_of, point_at, row_from}
+use Rattle.rept_order.specs.Legs.{point_of_thread, point_at, row_from}
 use Rattle.rept_order.proofs.Legs.{point_number, thread_inside}
 use Rattle.rept_course.specs.Numbered.{row_on}
 use Rattle.rept_report.specs.Moments.{points_of}
@@ -66,7 +66,7 @@ module _ (C : Course) (rows : List StepRow) (e : alone_by C.threads C.dark ≡ S
   count_is = ap (λ (xs : List StepRow). length xs) rows_are
 
   -- the point of a number is that of the thread
-  pub point_here : (p : ℕ) → p ≤ length rows → point_at C p ≡ point_of 0 p
+  pub point_here : (p : ℕ) → p ≤ length rows → point_at C p ≡ point_of_thread 0 p
   point_here p few =
       let some = one_thread in
       let all = count_is in

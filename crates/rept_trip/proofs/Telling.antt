@@ -4,7 +4,7 @@ use Rattle.std.specs.Option.{is_some}
 use Rattle.std.proofs.lemmas.Bool.{false≢true, cases_lt, cases_order, or_cases, not-true, ltb-true, le-leb, leb-true}
 use Rattle.std.proofs.lemmas.Option.{slice_get_within}
 use Rattle.rept_isa.specs.declared.row.StepRow.{StepRow}
-use Rattle.rept_steps.specs.Course.{Course, Row, row_of, IsRow, row_at, IsSound}
+use Rattle.rept_steps.specs.Course.{Course, Row, row_of, IsRow, row_at, IsSoundCourse}
 use Rattle.rept_order.specs.Events.{first_event, last_event, Precedes, PrecedesOrIs}
 use Rattle.rept_order.specs.Events.IsBefore.{by_row}
 use Rattle.rept_order.specs.Moments.{Moment, IsMoment, IsAct, WhollyBefore, WhollyAfter, stores}
@@ -21,14 +21,14 @@ use Rattle.rept_course.specs.Names.{AreNames}
 use Rattle.rept_course.specs.Numbered.{row_on}
 use Rattle.rept_course.proofs.Naming.{row_inside}
 use Rattle.rept_moments.specs.Numbers.{numbers_of}
-use Rattle.rept_moments.specs.Seen.{Seen, seen_by, alone_by}
+use Rattle.rept_moments.specs.Seen.{SeenMoments, seen_by, alone_by}
 use Rattle.rept_moments.proofs.Apart.{are_numbers}
 use Rattle.rept_places.specs.Places.{last_by}
 use Rattle.rept_trip.proofs.Single.{is_alone, rows_are, row_here, is_row, own_row, last_low, last_high, is_moment}
 
 -- These rows and moments are those of the run, and of each number this is the last of its moments: rows are those of their points, and what is said of a row that
 -- lies wholly before another one, before a moment, or after one, is so by the order.
-pub record IsTold (C : Course) (x : Seen) (last : ℕ → Moment) : Type 0 where
+pub record IsTold (C : Course) (x : SeenMoments) (last : ℕ → Moment) : Type 0 where
   pub there : (i : ℕ) (its_row : StepRow) → x.legs.row i ≡ Some its_row → row_at C (row_on C i) ≡ Some its_row
   pub here : (r : Row) (its_row : StepRow) → row_at C r ≡ Some its_row → x.legs.row (leg_of C r) ≡ Some its_row
   pub moment : (m : ℕ) → m ≤ x.moments.end → IsMoment C (last m)
@@ -46,7 +46,7 @@ same_leg C r is = ap row_from (point_number C r.thread r.step (thread_inside C r
 none_number : {d : ℕ} → None ≡ Some d → ⊥
 none_number e = cc
 
-module _ (C : Course) (sound : IsSound C) where
+module _ (C : Course) (sound : IsSoundCourse C) where
   names : AreNames C (numbers_of C)
   names = are_numbers C sound
 

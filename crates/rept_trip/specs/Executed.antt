@@ -4,7 +4,7 @@ use Rattle.rept_steps.specs.Course.{Course, row_of}
 use Rattle.rept_order.specs.History.{History, IsExecution}
 use Rattle.rept_order.specs.Moments.{Moment}
 use Rattle.rept_order.specs.Moments.Moment.{after, at_end}
-use Rattle.rept_order.specs.Points.{moment_of, memory_at}
+use Rattle.rept_order.specs.Points.{moment_of_point, memory_at}
 use Rattle.rept_order.specs.Legs.{registers_on}
 use Rattle.rept_order.specs.Writers as order
 use Rattle.rept_course.specs.Numbered.{row_on}
@@ -27,7 +27,7 @@ HasNoHistory t = (h : History) → IsHistoryOf t h → ⊥
 
 -- the moment at a place of a thread: at a point that before its row, or the end after the last one
 abbrev pub moment_by : Course → ℕ → Place → Moment
-moment_by C t (places.Point p) = moment_of C t p
+moment_by C t (places.Point p) = moment_of_point C t p
 moment_by C t (places.After i) = after (row_of t i)
 moment_by C t places.End = at_end
 
@@ -43,7 +43,7 @@ abbrev pub run_on : Course → History → Run
 run_on C h = record { register = registers_on C h; memory = memory_on C h }
 
 -- the byte at an address, at the moment of a number
-abbrev pub spot_on : Course → ℕ → ℕ → order.Spot
+abbrev pub spot_on : Course → ℕ → ℕ → order.CourseSpot
 spot_on C m a = record { moment = last_on C m; address = a }
 
 -- of which row an answer speaks

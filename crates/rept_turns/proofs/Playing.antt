@@ -20,12 +20,12 @@ use Rattle.rept_order.specs.Events.IsBefore.{by_row, by_call, by_time}
 use Rattle.rept_order.specs.Moments.{Act}
 use Rattle.rept_order.specs.Moments.Moment.{before, after}
 use Rattle.rept_order.specs.Moments.Act.{row}
-use Rattle.rept_order.specs.History.{World, Move, move_at, Happening, History, Ending, IsExecution, tick, seen_by, Stays, OthersKeep, SameMemory, Occurs, ExecutesRow, Returns, CallChanges, Does}
+use Rattle.rept_order.specs.History.{World, Move, move_at, Happening, History, Ending, IsExecution, tick, seen_by, Stays, OthersKeep, KeepsMemory, Occurs, ExecutesRow, Returns, CallChanges, Does}
 use Rattle.rept_order.specs.History.Happening.{event, change, nothing}
 use Rattle.rept_order.proofs.Sequence.{part_of, first_is_event, first_whole, first_entry}
 use Rattle.rept_turns.specs.declared.turn.Turn.{Turn}
 use Rattle.rept_turns.specs.Turns.{all_rows, rows_in, steps_before, turn_at, slices_from, HasTurns, AreSome, AreInOrder}
-use Rattle.rept_turns.specs.Play.{Playing, IsPlay, IsExecuted}
+use Rattle.rept_turns.specs.Play.{Playing, IsPlay, IsPlayExecuted}
 use Rattle.rept_turns.proofs.Places.{place_in, place_most, stands, steps_there, counted, turn_there, steps_own, steps_other, steps_mono, place_strict, place_end, steps_all}
 use Rattle.rept_turns.proofs.Slices.{InTurn, in_turn, slice_next, in_order}
 
@@ -236,7 +236,7 @@ module _ (C : Course) (D : Ending) (x : Playing) (has : HasTurns C x.turns) (pla
   call_ran : (u i : ℕ) → calls C (row_of u i) ≡ true → (own : Ran u i) → Calls D.image_end (addresses_of own.its_row) (state_old u i) (state_new u i)
   call_ran u i call own = call_is own.its_row.instr D.image_end (addresses_of own.its_row) (state_old u i) (state_new u i) (sym (ap is_call_row own.is_row) ∙ call) own.step
 
-  returns : (u i : ℕ) (m : Move) → i < rows_in u turns → calls C (row_of u i) ≡ true → m.old.register u ≡ registers u i → m.new.register u ≡ registers u (suc i) → OthersKeep u m → SameMemory m → Returns C (row_of u i) m
+  returns : (u i : ℕ) (m : Move) → i < rows_in u turns → calls C (row_of u i) ≡ true → m.old.register u ≡ registers u i → m.new.register u ≡ registers u (suc i) → OthersKeep u m → KeepsMemory m → Returns C (row_of u i) m
   returns u i m less call old new others memory =
       let own = ran u i less in
       let does = call_ran u i call own in
@@ -635,7 +635,7 @@ module _ (C : Course) (D : Ending) (x : Playing) (has : HasTurns C x.turns) (pla
       bytes_end = λ a v saved. ap (λ (f : ℕ → ℕ). f a) last_memory ∙ play.bytes_end a v saved;
     }
 
-    pub play_executed : IsExecuted C D x
+    pub play_executed : IsPlayExecuted C D x
     play_executed = record {
       history = h;
       execution = execution;

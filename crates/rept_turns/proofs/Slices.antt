@@ -3,9 +3,9 @@ use Rattle.std.proofs.Common.{◌≡◌, ℕ, suc, ◌+◌, ◌<◌, ◌≤◌, 
 use Rattle.std.proofs.lemmas.Bool.{cases_eq, cases_lt, eq-eqb, ne_eqb, lt-ltb, le-ltb}
 use Rattle.std.proofs.lemmas.List.Elements.{All-head, All-tail}
 use Rattle.rept_steps.specs.declared.slice.Slice.{Slice}
-use Rattle.rept_steps.specs.Course.{slice_of, slice_after, first_slice, TakeRows, BeginsFrom, KeepTime, Course, CallsEnd, IsSound, rows_of}
+use Rattle.rept_steps.specs.Course.{slice_of, slice_after, first_slice, TakeRows, BeginsFrom, KeepTime, Course, CallsEnd, IsSoundCourse, rows_of}
 use Rattle.rept_turns.specs.declared.turn.Turn.{Turn}
-use Rattle.rept_turns.specs.Turns.{rows_in, turn_at, slice_by, slices_from, HasTurns, AreSome, AreInOrder, AreApart}
+use Rattle.rept_turns.specs.Turns.{rows_in, turn_at, slice_by, slices_from, HasTurns, AreSome, AreInOrder, AreTurnsApart}
 use Rattle.rept_turns.proofs.Places.{place_in, rows_own, rows_other, place_here, place_past, place_other, turn_here, turn_past, past, same_turn, none_turn}
 
 pub same_slice : {a b : Slice} → Some a ≡ Some b → a ≡ b
@@ -43,7 +43,7 @@ begins t first time (h ∷ turns) apart =
       | inr other ↦ subst (λ (ss : List Slice). BeginsFrom time (first_slice ss)) (sym (slices_other t first h turns other)) (begins t first time turns (All-tail (λ later. later.thread ≡ t → time ≤ later.begin) h turns apart))
     ]
 
-pub slices_keep : (t first : ℕ) (turns : List Turn) → AreInOrder turns → AreApart turns → KeepTime (slices_from t first turns)
+pub slices_keep : (t first : ℕ) (turns : List Turn) → AreInOrder turns → AreTurnsApart turns → KeepTime (slices_from t first turns)
 slices_keep t first [] order apart = tt
 slices_keep t first (h ∷ turns) order apart =
     elim (cases_eq h.thread t) [
@@ -52,7 +52,7 @@ slices_keep t first (h ∷ turns) order apart =
       | inr other ↦ subst (λ (ss : List Slice). KeepTime ss) (sym (slices_other t first h turns other)) (slices_keep t first turns order.2 apart.1)
     ]
 
-pub turns_sound : (C : Course) (turns : List Turn) → HasTurns C turns → AreInOrder turns → AreApart turns → CallsEnd C → IsSound C
+pub turns_sound : (C : Course) (turns : List Turn) → HasTurns C turns → AreInOrder turns → AreTurnsApart turns → CallsEnd C → IsSoundCourse C
 turns_sound C turns has order apart ends = record {
   taken = λ t. subst (λ (ss : List Slice). TakeRows 0 ss (length (rows_of C t))) (sym (has.slices t)) (slices_take t 0 (length (rows_of C t)) turns (let rows = has.rows t in omega arith));
   in_time = λ t. subst (λ (ss : List Slice). KeepTime ss) (sym (has.slices t)) (slices_keep t 0 turns order apart);

@@ -30,7 +30,7 @@ pub record IsPlay (C : Course) (D : Ending) (x : Playing) : Type 0 where
   pub bytes_end : (a v : ℕ) → D.dump a ≡ Some v → (last_world x).memory a ≡ v
 
 -- there is an execution of the course that begins in the play's first world and ends in its last one
-pub record IsExecuted (C : Course) (D : Ending) (x : Playing) : Type 0 where
+pub record IsPlayExecuted (C : Course) (D : Ending) (x : Playing) : Type 0 where
   pub history : History
   pub execution : IsExecution C D history
   pub first : Stays (record { old = x.world 0; new = history.world 0 })

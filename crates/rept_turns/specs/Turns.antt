@@ -49,9 +49,9 @@ AreInOrder [] = Unit {0}
 AreInOrder (turn ∷ turns) = (turn.begin ≤ turn.end) × All (λ later. turn.begin ≤ later.end) turns × AreInOrder turns
 
 -- those of one thread don't overlap
-abbrev pub AreApart : List Turn → Type 0
-AreApart [] = Unit {0}
-AreApart (turn ∷ turns) = All (λ later. later.thread ≡ turn.thread → turn.end ≤ later.begin) turns × AreApart turns
+abbrev pub AreTurnsApart : List Turn → Type 0
+AreTurnsApart [] = Unit {0}
+AreTurnsApart (turn ∷ turns) = All (λ later. later.thread ≡ turn.thread → turn.end ≤ later.begin) turns × AreTurnsApart turns
 
 -- nor do those of one stream
 abbrev pub AreApartByStream : List Turn → Type 0

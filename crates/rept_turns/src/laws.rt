@@ -1,21 +1,21 @@
 //! Laws of the definitions, for those who make runs. The calls do nothing.
 
 ghost use Rattle.std.specs.Prelude.{◌≡◌, ℕ, List};
-ghost use Rattle.rept_steps.specs.Course.{Course, CallsEnd, IsSound};
+ghost use Rattle.rept_steps.specs.Course.{Course, CallsEnd, IsSoundCourse};
 ghost use Rattle.rept_order.specs.History.{Ending};
 ghost use Rattle.rept_turns.specs.declared.turn.Turn.{Turn};
-ghost use Rattle.rept_turns.specs.Turns.{rows_in, HasTurns, AreSome, AreInOrder, AreApart, AreWider};
-ghost use Rattle.rept_turns.specs.Play.{Playing, with_turns, IsPlay, IsExecuted};
+ghost use Rattle.rept_turns.specs.Turns.{rows_in, HasTurns, AreSome, AreInOrder, AreTurnsApart, AreWider};
+ghost use Rattle.rept_turns.specs.Play.{Playing, with_turns, IsPlay, IsPlayExecuted};
 
 /// A course whose slices are turns of which none overlaps another one of its thread is sound, if each call is the last row of its slice.
 pub fn turns_are_sound()
-    ensures { (C : Course) (turns : List Turn) → HasTurns C turns → AreInOrder turns → AreApart turns → CallsEnd C → IsSound C }
+    ensures { (C : Course) (turns : List Turn) → HasTurns C turns → AreInOrder turns → AreTurnsApart turns → CallsEnd C → IsSoundCourse C }
 {}
 
 /// A play whose turns have rows and keep the order of time is an execution of its course, if each call is the last row of its slice.
 /// It begins in the play's first world and ends in its last one.
 pub fn plays_are_executions()
-    ensures { (C : Course) (D : Ending) (x : Playing) → HasTurns C x.turns → IsPlay C D x → AreSome x.turns → AreInOrder x.turns → CallsEnd C → IsExecuted C D x }
+    ensures { (C : Course) (D : Ending) (x : Playing) → HasTurns C x.turns → IsPlay C D x → AreSome x.turns → AreInOrder x.turns → CallsEnd C → IsPlayExecuted C D x }
 {}
 
 /// A play with wider times is a play, and its turns keep the order of time if the narrower ones do.

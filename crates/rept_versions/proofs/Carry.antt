@@ -5,7 +5,7 @@ use Rattle.std.proofs.lemmas.Bool.{cases_lt}
 use Rattle.std.proofs.lemmas.Bool.Decides.{nat_tests}
 use Rattle.std.proofs.lemmas.Option.{none-some}
 use Rattle.rept_versions.specs.declared.span.Span.{Span}
-use Rattle.rept_versions.specs.Line.{nth, value_at, IsRising, IsJoined, ReadsSame, Line, Filled, Stopped, FilledDown, StoppedDown, raised, lowered, joined, filled, filled_down}
+use Rattle.rept_versions.specs.Line.{nth, value_at, IsRising, AreSpansJoined, ReadsSame, Line, Filled, StoppedBelow, FilledDown, StoppedDown, raised, lowered, joined, filled, filled_down}
 use Rattle.rept_versions.proofs.Lines.{gap_after, value_raised, value_lowered, value_joined, value_lies, value_misses, same_or, high_raised, low_raised, val_raised, raised_other, length_raised, raised_but, low_lowered, high_lowered, val_lowered, lowered_other, length_lowered, lowered_but, low_joined, val_joined, high_joined, length_joined, joined_joined}
 use Rattle.rept_versions.proofs.Fill.{before_it}
 
@@ -100,10 +100,10 @@ module _ (ss : List Span) (rising : IsRising ss) (i : ℕ) (at : suc i < length 
     within_down : suc i < length reached_down
     within_down = omega (arith, at, length_lowered ss (suc i) at ((nth ss i).high + 1))
 
-    pub on_joined : IsJoined ss → IsJoined (joined reached i)
+    pub on_joined : AreSpansJoined ss → AreSpansJoined (joined reached i)
     on_joined is_joined = joined_joined reached i within_reached same_reached (raised_but ss i near ((nth ss (suc i)).low - 1) is_joined)
 
-    pub on_joined_down : IsJoined ss → IsJoined (joined reached_down i)
+    pub on_joined_down : AreSpansJoined ss → AreSpansJoined (joined reached_down i)
     on_joined_down is_joined = joined_joined reached_down i within_down same_reached_down (λ j ne. lowered_but ss (suc i) at ((nth ss i).high + 1) is_joined j (λ e. ne (omega (arith, e))))
 
     pub on_reads : (q : ℕ) → value_at (joined reached i) q ≡ filled ss (nth ss i).high ((nth ss (suc i)).low - 1) (nth ss i).value q
@@ -169,7 +169,7 @@ module _ (old middle new : Line) (rising : IsRising old.spans) (i : ℕ) (at : s
           len = omega (arith, rest.len, ap length is, on_length old.spans rising i at same);
         }
 
-    pub stopped_on : (to stop : ℕ) → Stopped middle new (nth middle.spans i).high to (nth middle.spans i).value stop → Stopped old new (nth old.spans i).high to (nth old.spans i).value stop
+    pub stopped_on : (to stop : ℕ) → StoppedBelow middle new (nth middle.spans i).high to (nth middle.spans i).value stop → StoppedBelow old new (nth old.spans i).high to (nth old.spans i).value stop
     stopped_on to stop rest =
         let high : (nth middle.spans i).high ≡ (nth old.spans (suc i)).high = rw is (on_high old.spans rising i at same) in
         let value : (nth middle.spans i).value ≡ (nth old.spans i).value = rw is (on_value old.spans rising i at same) in
@@ -220,7 +220,7 @@ module _ (old middle new : Line) (rising : IsRising old.spans) (i : ℕ) (at : s
         }
 
 -- the stop at another value
-pub stopped_raised : (old new : Line) → IsRising old.spans → (i to : ℕ) → suc i < length old.spans → (t : Span) → t ≡ nth old.spans (suc i) → t.low ≤ to → (t.value ≢ (nth old.spans i).value) → new.spans ≡ raised old.spans i (t.low - 1) → new.room ≡ old.room → Stopped old new (nth old.spans i).high to (nth old.spans i).value t.low
+pub stopped_raised : (old new : Line) → IsRising old.spans → (i to : ℕ) → suc i < length old.spans → (t : Span) → t ≡ nth old.spans (suc i) → t.low ≤ to → (t.value ≢ (nth old.spans i).value) → new.spans ≡ raised old.spans i (t.low - 1) → new.room ≡ old.room → StoppedBelow old new (nth old.spans i).high to (nth old.spans i).value t.low
 stopped_raised old new rising i to at t is le ne spans room =
     let g = gap old.spans rising i at in
     let low = ap (λ s. s.low) is in

@@ -7,7 +7,7 @@ use Rattle.std.proofs.lemmas.Option.{none-some}
 use Rattle.std.proofs.lemmas.List.{length-set, get_or-set_same, get_or-set_other}
 use Rattle.std.proofs.lemmas.List.Edits.{length-insert, get_or-insert_below, get_or-insert_at, get_or-insert_above, length-remove, get_or-remove_below, get_or-remove_above}
 use Rattle.rept_versions.specs.declared.span.Span.{Span}
-use Rattle.rept_versions.specs.Line.{nth, no_span, value_at, covers, IsRising, IsJoined, IsJoinedBut, JoinedAt, Parts, Lies, Misses, raised, lowered, joined, filled}
+use Rattle.rept_versions.specs.Line.{nth, no_span, value_at, covers, IsRising, AreSpansJoined, IsJoinedBut, JoinedAt, Parts, LiesInSpan, Misses, raised, lowered, joined, filled}
 
 -- the spans before place i end below k
 abbrev pub EndBelow : List Span → ℕ → ℕ → Type 0
@@ -84,14 +84,14 @@ pub more_below : (ss : List Span) → IsRising ss → (k i : ℕ) → i < length
 more_below ss rising k i lt le j before = elim (cases_lt j i) [ inl less ↦ omega (arith, rising.apart j i less lt, rising.whole j (omega (arith, less, lt)), le) | inr more ↦ (let e : j ≡ i = omega (arith, more, before) in rw e le) ]
 
 -- what has k tells what is read there, and no other
-pub value_lies : (ss : List Span) → IsRising ss → (k i : ℕ) → Lies ss k i → value_at ss k ≡ Some (nth ss i).value
+pub value_lies : (ss : List Span) → IsRising ss → (k i : ℕ) → LiesInSpan ss k i → value_at ss k ≡ Some (nth ss i).value
 value_lies ss rising k i lies = value_here ss i k (ends_below ss rising i k lies.within lies.from) lies.within lies.from lies.to
 
 pub value_misses : (ss : List Span) (k i : ℕ) → Misses ss k i → value_at ss k ≡ None
 value_misses ss k i misses = value_in_gap ss k i misses.parts misses.below
 
 -- a value that is read has a span
-pub found : (ss : List Span) (k v : ℕ) → value_at ss k ≡ Some v → (i : ℕ) × Lies ss k i × ((nth ss i).value ≡ v)
+pub found : (ss : List Span) (k v : ℕ) → value_at ss k ≡ Some v → (i : ℕ) × LiesInSpan ss k i × ((nth ss i).value ≡ v)
 found [] k v e = absurd (none-some v e)
 found (s ∷ ss) k v e = elim (cases_Bool (covers s k)) [
   | inl yes_it ↦ (0, record { within = omega arith; from = grind (arith, nat_tests, yes_it); to = grind (arith, nat_tests, yes_it) }, grind (arith, nat_tests, yes_it, e))
@@ -148,13 +148,13 @@ module _ (ss : List Span) (i : ℕ) (lt : i < length ss) where
   pub length_lowered : (l : ℕ) → length (lowered ss i l) ≡ length ss
   length_lowered l = length-set ss i (record { low = l; high = (nth ss i).high; value = (nth ss i).value })
 
-  pub raised_but : (h : ℕ) → IsJoined ss → IsJoinedBut (raised ss i h) i
+  pub raised_but : (h : ℕ) → AreSpansJoined ss → IsJoinedBut (raised ss i h) i
   raised_but h joined j ne in_range meets same =
       joined j (omega (arith, in_range, length_raised h))
       (omega (arith, meets, ap (λ s. s.high) (raised_other h j ne), low_raised h (suc j)))
       (omega (arith, same, val_raised h j, val_raised h (suc j)))
 
-  pub lowered_but : (l : ℕ) → IsJoined ss → (j : ℕ) → suc j ≢ i → JoinedAt (lowered ss i l) j
+  pub lowered_but : (l : ℕ) → AreSpansJoined ss → (j : ℕ) → suc j ≢ i → JoinedAt (lowered ss i l) j
   lowered_but l joined j ne in_range meets same =
       joined j (omega (arith, in_range, length_lowered l))
       (omega (arith, meets, high_lowered l j, ap (λ s. s.low) (lowered_other l (suc j) ne)))
@@ -212,7 +212,7 @@ module _ (ss : List Span) (i : ℕ) (lt : suc i < length ss) where
     ];
   }
 
-  pub joined_joined : (nth ss i).value ≡ (nth ss (suc i)).value → IsJoinedBut ss i → IsJoined (joined ss i)
+  pub joined_joined : (nth ss i).value ≡ (nth ss (suc i)).value → IsJoinedBut ss i → AreSpansJoined (joined ss i)
   joined_joined e but j in_range meets same = elim (cases_lt j i) [
     | inl less ↦ but j (λ e. omega (arith, e, less)) (omega (arith, less, lt))
         (omega (arith, meets, ap (λ s. s.high) (joined_below j less), low_joined (suc j) (omega (arith, less))))

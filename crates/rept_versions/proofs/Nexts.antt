@@ -2,11 +2,11 @@
 use Rattle.std.proofs.Common.{◌≡◌, ℕ, ◌+◌, ◌<◌, ◌≤◌, ◌≢◌, List, length, Some, None, ap, inl, inr, arith}
 use Rattle.std.proofs.lemmas.Bool.{cases_lt}
 use Rattle.rept_versions.specs.declared.span.Span.{Span}
-use Rattle.rept_versions.specs.Line.{nth, value_at, IsRising, IsJoined, Lies, Misses, IsNextOn}
+use Rattle.rept_versions.specs.Line.{nth, value_at, IsRising, AreSpansJoined, LiesInSpan, Misses, IsNextOn}
 use Rattle.rept_versions.proofs.Lines.{value_lies, value_none, same_or}
 use Rattle.rept_versions.proofs.Spreading.{not_above, not_under}
 
-module _ (ss : List Span) (rising : IsRising ss) (joined : IsJoined ss) where
+module _ (ss : List Span) (rising : IsRising ss) (joined : AreSpansJoined ss) where
   within : (i q : ℕ) → i < length ss → (nth ss i).low ≤ q → q ≤ (nth ss i).high → value_at ss q ≡ Some (nth ss i).value
   within i q at low high = value_lies ss rising q i (record { within = at; from = low; to = high })
 
@@ -16,7 +16,7 @@ module _ (ss : List Span) (rising : IsRising ss) (joined : IsJoined ss) where
   begins : (i : ℕ) → i < length ss → (q : ℕ) → q + 1 ≡ (nth ss i).low → value_at ss q ≢ Some (nth ss i).value
   begins i at q e = not_under (record { spans = ss; room = 0 }) (record { spans = ss; room = 0 }) rising i (nth ss i).low (record { within = at; from = omega arith; to = rising.whole i at }) joined q e
 
-  pub next_lies : (i k : ℕ) → Lies ss k i → IsNextOn ss k (nth ss i)
+  pub next_lies : (i k : ℕ) → LiesInSpan ss k i → IsNextOn ss k (nth ss i)
   next_lies i k at = record {
     ordered = rising.whole i at.within;
     reaches = at.to;

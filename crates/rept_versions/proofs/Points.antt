@@ -6,7 +6,7 @@ use Rattle.std.proofs.lemmas.Bool.{cases_lt}
 use Rattle.std.proofs.lemmas.Bool.Decides.{nat_tests}
 use Rattle.rept_versions.specs.Line.{Line, value_at}
 use Rattle.rept_versions.specs.Row.{AddsTo}
-use Rattle.rept_versions.specs.Facts.{Stays, change, Carry, Between, Spreads, Stops, TracksOr}
+use Rattle.rept_versions.specs.Facts.{StoreStays, change, Carry, Between, Spreads, StopsAtValue, TracksOr}
 use Rattle.rept_versions.specs.Moves.{SpreadsOn, StopsOn}
 use Rattle.rept_versions.specs.OnLine.{Parts, store, fact_on, key}
 
@@ -48,7 +48,7 @@ keyed from to a k lf lt (inl b) = (k - key 0 a, omega (arith, lf, lt, b.0, b.1),
 keyed from to a k lf lt (inr b) = (k - key 0 a, omega (arith, lf, lt, b.0, b.1), omega (arith, lf, lt, b.0, b.1), inr (omega (arith, b.0), omega (arith, b.1)))
 
 module _ (old new : Parts) (row : new.row ≡ old.row) where
-  pub stays : new.line ≡ old.line → Stays (store old) (store new)
+  pub stays : new.line ≡ old.line → StoreStays (store old) (store new)
   stays line = record {
     fact = λ q b. ap (λ l. fact_on l q b) line;
     tracked = ap (λ r. r.items) row;
@@ -73,7 +73,7 @@ module _ (old new : Parts) (row : new.row ≡ old.row) where
     pub more : (q : ℕ) × Between (key from a) (key to a) q × (value_at old.line.spans q ≡ None) → (q : ℕ) × Between from to q × (fact_on old.line q a ≡ None)
     more m = let p = keyed from to a m.0 lf lt m.1 in (p.0, p.3, fact_in old.line p.0 a p.1 ∙ subst (λ k. value_at old.line.spans k ≡ None) (sym p.2) m.2)
 
-  pub stops : (a from to v k w point : ℕ) → from < 4294967296 → to < 4294967296 → StopsOn old.line new.line (key from a) (key to a) v k w → key point a ≡ k → Stops (change true (store old) (store new)) (course a from to v) point w
+  pub stops : (a from to v k w point : ℕ) → from < 4294967296 → to < 4294967296 → StopsOn old.line new.line (key from a) (key to a) v k w → key point a ≡ k → StopsAtValue (change true (store old) (store new)) (course a from to v) point w
   stops a from to v k w point lf lt s is =
       let b = keyed from to a s.before lf lt s.toward in
       let within = between_off from to point a (subst (λ x. Between (key from a) (key to a) x) (sym is) s.within) in
@@ -124,7 +124,7 @@ module _ (old new : Parts) (row : new.row ≡ old.row) (a from to k1 k2 : ℕ) (
       (subst (λ k. SpreadsOn old.line new.line k1 k v × ((q : ℕ) × Between k1 k q × (value_at old.line.spans q ≡ None))) is2 (moves v (at v e))) in
       (spreads old new row a from to v lf lt m.0, more old new row a from to v lf lt m.1)
 
-  pub carried_stop : (k u w point : ℕ) → key point a ≡ k → ((v : ℕ) → value_at old.line.spans k1 ≡ Some v → (u ≡ v) × StopsOn old.line new.line k1 k2 v k w) → Told old from a (λ v. (u ≡ v) × Stops (change true (store old) (store new)) (course a from to v) point w)
+  pub carried_stop : (k u w point : ℕ) → key point a ≡ k → ((v : ℕ) → value_at old.line.spans k1 ≡ Some v → (u ≡ v) × StopsOn old.line new.line k1 k2 v k w) → Told old from a (λ v. (u ≡ v) × StopsAtValue (change true (store old) (store new)) (course a from to v) point w)
   carried_stop k u w point is moves v e =
       let m = moves v (at v e) in
       let n = subst (λ j. StopsOn old.line new.line j (key to a) v k w) is1 (subst (λ j. StopsOn old.line new.line k1 j v k w) is2 m.1) in

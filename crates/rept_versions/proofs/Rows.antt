@@ -4,10 +4,10 @@ use Rattle.std.specs.List.{Contains, list_any}
 use Rattle.std.specs.Prelude.{nat_eq}
 use Rattle.std.proofs.lemmas.Bool.{eqb-true}
 use Rattle.indexmap.proofs.CallerLemmas.{Contains-list_any}
-use Rattle.rept_versions.specs.Row.{Row, Puts}
+use Rattle.rept_versions.specs.Row.{VersionRow, Puts}
 
 -- a number that the search finds is there
-pub puts_again : (row : Row) (xs : List ℕ) (a : ℕ) → xs ≡ row.items → list_any (nat_eq a) xs ≡ true → Puts row row a
+pub puts_again : (row : VersionRow) (xs : List ℕ) (a : ℕ) → xs ≡ row.items → list_any (nat_eq a) xs ≡ true → Puts row row a
 puts_again row xs a is found = record {
   room = refl;
   there = λ _. refl;

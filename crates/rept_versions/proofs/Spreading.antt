@@ -2,7 +2,7 @@
 use Rattle.std.proofs.Common.{Option, ◌≡◌, ℕ, suc, ◌+◌, ◌-◌, ◌<◌, ◌≤◌, length, Some, None, refl, sym, ◌∙◌, ap, subst, inl, inr, arith}
 use Rattle.std.proofs.lemmas.Bool.{cases_lt}
 use Rattle.std.proofs.lemmas.Bool.Decides.{nat_tests}
-use Rattle.rept_versions.specs.Line.{nth, value_at, IsRising, IsJoined, Lies, Line, Filled, Stopped, FilledDown, StoppedDown}
+use Rattle.rept_versions.specs.Line.{nth, value_at, IsRising, AreSpansJoined, LiesInSpan, Line, Filled, StoppedBelow, FilledDown, StoppedDown}
 use Rattle.rept_versions.specs.Facts.{Between}
 use Rattle.rept_versions.specs.Moves.{SpreadsOn, StopsOn}
 use Rattle.rept_versions.proofs.Lines.{value_lies, found, same_or}
@@ -18,7 +18,7 @@ downward_order : (from to q : ℕ) → to ≤ from → Between from to q → rec
 downward_order from to q le (inr b) = record { to = b.0; from = b.1 }
 downward_order from to q le (inl b) = record { to = omega (arith, le, b.0, b.1); from = omega (arith, le, b.0, b.1) }
 
-module _ (old new : Line) (rising : IsRising old.spans) (i from : ℕ) (at : Lies old.spans from i) where
+module _ (old new : Line) (rising : IsRising old.spans) (i from : ℕ) (at : LiesInSpan old.spans from i) where
   h : ℕ
   h = (nth old.spans i).high
 
@@ -61,7 +61,7 @@ module _ (old new : Line) (rising : IsRising old.spans) (i from : ℕ) (at : Lie
     len = f.len;
   }
 
-  pub up_stops : (to stop w : ℕ) → from ≤ to → Stopped old new (nth old.spans i).high to (nth old.spans i).value stop → value_at new.spans stop ≡ Some w → StopsOn old new from to (nth old.spans i).value stop w
+  pub up_stops : (to stop w : ℕ) → from ≤ to → StoppedBelow old new (nth old.spans i).high to (nth old.spans i).value stop → value_at new.spans stop ≡ Some w → StopsOn old new from to (nth old.spans i).value stop w
   up_stops to stop w le s e =
       let other : value_at old.spans stop ≡ Some w = grind (arith, nat_tests, s.filled.reads stop, s.over, e) in
       let same : w ≡ s.other.0 = some_same s.other.0 w (sym s.other.1 ∙ other) in
@@ -90,14 +90,14 @@ module _ (old new : Line) (rising : IsRising old.spans) (i from : ℕ) (at : Lie
       }
 
   -- what stands at the stop is read
-  pub up_some : (to stop : ℕ) → Stopped old new (nth old.spans i).high to (nth old.spans i).value stop → value_at new.spans stop ≡ None → ⊥
+  pub up_some : (to stop : ℕ) → StoppedBelow old new (nth old.spans i).high to (nth old.spans i).value stop → value_at new.spans stop ≡ None → ⊥
   up_some to stop s e = let o = s.other.1 in let r = s.filled.reads stop in let v = s.over in grind (arith, nat_tests, o, r, v, e)
 
   pub down_some : (to stop : ℕ) → StoppedDown old new to (nth old.spans i).low (nth old.spans i).value stop → value_at new.spans stop ≡ None → ⊥
   down_some to stop s e = let o = s.other.1 in let r = s.filled.reads stop in let v = s.under in grind (arith, nat_tests, o, r, v, e)
 
   -- next to a span its value isn't read
-  module _ (joined : IsJoined old.spans) where
+  module _ (joined : AreSpansJoined old.spans) where
     pub not_above : value_at old.spans ((nth old.spans i).high + 1) ≡ Some (nth old.spans i).value → ⊥
     not_above e =
         let f = found old.spans ((nth old.spans i).high + 1) (nth old.spans i).value e in

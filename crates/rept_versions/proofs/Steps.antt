@@ -2,7 +2,7 @@
 use Rattle.std.proofs.Common.{◌≡◌, ◌≢◌, ℕ, ◌+◌, ◌≤◌, ◌⊎◌, Bool, true, false, Some, None, Result, Ok, Err, refl, sym, ◌∙◌, ap, subst, inl, inr, arith, true≢false}
 use Rattle.std.specs.declared.alloc.AllocError.{AllocError}
 use Rattle.rept_versions.specs.declared.facts.Learnt.TheVariants.{Old, New}
-use Rattle.rept_versions.specs.Facts.{Store, Stays, change, Carry, ByteFact, Learns, Between, Spreads, Reaches, Fails, CarriesOr, TracksOr}
+use Rattle.rept_versions.specs.Facts.{Store, StoreStays, change, Carry, ByteFact, Learns, Between, Spreads, ReachesPoint, FailsForRoom, CarriesOr, TracksOr}
 use Rattle.std.specs.Result.{IsErr}
 use Rattle.std.specs.Prelude.{⊤}
 use Rattle.rept_versions.specs.declared.facts.Carried.{Carried}
@@ -19,7 +19,7 @@ fact p a v = record { point = p; address = a; value = v }
 -- v was carried from one point to another, and at one of them nothing was known, or nothing changed
 abbrev pub Gone : Store → Store → ℕ → ℕ → ℕ → ℕ → Bool → Type 0
 Gone old new a from to v true = Spreads (change false old new) (course a from to v) × ((q : ℕ) × Between from to q × (old.fact q a ≡ None))
-Gone old new a from to v false = Stays old new × Spreads (change false old new) (course a from to v)
+Gone old new a from to v false = StoreStays old new × Spreads (change false old new) (course a from to v)
 
 spread : (old new : Store) (a from to v : ℕ) (more : Bool) → Gone old new a from to v more → Spreads (change false old new) (course a from to v)
 spread old new a from to v true g = g.0
@@ -105,7 +105,7 @@ module _ (old mid new : Store) (a from point next v : ℕ) (h : Heads from point
       none_some w e = grind (arith, e)
 
   -- nothing changed since
-  spread_same : Stays mid new → Spreads (change false old new) (course a from point v)
+  spread_same : StoreStays mid new → Spreads (change false old new) (course a from point v)
   spread_same l = record {
     here = λ q between. l.fact q a ∙ s.here q between;
     free = s.free;
@@ -125,7 +125,7 @@ module _ (old mid new : Store) (a from to point next v : ℕ) (way : Between fro
   pub gone_new : Learns (change false mid new) (fact next a v) (Ok New) → Gone old new a from next v true
   gone_new l = (spread_new old mid new a from point next v h s l, (next, ends_at from point next h, sym (untouched old mid new a from point next v h s) ∙ l.none))
 
-  reaches : Stays mid new → Reaches (change false old new) (course a from to v) next
+  reaches : StoreStays mid new → ReachesPoint (change false old new) (course a from to v) next
   reaches l = record {
     before = point;
     next = beside from point next h;
@@ -134,7 +134,7 @@ module _ (old mid new : Store) (a from to point next v : ℕ) (way : Between fro
     spreads = spread_same old mid new a from point next v h s l;
   }
 
-  pub gone_fail : (e : AllocError) → new.spare ≡ 0 → Learns (change false mid new) (fact next a v) (Err e) → Fails (change false old new) (course a from to v)
+  pub gone_fail : (e : AllocError) → new.spare ≡ 0 → Learns (change false mid new) (fact next a v) (Err e) → FailsForRoom (change false old new) (course a from to v)
   gone_fail e none l = record {
     plain = refl;
     stop = next;
@@ -143,7 +143,7 @@ module _ (old mid new : Store) (a from to point next v : ℕ) (way : Between fro
     spare = none;
   }
 
-pub failed : (old new : Store) (a from to v : ℕ) (r : Result Carried AllocError) → IsErr r → Fails (change false old new) (course a from to v) → CarriesOr (change false old new) (course a from to v) r
+pub failed : (old new : Store) (a from to v : ℕ) (r : Result Carried AllocError) → IsErr r → FailsForRoom (change false old new) (course a from to v) → CarriesOr (change false old new) (course a from to v) r
 failed old new a from to v (Err e) is f = f
 failed old new a from to v (Ok c) is f = not_joins is
 

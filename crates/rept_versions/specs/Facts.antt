@@ -21,12 +21,12 @@ pub record Store : Type 0 where
   pub places : ℕ
 
 -- what a call does to a store: whether the store joins, and what it holds before and after
-pub record Change : Type 0 where
+pub record StoreChange : Type 0 where
   pub joins : Bool
   pub old : Store
   pub new : Store
 
-abbrev pub change : Bool → Store → Store → Change
+abbrev pub change : Bool → Store → Store → StoreChange
 change joins old new = record { joins = joins; old = old; new = new }
 
 -- the value of an address at a point
@@ -47,7 +47,7 @@ abbrev pub as_far_as : Carry → ℕ → Carry
 as_far_as course point = record { address = course.address; from = course.from; to = point; value = course.value }
 
 -- the same facts, addresses and room
-pub record Stays (old new : Store) : Type 0 where
+pub record StoreStays (old new : Store) : Type 0 where
   pub fact : (q b : ℕ) → new.fact q b ≡ old.fact q b
   pub tracked : new.tracked ≡ old.tracked
   pub spare : new.spare ≡ old.spare
@@ -65,7 +65,7 @@ abbrev pub HasBeside : KnownValues → ByteFact → Type 0
 HasBeside told f = (told (f.point + 1) f.address ≡ Some f.value) ⊎ ((q : ℕ) × (q + 1 ≡ f.point) × (told q f.address ≡ Some f.value))
 
 -- one fact more, where nothing was known
-pub record Adds (c : Change) (f : ByteFact) : Type 0 where
+pub record AddsFact (c : StoreChange) (f : ByteFact) : Type 0 where
   pub none : c.old.fact f.point f.address ≡ None
   pub here : c.new.fact f.point f.address ≡ Some f.value
   pub others : (q b : ℕ) → (q ≡ f.point → b ≡ f.address → ⊥) → c.new.fact q b ≡ c.old.fact q b
@@ -75,18 +75,18 @@ pub record Adds (c : Change) (f : ByteFact) : Type 0 where
   pub beside : c.joins ≡ true → HasBeside c.old.fact f → c.old.spare ≤ c.new.spare
 
 -- what `learn` did, by its answer
-abbrev pub Learns : Change → ByteFact → Result Learnt AllocError → Type 0
-Learns c f (Err e) = Stays c.old c.new × (c.old.fact f.point f.address ≡ None) × (c.old.spare ≡ 0)
-Learns c f (Ok Old) = Stays c.old c.new × (c.old.fact f.point f.address ≡ Some f.value)
-Learns c f (Ok New) = Adds c f
-Learns c f (Ok (Clash known asked)) = Stays c.old c.new × (c.old.fact f.point f.address ≡ Some known) × (known ≢ f.value) × (asked ≡ f.value)
+abbrev pub Learns : StoreChange → ByteFact → Result Learnt AllocError → Type 0
+Learns c f (Err e) = StoreStays c.old c.new × (c.old.fact f.point f.address ≡ None) × (c.old.spare ≡ 0)
+Learns c f (Ok Old) = StoreStays c.old c.new × (c.old.fact f.point f.address ≡ Some f.value)
+Learns c f (Ok New) = AddsFact c f
+Learns c f (Ok (Clash known asked)) = StoreStays c.old c.new × (c.old.fact f.point f.address ≡ Some known) × (known ≢ f.value) × (asked ≡ f.value)
 
 -- q stands between two points, in either order, or is one of them
 abbrev pub Between : ℕ → ℕ → ℕ → Type 0
 Between from to q = ((from ≤ q) × (q ≤ to)) ⊎ ((to ≤ q) × (q ≤ from))
 
 -- the value is known at each point of the course, where before it was that value or nothing; nothing else changed
-pub record Spreads (c : Change) (course : Carry) : Type 0 where
+pub record Spreads (c : StoreChange) (course : Carry) : Type 0 where
   pub here : (q : ℕ) → Between course.from course.to q → c.new.fact q course.address ≡ Some course.value
   pub free : (q w : ℕ) → Between course.from course.to q → c.old.fact q course.address ≡ Some w → w ≡ course.value
   pub others : (q b : ℕ) → (Between course.from course.to q → b ≡ course.address → ⊥) → c.new.fact q b ≡ c.old.fact q b
@@ -95,7 +95,7 @@ pub record Spreads (c : Change) (course : Carry) : Type 0 where
   pub spare : c.joins ≡ true → c.old.spare ≤ c.new.spare
 
 -- the value was carried to a point of the course, and next to that one on the way stands `stop`
-pub record Reaches (c : Change) (course : Carry) (stop : ℕ) : Type 0 where
+pub record ReachesPoint (c : StoreChange) (course : Carry) (stop : ℕ) : Type 0 where
   pub before : ℕ
   pub next : (before + 1 ≡ stop) ⊎ (stop + 1 ≡ before)
   pub toward : Between course.from course.to before
@@ -103,28 +103,28 @@ pub record Reaches (c : Change) (course : Carry) (stop : ℕ) : Type 0 where
   pub spreads : Spreads c (as_far_as course before)
 
 -- the value was carried to the point next to one at which another value is known
-pub record Stops (c : Change) (course : Carry) (stop found : ℕ) : Type 0 where
-  pub reaches : Reaches c course stop
+pub record StopsAtValue (c : StoreChange) (course : Carry) (stop found : ℕ) : Type 0 where
+  pub reaches : ReachesPoint c course stop
   pub other : c.old.fact stop course.address ≡ Some found
   pub differs : found ≢ course.value
 
 -- the value was carried to the point next to one at which nothing is known and that there is no room for
-pub record Fails (c : Change) (course : Carry) : Type 0 where
+pub record FailsForRoom (c : StoreChange) (course : Carry) : Type 0 where
   pub plain : c.joins ≡ false
   pub stop : ℕ
-  pub reaches : Reaches c course stop
+  pub reaches : ReachesPoint c course stop
   pub none : c.old.fact stop course.address ≡ None
   pub spare : c.new.spare ≡ 0
 
 -- what `carry` of the value did, by its answer
-abbrev pub CarriesOr : Change → Carry → Result Carried AllocError → Type 0
-CarriesOr c course (Err e) = Fails c course
-CarriesOr c course (Ok Same) = Stays c.old c.new × Spreads c course
+abbrev pub CarriesOr : StoreChange → Carry → Result Carried AllocError → Type 0
+CarriesOr c course (Err e) = FailsForRoom c course
+CarriesOr c course (Ok Same) = StoreStays c.old c.new × Spreads c course
 CarriesOr c course (Ok More) = Spreads c course × ((q : ℕ) × Between course.from course.to q × (c.old.fact q course.address ≡ None))
-CarriesOr c course (Ok (Stop stop known found)) = (known ≡ course.value) × Stops c course stop found
+CarriesOr c course (Ok (Stop stop known found)) = (known ≡ course.value) × StopsAtValue c course stop found
 
 -- a is tracked too: where it wasn't, it goes last
-pub record Tracks (old new : Store) (a : ℕ) : Type 0 where
+pub record TracksAddress (old new : Store) (a : ℕ) : Type 0 where
   pub fact : (q b : ℕ) → new.fact q b ≡ old.fact q b
   pub spare : new.spare ≡ old.spare
   pub places : new.places ≡ old.places
@@ -132,9 +132,9 @@ pub record Tracks (old new : Store) (a : ℕ) : Type 0 where
   pub last : (Contains old.tracked a → ⊥) → new.tracked ≡ old.tracked ++ a ∷ []
 
 -- what `track` did, by its answer
-abbrev pub TracksOr : Change → ℕ → Result ⊤ AllocError → Type 0
-TracksOr c a (Ok u) = Tracks c.old c.new a
-TracksOr c a (Err e) = Stays c.old c.new × (Contains c.old.tracked a → ⊥) × (c.joins ≡ true → c.old.places ≤ length c.old.tracked)
+abbrev pub TracksOr : StoreChange → ℕ → Result ⊤ AllocError → Type 0
+TracksOr c a (Ok u) = TracksAddress c.old c.new a
+TracksOr c a (Err e) = StoreStays c.old c.new × (Contains c.old.tracked a → ⊥) × (c.joins ≡ true → c.old.places ≤ length c.old.tracked)
 
 -- the value of the stretch is known from its first point to its last, and neither at the point before nor at the one after
 pub record IsWholeStretch (told : KnownValues) (a : ℕ) (s : Stretch) : Type 0 where

@@ -27,8 +27,8 @@ abbrev pub JoinedAt : List Span → ℕ → Type 0
 JoinedAt ss i = suc i < length ss → (nth ss i).high + 1 ≡ (nth ss (suc i)).low → (nth ss i).value ≢ (nth ss (suc i)).value
 
 -- neighbouring spans of one value are one span
-abbrev pub IsJoined : List Span → Type 0
-IsJoined ss = (i : ℕ) → JoinedAt ss i
+abbrev pub AreSpansJoined : List Span → Type 0
+AreSpansJoined ss = (i : ℕ) → JoinedAt ss i
 
 abbrev pub IsJoinedBut : List Span → ℕ → Type 0
 IsJoinedBut ss i = (j : ℕ) → j ≢ i → JoinedAt ss j
@@ -50,7 +50,7 @@ abbrev pub joined : List Span → ℕ → List Span
 joined ss i = remove (raised ss i (nth ss (suc i)).high) (suc i)
 
 -- span i has k
-pub record Lies (ss : List Span) (k i : ℕ) : Type 0 where
+pub record LiesInSpan (ss : List Span) (k i : ℕ) : Type 0 where
   pub within : i < length ss
   pub from : (nth ss i).low ≤ k
   pub to : k ≤ (nth ss i).high
@@ -61,13 +61,13 @@ pub record Misses (ss : List Span) (k i : ℕ) : Type 0 where
   pub below : (j : ℕ) → j < i → (nth ss j).high < k
 
 -- the span before place i ends just below k, with value v
-pub record Follows (ss : List Span) (i k v : ℕ) : Type 0 where
+pub record FollowsAt (ss : List Span) (i k v : ℕ) : Type 0 where
   pub some : 0 < i
   pub meets : (nth ss (i - 1)).high + 1 ≡ k
   pub value : (nth ss (i - 1)).value ≡ v
 
 -- the span at place i begins just above k, with value v
-pub record Precedes (ss : List Span) (i k v : ℕ) : Type 0 where
+pub record PrecedesAt (ss : List Span) (i k v : ℕ) : Type 0 where
   pub some : i < length ss
   pub meets : (nth ss i).low ≡ k + 1
   pub value : (nth ss i).value ≡ v
@@ -108,7 +108,7 @@ pub record Filled (old new : Line) (from to v : ℕ) : Type 0 where
   pub len : length new.spans ≤ length old.spans
 
 -- the same up to just below `stop`, which has another value
-pub record Stopped (old new : Line) (from to v stop : ℕ) : Type 0 where
+pub record StoppedBelow (old new : Line) (from to v stop : ℕ) : Type 0 where
   pub over : from < stop
   pub under : stop ≤ to
   pub filled : Filled old new from (stop - 1) v

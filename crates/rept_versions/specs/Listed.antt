@@ -2,7 +2,7 @@
 use Rattle.std.specs.Prelude.{◌≡◌, ◌≢◌, ℕ, ◌+◌, ◌<◌, ◌≤◌, ◌⊎◌, ltb, if◌then◌else◌, nat_eq, List, Option, Some, None, slice_get}
 use Rattle.std.specs.Map.{lookup}
 use Rattle.rept_versions.specs.OnLine.{key}
-use Rattle.rept_versions.specs.Row.{Row}
+use Rattle.rept_versions.specs.Row.{VersionRow}
 use Rattle.rept_versions.specs.Facts.{KnownValues, Store}
 
 -- the value that is listed for a number
@@ -14,7 +14,7 @@ fact_in entries p a = if ltb p 4294967296 then listed entries (key p a) else Non
 
 pub record Plain : Type 0 where
   pub entries : List (ℕ × ℕ)
-  pub row : Row
+  pub row : VersionRow
 
 -- each new fact takes memory, so none can be learnt without it
 abbrev pub store : Plain → Store

@@ -1,7 +1,7 @@
 -- A store of byte facts on a line: point p of address a is the number a * 2^32 + p.
 use Rattle.std.specs.Prelude.{ℕ, ◌+◌, ◌-◌, ◌*◌, ltb, if◌then◌else◌, length, None}
 use Rattle.rept_versions.specs.Line.{Line, value_at}
-use Rattle.rept_versions.specs.Row.{Row}
+use Rattle.rept_versions.specs.Row.{VersionRow}
 use Rattle.rept_versions.specs.Facts.{KnownValues, Store}
 
 abbrev pub key : ℕ → ℕ → ℕ
@@ -12,7 +12,7 @@ fact_on line p a = if ltb p 4294967296 then value_at line.spans (key p a) else N
 
 pub record Parts : Type 0 where
   pub line : Line
-  pub row : Row
+  pub row : VersionRow
 
 abbrev pub store : Parts → Store
 store s = record { fact = fact_on s.line; tracked = s.row.items; spare = s.line.room - length s.line.spans; places = s.row.room }

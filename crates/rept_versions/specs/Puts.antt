@@ -4,7 +4,7 @@ use Rattle.rept_versions.specs.declared.line.Put.{Put}
 use Rattle.rept_versions.specs.declared.line.Put.TheVariants.{Old, New, Clash, Full}
 use Rattle.rept_versions.specs.declared.line.Step.{Step}
 use Rattle.rept_versions.specs.declared.line.Step.TheVariants.{Done, Stop, Joined}
-use Rattle.rept_versions.specs.Line.{Line, nth, value_at, Added, Filled, Stopped, FilledDown, StoppedDown}
+use Rattle.rept_versions.specs.Line.{Line, nth, value_at, Added, Filled, StoppedBelow, FilledDown, StoppedDown}
 
 abbrev pub Puts : Line → Line → ℕ → ℕ → Put → Type 0
 Puts old new k v Old = (new ≡ old) × (value_at old.spans k ≡ Some v)
@@ -14,7 +14,7 @@ Puts old new k v Full = (new ≡ old) × (value_at old.spans k ≡ None) × (old
 
 abbrev pub Ups : Line → Line → ℕ → ℕ → Option ℕ → Type 0
 Ups old new i to None = Filled old new (nth old.spans i).high to (nth old.spans i).value
-Ups old new i to (Some stop) = Stopped old new (nth old.spans i).high to (nth old.spans i).value stop
+Ups old new i to (Some stop) = StoppedBelow old new (nth old.spans i).high to (nth old.spans i).value stop
 
 abbrev pub Downs : Line → Line → ℕ → ℕ → Option ℕ → Type 0
 Downs old new i to None = FilledDown old new to (nth old.spans i).low (nth old.spans i).value

@@ -3,12 +3,16 @@
 ghost use Rattle.std.specs.Prelude.{◌≡◌, ◌≢◌, ℕ, suc, ◌+◌, ◌-◌, ◌<◌, ◌≤◌, length, Some, None, Option, [], insert, IfOk, IfErr, IsSome, MatchBool, MatchResult};
 ghost use Rattle.rept_versions.specs.Moves.{MovesOnLine};
 ghost use Rattle.rept_versions.specs.Puts.{Puts, Ups, Downs, UpStep, DownStep};
-ghost use Rattle.rept_versions.specs.Line.{IsRising, IsJoined, IsJoinedBut, JoinedAt, Parts, Lies, Misses, Follows, Precedes, ReadsSame, Added, NextsOn, nth, value_at, raised, lowered, joined, filled, filled_down};
+ghost use Rattle.rept_versions.specs.Line.{IsRising, AreSpansJoined, IsJoinedBut, JoinedAt, Parts, LiesInSpan, Misses, FollowsAt, PrecedesAt, ReadsSame, Added, NextsOn, nth, value_at, raised, lowered, joined, filled, filled_down};
 
 use crate::blocks::Blocks;
 use crate::span::Span;
 use std::alloc::{AllocError as OutOfMemory, Global};
+use std::cell::Cell;
 use std::marker::Model;
+
+/// So many places to each side of the last one a search looks first.
+const NEAR: usize = 8;
 
 /// What `put` did.
 #[derive(Clone, Copy, PartialEq, Eq, Debug)]
@@ -49,6 +53,9 @@ pub enum Step {
 #[derive(Drop)]
 pub struct SpanLine {
     spans: Blocks,
+    // What the last search answered. The next one is mostly for a number close by, and begins around that place.
+    // It only saves work: no clause says what it keeps.
+    near: Cell<usize>,
 }
 
 impl Model for SpanLine {
@@ -68,6 +75,7 @@ impl SpanLine {
     {
         Ok(SpanLine {
             spans: Blocks::new(alloc, room)?,
+            near: Cell::new(0),
         })
     }
 
@@ -76,8 +84,8 @@ impl SpanLine {
         ensures parts { Parts self.now.spans k result }
         ensures rising { IsRising self.now.spans }
     {
-        let mut low = 0;
-        let mut high = self.spans.len();
+        let mut low = self.low_near(k);
+        let mut high = self.high_near(k);
         while low < high {
             let middle = low + (high - low) / 2;
             let s = self.at(middle);
@@ -87,7 +95,33 @@ impl SpanLine {
                 high = middle;
             }
         }
+        self.near.set(low);
         low
+    }
+
+    /// All spans before this place begin at or below k. It is a little before the last answer, or else the first place.
+    fn low_near(&self, k: u64) -> usize
+        ensures bound { result ≤ length self.now.spans }
+        ensures below { (j : ℕ) → j < result → (nth self.now.spans j).low ≤ k }
+    {
+        let first = self.near.get().saturating_sub(NEAR);
+        if first < self.count() && self.at(first).low <= k {
+            return first + 1;
+        }
+        0
+    }
+
+    /// All spans from this place on begin above k. It is a little after the last answer, or else the end.
+    fn high_near(&self, k: u64) -> usize
+        ensures bound { result ≤ length self.now.spans }
+        ensures above { (j : ℕ) → result ≤ j → j < length self.now.spans → k < (nth self.now.spans j).low }
+    {
+        let last = self.near.get().saturating_add(NEAR);
+        let len = self.count();
+        if last < len && k < self.at(last).low {
+            return last;
+        }
+        len
     }
 
     /// The span at a place.
@@ -123,7 +157,7 @@ impl SpanLine {
 
     /// The span that has k, or the place where one would go.
     fn place(&self, k: u64) -> Result<usize, usize>
-        ensures place { MatchResult result (Lies self.now.spans k) (Misses self.now.spans k) }
+        ensures place { MatchResult result (LiesInSpan self.now.spans k) (Misses self.now.spans k) }
         ensures rising { IsRising self.now.spans }
     {
         let i = self.find(k);
@@ -231,7 +265,7 @@ impl SpanLine {
         ensures len { length self.new.spans ≤ length self.old.spans }
         ensures room { self.new.room ≡ self.old.room }
         ensures rising { IsRising self.new.spans }
-        ensures joined { IsJoined self.new.spans }
+        ensures joined { AreSpansJoined self.new.spans }
     {
         if !self.meets(i) {
             return;
@@ -256,7 +290,7 @@ impl SpanLine {
     /// Whether the span before place i ends just below k and has the value.
     fn follows(&self, i: usize, k: u64, value: u8) -> bool
         requires at { Misses self.now.spans k i }
-        ensures { MatchBool result (Follows self.now.spans i k value) (Follows self.now.spans i k value → ⊥) }
+        ensures { MatchBool result (FollowsAt self.now.spans i k value) (FollowsAt self.now.spans i k value → ⊥) }
     {
         if i == 0 {
             return false;
@@ -268,7 +302,7 @@ impl SpanLine {
     /// Whether the span at place i begins just above k and has the value.
     fn precedes(&self, i: usize, k: u64, value: u8) -> bool
         requires at { Misses self.now.spans k i }
-        ensures { MatchBool result (Precedes self.now.spans i k value) (Precedes self.now.spans i k value → ⊥) }
+        ensures { MatchBool result (PrecedesAt self.now.spans i k value) (PrecedesAt self.now.spans i k value → ⊥) }
     {
         if i == self.count() {
             return false;
@@ -281,9 +315,9 @@ impl SpanLine {
     fn put_at(&mut self, i: usize, k: u64, value: u8) -> bool
         requires at { Misses self.old.spans k i }
         requires rising { IsRising self.old.spans }
-        requires joined { IsJoined self.old.spans }
+        requires joined { AreSpansJoined self.old.spans }
         ensures added { MatchBool result (Added self.old self.new k value) ((self.new ≡ self.old) × (self.old.room ≤ length self.old.spans)) }
-        ensures joined { IsJoined self.new.spans }
+        ensures joined { AreSpansJoined self.new.spans }
     {
         if self.follows(i, k, value) {
             self.raise(i - 1, k);
@@ -303,9 +337,9 @@ impl SpanLine {
 
     /// Puts a value at k, if there is none.
     pub fn put(&mut self, k: u64, value: u8) -> Put
-        requires joined { IsJoined self.old.spans }
+        requires joined { AreSpansJoined self.old.spans }
         ensures put { Puts self.old self.new k value result }
-        ensures joined { IsJoined self.new.spans }
+        ensures joined { AreSpansJoined self.new.spans }
     {
         match self.place(k) {
             Ok(i) => {
@@ -327,9 +361,9 @@ impl SpanLine {
     /// Lets span i end at `to` or later, or up to the next span, and joins it with that one if it has the same value.
     fn up_step(&mut self, i: usize, to: u64) -> Step
         requires at { i < length self.old.spans }
-        requires joined { IsJoined self.old.spans }
+        requires joined { AreSpansJoined self.old.spans }
         ensures step { UpStep self.old self.new i to result }
-        ensures joined { IsJoined self.new.spans }
+        ensures joined { AreSpansJoined self.new.spans }
     {
         let s = self.at(i);
         if to <= s.high {
@@ -356,9 +390,9 @@ impl SpanLine {
     /// Lets span i end at `to` or later, over spans of the same value. It stops at another value, and answers where that is.
     fn up(&mut self, i: usize, to: u64) -> Option<u64>
         requires at { i < length self.old.spans }
-        requires joined { IsJoined self.old.spans }
+        requires joined { AreSpansJoined self.old.spans }
         ensures up { Ups self.old self.new i to result }
-        ensures joined { IsJoined self.new.spans }
+        ensures joined { AreSpansJoined self.new.spans }
     {
         loop {
             match self.up_step(i, to) {
@@ -372,9 +406,9 @@ impl SpanLine {
     /// Lets span i begin at `to` or earlier, or down to the span before, and joins it with that one if it has the same value.
     fn down_step(&mut self, i: usize, to: u64) -> Step
         requires at { i < length self.old.spans }
-        requires joined { IsJoined self.old.spans }
+        requires joined { AreSpansJoined self.old.spans }
         ensures step { DownStep self.old self.new i to result }
-        ensures joined { IsJoined self.new.spans }
+        ensures joined { AreSpansJoined self.new.spans }
     {
         let s = self.at(i);
         if s.low <= to {
@@ -401,9 +435,9 @@ impl SpanLine {
     /// Lets span i begin at `to` or earlier, likewise.
     fn down(&mut self, i: usize, to: u64) -> Option<u64>
         requires at { i < length self.old.spans }
-        requires joined { IsJoined self.old.spans }
+        requires joined { AreSpansJoined self.old.spans }
         ensures down { Downs self.old self.new i to result }
-        ensures joined { IsJoined self.new.spans }
+        ensures joined { AreSpansJoined self.new.spans }
     {
         let mut at = i;
         loop {
@@ -417,12 +451,12 @@ impl SpanLine {
 
     /// Carries the value of span i, which has `from`, up to `to`.
     fn upward(&mut self, i: usize, from: u64, to: u64) -> Spread
-        requires at { Lies self.old.spans from i }
+        requires at { LiesInSpan self.old.spans from i }
         requires order { from ≤ to }
         requires rising { IsRising self.old.spans }
-        requires joined { IsJoined self.old.spans }
+        requires joined { AreSpansJoined self.old.spans }
         ensures moves { MovesOnLine self.old self.new from to (nth self.old.spans i).value result }
-        ensures joined { IsJoined self.new.spans }
+        ensures joined { AreSpansJoined self.new.spans }
     {
         let s = self.at(i);
         if to <= s.high {
@@ -439,12 +473,12 @@ impl SpanLine {
 
     /// Carries the value of span i, which has `from`, down to `to`.
     fn downward(&mut self, i: usize, from: u64, to: u64) -> Spread
-        requires at { Lies self.old.spans from i }
+        requires at { LiesInSpan self.old.spans from i }
         requires order { to ≤ from }
         requires rising { IsRising self.old.spans }
-        requires joined { IsJoined self.old.spans }
+        requires joined { AreSpansJoined self.old.spans }
         ensures moves { MovesOnLine self.old self.new from to (nth self.old.spans i).value result }
-        ensures joined { IsJoined self.new.spans }
+        ensures joined { AreSpansJoined self.new.spans }
     {
         let s = self.at(i);
         if s.low <= to {
@@ -462,9 +496,9 @@ impl SpanLine {
     /// Puts the value at `from` at each number up or down to `to`. It stops at the first other value.
     pub fn carry(&mut self, from: u64, to: u64) -> Spread
         requires some { IsSome (value_at self.old.spans from) }
-        requires joined { IsJoined self.old.spans }
+        requires joined { AreSpansJoined self.old.spans }
         ensures moves { (v : ℕ) → value_at self.old.spans from ≡ Some v → MovesOnLine self.old self.new from to v result }
-        ensures joined { IsJoined self.new.spans }
+        ensures joined { AreSpansJoined self.new.spans }
     {
         match self.place(from) {
             Ok(i) => {
@@ -486,7 +520,7 @@ impl SpanLine {
 
     /// The first span that ends at k or later.
     pub fn next_from(&self, k: u64) -> Option<Span>
-        requires joined { IsJoined self.now.spans }
+        requires joined { AreSpansJoined self.now.spans }
         ensures { NextsOn self.now.spans k result }
     {
         match self.place(k) {

@@ -21,14 +21,14 @@ pub struct SpanFacts {
 
 impl Model for SpanFacts {
     ghost use Rattle.std.specs.Prelude.{◌<◌};
-    ghost use Rattle.rept_versions.specs.Line.{IsJoined};
+    ghost use Rattle.rept_versions.specs.Line.{AreSpansJoined};
     ghost use Rattle.rept_versions.specs.OnLine.{Parts};
 
     ghost Value = { Parts };
 
     ghost view = { λ s. record { line = s.line; row = s.row } };
 
-    ghost invariant = { λ s. record { joined : IsJoined s.line.spans; few : s.line.room < 4294967296 } };
+    ghost invariant = { λ s. record { joined : AreSpansJoined s.line.spans; few : s.line.room < 4294967296 } };
 }
 
 impl ByteFacts for SpanFacts {

@@ -17,9 +17,9 @@ pub struct Tracked {
 impl Model for Tracked {
     ghost use Rattle.std.specs.Prelude.{◌+◌, ◌≤◌};
     ghost use Rattle.indexmap.specs.IndexSet.{index_set_len, spare};
-    ghost use Rattle.rept_versions.specs.Row.{Row};
+    ghost use Rattle.rept_versions.specs.Row.{VersionRow};
 
-    ghost Value = { Row };
+    ghost Value = { VersionRow };
 
     ghost view = { λ s. record { items = s.set.keys; room = s.room } };
 

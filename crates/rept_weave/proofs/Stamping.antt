@@ -9,7 +9,7 @@ use Rattle.rept_trace.specs.Grammar.{address_lsb, address_width, timed, IsPacket
 use Rattle.rept_encode.specs.Walkable.{alignment_by}
 use Rattle.rept_encode.specs.Written.{bit, high, sent, past_address}
 use Rattle.rept_weave.specs.declared.stamped.Start.{Start as Told}
-use Rattle.rept_weave.specs.Stamped.{wide, stamped, start_number, start_bytes, context_number, Adds}
+use Rattle.rept_weave.specs.Stamped.{wide, stamped, start_number, start_bytes, context_number, AddsPackets}
 use Rattle.rept_weave.proofs.Bytes.{AreBytes, field_at, bit_at}
 
 start_byte : (low high j : ℕ) → low < 2 ^ 128 → high < 256 → j < 17 → get_or (to_le_bytes w128 low ++ high ∷ []) j 0 ≡ (low + 2 ^ 128 * high) / 2 ^ (8 * j) % 256
@@ -189,5 +189,5 @@ module _ (time context : ℕ) (soon : time < 2 ^ 64) (few : context < 2 ^ 32) wh
   }
 
 -- One packet was added.
-pub adds_one : (old new payload : List ℕ) → new ≡ old ++ length payload ∷ payload → 0 < length payload → (w : Parameters) (packet : Packet) → IsPacket w payload packet → Adds w old new (packet ∷ [])
+pub adds_one : (old new payload : List ℕ) → new ≡ old ++ length payload ∷ payload → 0 < length payload → (w : Parameters) (packet : Packet) → IsPacket w payload packet → AddsPackets w old new (packet ∷ [])
 adds_one old new payload is some w packet spells = record { bytes = length payload ∷ payload; appended = is; written = (payload, [], ap (λ (xs : List ℕ). length payload ∷ xs) (sym (append-nil payload)), some, spells, refl) }

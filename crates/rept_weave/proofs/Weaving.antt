@@ -21,9 +21,9 @@ use Rattle.rept_weave.specs.declared.stretch.Stretch.{Stretch}
 use Rattle.rept_weave.specs.declared.fault.Place.{Place}
 use Rattle.rept_weave.specs.declared.fault.WeaveFault.{WeaveFault}
 use Rattle.rept_weave.specs.declared.fault.WeaveFault.TheVariants.{HartCount, InnerCall, JumpEnds, TooLong, OutOfMemory}
-use Rattle.rept_weave.specs.Stamped.{Adds}
-use Rattle.rept_weave.specs.Steps.{AddsStart, AddsStretch, AddsHart, AreTold, IsFront, IsStretchCause, IsHartCause, framed}
-use Rattle.rept_weave.specs.Woven.{start_of, ended, end_of, IsSent, AreSent, IsStreamOf, AreStreamsOf, IsWoven, IsCause}
+use Rattle.rept_weave.specs.Stamped.{AddsPackets}
+use Rattle.rept_weave.specs.Steps.{AddsStart, AddsStretch, AddsHart, AreStretchesTold, IsTraceFront, IsStretchCause, IsHartCause, framed}
+use Rattle.rept_weave.specs.Woven.{start_of, ended, end_of, IsStretchSent, AreSent, IsStreamOf, AreStreamsOf, IsWoven, IsCause}
 use Rattle.rept_weave.proofs.Clock.{leads_stamped}
 
 written_append : (w : Parameters) (a b : List ℕ) (ps qs : List Packet) → AreWritten w a ps → AreWritten w b qs → AreWritten w (a ++ b) (ps ++ qs)
@@ -33,7 +33,7 @@ written_append w a b (p ∷ ps) qs x y =
     let rest : List ℕ = x.1 in
     (front, rest ++ b, ap (λ (xs : List ℕ). xs ++ b) x.2 ∙ ap (λ (xs : List ℕ). length front ∷ xs) (append_assoc front rest b), x.3, x.4, written_append w rest b ps qs x.5 y)
 
-pub adds_on : (w : Parameters) (old middle new : List ℕ) (ps qs : List Packet) → Adds w old middle ps → Adds w middle new qs → Adds w old new (ps ++ qs)
+pub adds_on : (w : Parameters) (old middle new : List ℕ) (ps qs : List Packet) → AddsPackets w old middle ps → AddsPackets w middle new qs → AddsPackets w old new (ps ++ qs)
 adds_on w old middle new ps qs x y = record {
   bytes = x.bytes ++ y.bytes;
   appended = y.appended ∙ ap (λ (xs : List ℕ). xs ++ y.bytes) x.appended ∙ append_assoc old x.bytes y.bytes;
@@ -59,14 +59,14 @@ unfolding bit_of field
 ended_spells halves = record { format = refl; subformat = refl; enable = refl; mode = refl; number = refl; options = refl }
 
 -- all packets of a stretch
-pub stretch_on : (halves : Bool) (s : Stretch) (old one two three new reports : List ℕ) → AddsStart halves s old one → two ≡ one ++ reports → Adds (timed halves) two three (ended ∷ []) → Adds (timed halves) three new (end_of s ∷ []) → TellsAfter halves reports s.steps → AreStraight s.steps (length s.steps - 1) → AddsStretch halves s old new
+pub stretch_on : (halves : Bool) (s : Stretch) (old one two three new reports : List ℕ) → AddsStart halves s old one → two ≡ one ++ reports → AddsPackets (timed halves) two three (ended ∷ []) → AddsPackets (timed halves) three new (end_of s ∷ []) → TellsAfter halves reports s.steps → AreStraight s.steps (length s.steps - 1) → AddsStretch halves s old new
 stretch_on halves s old one two three new reports start is end until t straight =
     let first : StepRow = start.0 in
     let same : t.first ≡ first = (let e : ◌≡◌ {A = Option StepRow} (Some t.first) (Some first) = sym t.begins ∙ start.1 in cc) in
     let told = t.told straight in
-    let middle : Adds (timed halves) one two t.packets = record { bytes = reports; appended = is; written = reports_timed halves reports t.packets told t.written } in
-    let tail : Adds (timed halves) two new (ended ∷ end_of s ∷ []) = adds_on (timed halves) two three new (ended ∷ []) (end_of s ∷ []) end until in
-    let whole : Adds (timed halves) old new (start_of s first ∷ (t.packets ++ ended ∷ end_of s ∷ [])) = adds_on (timed halves) old two new (start_of s first ∷ t.packets) (ended ∷ end_of s ∷ []) (adds_on (timed halves) old one two (start_of s first ∷ []) t.packets start.2 middle) tail in (
+    let middle : AddsPackets (timed halves) one two t.packets = record { bytes = reports; appended = is; written = reports_timed halves reports t.packets told t.written } in
+    let tail : AddsPackets (timed halves) two new (ended ∷ end_of s ∷ []) = adds_on (timed halves) two three new (ended ∷ []) (end_of s ∷ []) end until in
+    let whole : AddsPackets (timed halves) old new (start_of s first ∷ (t.packets ++ ended ∷ end_of s ∷ [])) = adds_on (timed halves) old two new (start_of s first ∷ t.packets) (ended ∷ end_of s ∷ []) (adds_on (timed halves) old one two (start_of s first ∷ []) t.packets start.2 middle) tail in (
       start_of s first ∷ (t.packets ++ ended ∷ end_of s ∷ []),
       record {
         first = first;
@@ -81,7 +81,7 @@ stretch_on halves s old one two three new reports start is end until t straight 
       whole,
     )
 
-sent_on : (halves : Bool) (ss : List Stretch) (s : Stretch) (ps qs : List Packet) → AreSent halves ss ps → IsSent halves s qs → AreSent halves (ss ++ s ∷ []) (ps ++ qs)
+sent_on : (halves : Bool) (ss : List Stretch) (s : Stretch) (ps qs : List Packet) → AreSent halves ss ps → IsStretchSent halves s qs → AreSent halves (ss ++ s ∷ []) (ps ++ qs)
 sent_on halves [] s ps qs x y = (qs, [], rw x (sym (append-nil qs)), y, refl)
 sent_on halves (r ∷ ss) s ps qs x y =
     let front : List Packet = x.0 in
@@ -89,7 +89,7 @@ sent_on halves (r ∷ ss) s ps qs x y =
     (front, later ++ qs, ap (λ (xs : List Packet). xs ++ qs) x.2 ∙ append_assoc front later qs, x.3, sent_on halves ss s later qs x.4 y)
 
 -- one stretch more
-pub told_on : (halves : Bool) (ss : List Stretch) (i : ℕ) (s : Stretch) (old new : List ℕ) → i < length ss → s ≡ get_or ss i s → AreTold halves (take i ss) old → AddsStretch halves s old new → AreTold halves (take (i + 1) ss) new
+pub told_on : (halves : Bool) (ss : List Stretch) (i : ℕ) (s : Stretch) (old new : List ℕ) → i < length ss → s ≡ get_or ss i s → AreStretchesTold halves (take i ss) old → AddsStretch halves s old new → AreStretchesTold halves (take (i + 1) ss) new
 told_on halves ss i s old new lt is x y =
     let more : take (i + 1) ss ≡ take i ss ++ s ∷ [] = take_more ss i s lt ∙ ap (λ (r : Stretch). take i ss ++ r ∷ []) (sym is) in
     let a = y.2 in
@@ -118,7 +118,7 @@ each_counts halves (g ∷ hs) [] x = absurd x
 each_counts halves (g ∷ hs) (r ∷ ss) x = let e = each_counts halves hs ss x.1 in omega arith
 
 -- one hart more
-pub front_on : (halves : Bool) (count : ℕ) (hs : List (List Stretch)) (i : ℕ) (h : List Stretch) (old new : List ℕ) → i < length hs → h ≡ get_or hs i h → IsFront halves count (take i hs) old → AddsHart halves h old new → IsFront halves count (take (i + 1) hs) new
+pub front_on : (halves : Bool) (count : ℕ) (hs : List (List Stretch)) (i : ℕ) (h : List Stretch) (old new : List ℕ) → i < length hs → h ≡ get_or hs i h → IsTraceFront halves count (take i hs) old → AddsHart halves h old new → IsTraceFront halves count (take (i + 1) hs) new
 front_on halves count hs i h old new lt is x y =
     let more : take (i + 1) hs ≡ take i hs ++ h ∷ [] = take_more hs i h lt ∙ ap (λ (g : List Stretch). take i hs ++ g ∷ []) (sym is) in
     let held : IsStreamOf halves h y.stream = (y.told.0, written_held (timed halves) y.stream y.told.0 y.told.1, y.told.2) in
@@ -132,11 +132,11 @@ front_on halves count hs i h old new lt is x y =
       each = each_on halves (take i hs) x.streams h y.stream x.each held;
     })
 
-pub front_empty : (halves : Bool) (count : ℕ) (hs : List (List Stretch)) (text : List ℕ) → text ≡ header_bytes several_streams (heading_of count halves) → IsFront halves count (take 0 hs) text
+pub front_empty : (halves : Bool) (count : ℕ) (hs : List (List Stretch)) (text : List ℕ) → text ≡ header_bytes several_streams (heading_of count halves) → IsTraceFront halves count (take 0 hs) text
 front_empty halves count hs text is = record { streams = []; body = []; layout = is; whole = λ later. refl; each = refl }
 
 -- all harts
-pub front_woven : (halves : Bool) (hs done : List (List Stretch)) (text : List ℕ) → done ≡ hs → 0 < length hs → length hs ≤ 64 → IsFront halves (length hs) done text → IsWoven halves hs text
+pub front_woven : (halves : Bool) (hs done : List (List Stretch)) (text : List ℕ) → done ≡ hs → 0 < length hs → length hs ≤ 64 → IsTraceFront halves (length hs) done text → IsWoven halves hs text
 front_woven halves hs done text is some few x =
     let each : AreStreamsOf halves hs x.streams = subst (λ (ds : List (List Stretch)). AreStreamsOf halves ds x.streams) is x.each in
     let n : length x.streams ≡ length hs = each_counts halves hs x.streams each in

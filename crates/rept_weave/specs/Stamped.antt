@@ -30,7 +30,7 @@ abbrev pub context_number : ℕ → ℕ
 context_number rest = 11 + 64 * rest
 
 -- Bytes were added, and they are these packets.
-pub record Adds (widths : Parameters) (old new : List ℕ) (packets : List Packet) : Type 0 where
+pub record AddsPackets (widths : Parameters) (old new : List ℕ) (packets : List Packet) : Type 0 where
   pub bytes : List ℕ
   pub appended : new ≡ old ++ bytes
   pub written : AreWritten widths bytes packets

@@ -12,20 +12,20 @@ use Rattle.rept_weave.specs.declared.stretch.Stretch.{Stretch}
 use Rattle.rept_weave.specs.declared.fault.Place.{Place}
 use Rattle.rept_weave.specs.declared.fault.WeaveFault.{WeaveFault}
 use Rattle.rept_weave.specs.declared.fault.WeaveFault.TheVariants.{HartCount, InnerCall, JumpEnds, TooLong, OutOfMemory}
-use Rattle.rept_weave.specs.Stamped.{Adds}
-use Rattle.rept_weave.specs.Woven.{start_of, IsSent, AreSent, AreStreamsOf, IsInnerCall, IsIn}
+use Rattle.rept_weave.specs.Stamped.{AddsPackets}
+use Rattle.rept_weave.specs.Woven.{start_of, IsStretchSent, AreSent, AreStreamsOf, IsInnerCall, IsInStretch}
 
 -- The start packet of a stretch was added.
 abbrev pub AddsStart : Bool → Stretch → List ℕ → List ℕ → Type 0
-AddsStart halves s old new = (first : StepRow) × (slice_get s.steps 0 ≡ Some first) × Adds (timed halves) old new (start_of s first ∷ [])
+AddsStart halves s old new = (first : StepRow) × (slice_get s.steps 0 ≡ Some first) × AddsPackets (timed halves) old new (start_of s first ∷ [])
 
 -- All packets of a stretch were added.
 abbrev pub AddsStretch : Bool → Stretch → List ℕ → List ℕ → Type 0
-AddsStretch halves s old new = (packets : List Packet) × IsSent halves s packets × Adds (timed halves) old new packets
+AddsStretch halves s old new = (packets : List Packet) × IsStretchSent halves s packets × AddsPackets (timed halves) old new packets
 
 -- The bytes are the packets of these stretches.
-abbrev pub AreTold : Bool → List Stretch → List ℕ → Type 0
-AreTold halves stretches bytes = (packets : List Packet) × AreWritten (timed halves) bytes packets × AreSent halves stretches packets
+abbrev pub AreStretchesTold : Bool → List Stretch → List ℕ → Type 0
+AreStretchesTold halves stretches bytes = (packets : List Packet) × AreWritten (timed halves) bytes packets × AreSent halves stretches packets
 
 -- a stream, with its length in front
 abbrev pub framed : List ℕ → List ℕ
@@ -36,10 +36,10 @@ pub record AddsHart (halves : Bool) (hart : List Stretch) (old new : List ℕ) :
   pub stream : List ℕ
   pub appended : new ≡ old ++ framed stream
   pub few : length stream < 2 ^ 32
-  pub told : AreTold halves hart stream
+  pub told : AreStretchesTold halves hart stream
 
 -- The header of a file of so many streams, and the streams of these harts.
-pub record IsFront (halves : Bool) (count : ℕ) (harts : List (List Stretch)) (trace : List ℕ) : Type 0 where
+pub record IsTraceFront (halves : Bool) (count : ℕ) (harts : List (List Stretch)) (trace : List ℕ) : Type 0 where
   pub streams : List (List ℕ)
   pub body : List ℕ
   pub layout : trace ≡ header_bytes several_streams (heading_of count halves) ++ body
@@ -57,7 +57,7 @@ IsStretchCause at rows OutOfMemory = Unit {0}
 -- why the hart of this number isn't written
 abbrev pub IsHartCause : ℕ → List Stretch → WeaveFault → Type 0
 IsHartCause h hart HartCount = ⊥
-IsHartCause h hart (InnerCall p) = (p.hart ≡ h) × IsIn hart p IsInnerCall
-IsHartCause h hart (JumpEnds p) = (p.hart ≡ h) × IsIn hart p IsFirstJumpEnd
+IsHartCause h hart (InnerCall p) = (p.hart ≡ h) × IsInStretch hart p IsInnerCall
+IsHartCause h hart (JumpEnds p) = (p.hart ≡ h) × IsInStretch hart p IsFirstJumpEnd
 IsHartCause h hart (TooLong k) = k ≡ h
 IsHartCause h hart OutOfMemory = Unit {0}

@@ -29,7 +29,7 @@ end_of s = Context 0 s.end s.process
 
 -- The packets are those of a stretch: between its start packet and its end each tells branches or an address. In each such code that has its instructions, a walk along them comes to its last
 -- row, after all rows before it, and from there a gap leads over that row to where it goes.
-pub record IsSent (halves : Bool) (s : Stretch) (packets : List Packet) : Type 0 where
+pub record IsStretchSent (halves : Bool) (s : Stretch) (packets : List Packet) : Type 0 where
   pub first : StepRow
   pub begins : slice_get s.steps 0 ≡ Some first
   pub reports : List Packet
@@ -40,7 +40,7 @@ pub record IsSent (halves : Bool) (s : Stretch) (packets : List Packet) : Type 0
 -- The packets of a hart are those of its stretches, one after the other.
 abbrev pub AreSent : Bool → List Stretch → List Packet → Type 0
 AreSent halves [] packets = packets ≡ []
-AreSent halves (s ∷ stretches) packets = (front : List Packet) × (later : List Packet) × (packets ≡ front ++ later) × IsSent halves s front × AreSent halves stretches later
+AreSent halves (s ∷ stretches) packets = (front : List Packet) × (later : List Packet) × (packets ≡ front ++ later) × IsStretchSent halves s front × AreSent halves stretches later
 
 -- A stream holds the packets of a hart and no others.
 abbrev pub IsStreamOf : Bool → List Stretch → List ℕ → Type 0
@@ -66,17 +66,17 @@ pub record IsInnerCall (rows : List StepRow) (i : ℕ) : Type 0 where
   pub early : i + 1 < length rows
 
 -- a stretch of this number of a hart has this at a step
-abbrev pub IsIn : List Stretch → Place → (List StepRow → ℕ → Type 0) → Type 0
-IsIn hart p P = (s : Stretch) × (slice_get hart p.stretch ≡ Some s) × P s.steps p.step
+abbrev pub IsInStretch : List Stretch → Place → (List StepRow → ℕ → Type 0) → Type 0
+IsInStretch hart p P = (s : Stretch) × (slice_get hart p.stretch ≡ Some s) × P s.steps p.step
 
 -- a stretch of a hart of this number has it
-abbrev pub IsAt : List (List Stretch) → Place → (List StepRow → ℕ → Type 0) → Type 0
-IsAt harts p P = (hart : List Stretch) × (slice_get harts p.hart ≡ Some hart) × IsIn hart p P
+abbrev pub IsAtPlace : List (List Stretch) → Place → (List StepRow → ℕ → Type 0) → Type 0
+IsAtPlace harts p P = (hart : List Stretch) × (slice_get harts p.hart ≡ Some hart) × IsInStretch hart p P
 
 -- why no trace is written
 abbrev pub IsCause : List (List Stretch) → WeaveFault → Type 0
 IsCause harts HartCount = (length harts ≡ 0) ⊎ (64 < length harts)
-IsCause harts (InnerCall place) = IsAt harts place IsInnerCall
-IsCause harts (JumpEnds place) = IsAt harts place IsFirstJumpEnd
+IsCause harts (InnerCall place) = IsAtPlace harts place IsInnerCall
+IsCause harts (JumpEnds place) = IsAtPlace harts place IsFirstJumpEnd
 IsCause harts (TooLong hart) = hart < length harts
 IsCause harts OutOfMemory = Unit {0}

@@ -5,7 +5,7 @@ ghost use Rattle.rept_trace.specs.declared.parameters.Parameters.{Parameters};
 ghost use Rattle.rept_trace.specs.declared.packet.Packet.{Packet};
 ghost use Rattle.rept_trace.specs.Grammar.{timed, IsPacket};
 ghost use Rattle.rept_encode.specs.Walkable.{alignment_by};
-ghost use Rattle.rept_weave.specs.Stamped.{wide, stamped, start_number, start_bytes, context_number, Adds};
+ghost use Rattle.rept_weave.specs.Stamped.{wide, stamped, start_number, start_bytes, context_number, AddsPackets};
 
 use rept_encode::cut;
 use rept_word::{OutOfMemory, Text};
@@ -38,7 +38,7 @@ fn wide(halves: bool, address: u32) -> u64
 fn push_payload(out: &mut Text, payload: &[u8]) -> Result<(), OutOfMemory>
     requires some { 0 < length payload.now }
     requires few { length payload.now ≤ 17 }
-    ensures { OnOk result ((widths : Parameters) (packet : Packet) → IsPacket widths payload.now packet → Adds widths out.old out.new (packet ∷ [])) }
+    ensures { OnOk result ((widths : Parameters) (packet : Packet) → IsPacket widths payload.now packet → AddsPackets widths out.old out.new (packet ∷ [])) }
 {
     let payload = cut(payload);
     out.push(&[payload.len() as u8])?;
@@ -81,7 +81,7 @@ pub fn push_start(
     start: &Start,
 ) -> Result<(), OutOfMemory>
     requires { start.now.address % alignment_by halves ≡ 0 }
-    ensures { OnOk result (Adds (timed halves) out.old out.new (Packet.Start start.now.branch 0 start.now.address start.now.time start.now.context ∷ [])) }
+    ensures { OnOk result (AddsPackets (timed halves) out.old out.new (Packet.Start start.now.branch 0 start.now.address start.now.time start.now.context ∷ [])) }
 {
     let payload = start_payload(alloc, halves, start)?;
     push_payload(out, payload.bytes())?;
@@ -102,7 +102,7 @@ pub fn push_context(
     time: u64,
     context: u32,
 ) -> Result<(), OutOfMemory>
-    ensures { OnOk result (Adds (timed halves) out.old out.new (Packet.Context 0 time context ∷ [])) }
+    ensures { OnOk result (AddsPackets (timed halves) out.old out.new (Packet.Context 0 time context ∷ [])) }
 {
     let bytes = context_number(time, context).to_le_bytes();
     push_payload(out, &bytes[..13])?;

@@ -6,8 +6,8 @@ ghost use Rattle.rept_encode.specs.Encoded.{TellsAfter};
 ghost use Rattle.rept_encode.specs.Walkable.{IsWalkable, AreStraight};
 ghost use Rattle.rept_trace.specs.Grammar.{timed};
 ghost use Rattle.rept_trace.specs.Header.{several_streams, heading_of, header_bytes};
-ghost use Rattle.rept_weave.specs.Stamped.{Adds};
-ghost use Rattle.rept_weave.specs.Steps.{AddsStart, AddsStretch, AddsHart, AreTold, IsFront, IsStretchCause, IsHartCause, framed};
+ghost use Rattle.rept_weave.specs.Stamped.{AddsPackets};
+ghost use Rattle.rept_weave.specs.Steps.{AddsStart, AddsStretch, AddsHart, AreStretchesTold, IsTraceFront, IsStretchCause, IsHartCause, framed};
 ghost use Rattle.rept_weave.specs.Woven.{IsInnerCall, IsWoven, IsCause, ended, end_of};
 
 use crate::fault::{Place, WeaveFault};
@@ -58,7 +58,7 @@ fn push_first(
 
 /// Adds the support packet that ends a trace.
 fn push_ended(out: &mut Text, halves: bool) -> Result<(), OutOfMemory>
-    ensures { OnOk result (Adds (timed halves) out.old out.new (ended ∷ [])) }
+    ensures { OnOk result (AddsPackets (timed halves) out.old out.new (ended ∷ [])) }
 {
     out.push(&[1, 0x4f])?;
     Ok(())
@@ -116,7 +116,7 @@ fn push_stretch(
 /// The stream of the hart of this number.
 fn stream_of(alloc: Global, halves: bool, hart: &Hart, number: usize) -> Result<Text, WeaveFault>
     requires { All (λ s. IsWalkable halves s.steps) hart.now }
-    ensures ok { IfOk result (AreTold halves hart.now) }
+    ensures ok { IfOk result (AreStretchesTold halves hart.now) }
     ensures err { IfErr result (IsHartCause number hart.now) }
 {
     let stretches = hart.all();

@@ -6,9 +6,9 @@ use Rattle.rept_isa.specs.declared.row.StepRow.{StepRow}
 use Rattle.rept_path.specs.Code.{Code, look, is_short}
 use Rattle.rept_path.specs.Rows.{CarriesCode, CarryCode}
 use Rattle.rept_encode.specs.Encoded.{coded}
-use Rattle.rept_slices.specs.Joins.{Note}
+use Rattle.rept_slices.specs.Joins.{ThreadNote}
 use Rattle.rept_woven.specs.Told.{AreInTime}
-use Rattle.rept_woven.specs.Ordered.{Piece, on_hart, pieces, begins, thread_in, IsJoined, IsNoted, AreApart, AreOrdered, HasStretches}
+use Rattle.rept_woven.specs.Ordered.{Piece, on_hart, pieces, begins, thread_in, IsThreadJoined, IsNoted, AreApart, AreOrdered, HasStretches}
 use Rattle.rept_woven.specs.Worked.{code, stretch, harts, notes, nothing, jump, call}
 
 abbrev here : Code
@@ -76,7 +76,7 @@ are_ordered = record {
     (apart_from second (λ a b. omega (arith, a, b)) (λ a b. omega (arith, a, b)) (λ a b. omega (arith, a, b)) (λ a b. omega (arith, a, b)), (apart_from third (λ a b. omega (arith, a, b)) (λ a b. omega (arith, a, b)) (λ a b. omega (arith, a, b)) (λ a b. omega (arith, a, b)), (apart_from fourth (λ a b. omega (arith, a, b)) (λ a b. omega (arith, a, b)) (λ a b. omega (arith, a, b)) (λ a b. omega (arith, a, b)), tt))),
   );
   noted = All-from_recursion (IsNoted notes) (pieces harts) (refl, (refl, (refl, (refl, tt))));
-  joined = All-from_recursion (λ (n : Note). IsJoined (thread_in harts n) n.pc) notes (
+  joined = All-from_recursion (λ (n : ThreadNote). IsThreadJoined (thread_in harts n) n.pc) notes (
     record { linked = (refl, (refl, (refl, (tt, tt)))); ends = refl; in_time = (omega arith, omega arith, (omega arith, tt, tt)) },
     (record { linked = (refl, (tt, tt)); ends = refl; in_time = (omega arith, omega arith, (omega arith, tt, tt)) }, tt),
   );

@@ -13,8 +13,8 @@ use Rattle.rept_path.specs.declared.fault.PathFault.{PathFault}
 use Rattle.rept_path.specs.declared.fault.PathFault.TheVariants.{TooLong, Gap}
 use Rattle.rept_path.specs.Code.{Code, look, after_instruction, is_short, alignment, flow_of, calls_there}
 use Rattle.rept_path.specs.Packets.{waiting}
-use Rattle.rept_path.specs.Moves.{Lead, heading_by, Place, Stand, Site, site, along, successor, position, way_by, next_of, IsMove, ◌>>=◌}
-use Rattle.rept_path.specs.Legs.{Passes, Reaches, PhaseLeg}
+use Rattle.rept_path.specs.Moves.{Lead, heading_by, Place, Stand, Site, site, place_along, successor, position, way_by, next_of, IsMove, ◌>>=◌}
+use Rattle.rept_path.specs.Legs.{LegPasses, Reaches, PhaseLeg}
 use Rattle.rept_path.specs.Gap.{Goal, Edge, row, call_row, by_successor, by_flow, crossing, gap}
 use Rattle.rept_path.specs.Route.{Phase, PhaseLegs, lead_of, further, with_bits, phases_of, Met, met_by, stand_of, WaitingLeg, Leg, Origin, earlier_by, Route, place}
 use Rattle.rept_path.proofs.MoveLemmas.{bind_ok, made}
@@ -97,18 +97,18 @@ module _ (code : Code) (k room : ℕ) where
   move_moved : (how : Lead) (p : Place) (r : StepRow) → IsMove code how p r → length p.rows < room → IsMove code (led how) p r
   move_moved how p r m few = record { next = next_moved how p r.next m.next few; at = m.at; instr = m.instr; call = m.call; short = m.short }
 
-  few_along : (past : Place) (leg : List StepRow) → length leg + length past.rows < room → length (along code past leg).rows < room
+  few_along : (past : Place) (leg : List StepRow) → length leg + length past.rows < room → length (place_along code past leg).rows < room
   few_along past leg few =
       let e = ap (length {A = StepRow}) (rows_along code past leg) in
       omega (arith, e, few, length-append leg past.rows)
 
-  passes_moved : (how : Lead) (aim : Aim) (past : Place) (leg : List StepRow) → Passes code (heading_by how aim) past leg → length leg + length past.rows ≤ room → Passes code (heading_by (led how) aim) past leg
+  passes_moved : (how : Lead) (aim : Aim) (past : Place) (leg : List StepRow) → LegPasses code (heading_by how aim) past leg → length leg + length past.rows ≤ room → LegPasses code (heading_by (led how) aim) past leg
   passes_moved how aim past [] h few = tt
-  passes_moved how aim past (r ∷ leg) h few = (passes_moved how aim past leg h.0 (omega (arith, few)), move_moved how (along code past leg) r h.1 (few_along past leg (omega (arith, few))), h.2)
+  passes_moved how aim past (r ∷ leg) h few = (passes_moved how aim past leg h.0 (omega (arith, few)), move_moved how (place_along code past leg) r h.1 (few_along past leg (omega (arith, few))), h.2)
 
   reaches_moved : (how : Lead) (aim : Aim) (past : Place) (leg : List StepRow) → Reaches code (heading_by how aim) past leg → length leg + length past.rows ≤ room → Reaches code (heading_by (led how) aim) past leg
   reaches_moved how aim past [] h few = h
-  reaches_moved how aim past (r ∷ leg) h few = (passes_moved how aim past leg h.0 (omega (arith, few)), move_moved how (along code past leg) r h.1 (few_along past leg (omega (arith, few))), h.2)
+  reaches_moved how aim past (r ∷ leg) h few = (passes_moved how aim past leg h.0 (omega (arith, few)), move_moved how (place_along code past leg) r h.1 (few_along past leg (omega (arith, few))), h.2)
 
   phase_moved : (how : Lead) (aim : Aim) (past : Place) (leg : List StepRow) → PhaseLeg code (heading_by how aim) past leg → length leg + length past.rows ≤ room → PhaseLeg code (heading_by (led how) aim) past leg
   phase_moved how aim past leg h few = record { reaches = reaches_moved how aim past leg h.reaches few; fits = h.fits }
@@ -122,7 +122,7 @@ module _ (code : Code) (k room : ℕ) where
       let n = ap (length {A = StepRow}) cut in
       let m = ap (length {A = StepRow}) (rows_along code s.place first) in
       let own_few : length first + length s.place.rows ≤ room = omega (arith, few, n, length-append rest first) in
-      let rest_few : length rest + length (along code s.place first).rows ≤ room = omega (arith, few, n, m, length-append rest first, length-append first s.place.rows) in
+      let rest_few : length rest + length (place_along code s.place first).rows ≤ room = omega (arith, few, n, m, length-append rest first, length-append first s.place.rows) in
       (first, rest, cut, phase_moved (lead_of s phase) phase.aim s.place first own own_few, phases_moved phases (further code s first) rest others rest_few)
 
   gap_moved : (s : Stand) (to : ℕ) (d e : PathFault) (rows : List StepRow) → gap code s (record { address = to; otherwise = d }) ≡ Ok rows → length rows + length s.place.rows ≤ room → gap code (stood s) (record { address = to; otherwise = e }) ≡ Ok rows

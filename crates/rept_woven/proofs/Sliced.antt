@@ -5,7 +5,7 @@ use Rattle.rept_isa.specs.declared.row.StepRow.{StepRow}
 use Rattle.rept_trace.specs.declared.packet.Packet.{Packet}
 use Rattle.rept_encode.specs.Encoded.{AreReporting}
 use Rattle.rept_weave.specs.declared.stretch.Stretch.{Stretch}
-use Rattle.rept_weave.specs.Woven.{start_of, ended, end_of, IsSent, AreSent}
+use Rattle.rept_weave.specs.Woven.{start_of, ended, end_of, IsStretchSent, AreSent}
 use Rattle.rept_slices.specs.Stamps.{stamp_of, clock_of, context_of, is_past, closes}
 use Rattle.rept_slices.specs.Parts.{ToldSlice, thread_of, begin_of, beyond, first_time, told_from, slices_told}
 use Rattle.rept_slices.specs.Order.{starts_past, lasts_past}
@@ -27,7 +27,7 @@ pub record IsPieceOf (halves : Bool) (p : Piece) (t : ToldSlice) : Type 0 where
   pub stream : t.stream ≡ p.hart
   pub waits : t.inside ≡ None
   pub front : List Packet
-  pub sent : IsSent halves p.stretch front
+  pub sent : IsStretchSent halves p.stretch front
   pub more : List Packet
   pub start : t.start ≡ start_of p.stretch sent.first
   pub later : t.later ≡ sent.reports ++ (ended ∷ end_of p.stretch ∷ more)

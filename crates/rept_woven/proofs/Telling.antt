@@ -6,7 +6,7 @@ use Rattle.rept_trace.specs.declared.packet.Packet.{Packet}
 use Rattle.rept_trace.specs.declared.packet.Packet.TheVariants.{Start, Context, Support, Address, Map, MapAddress}
 use Rattle.rept_encode.specs.Encoded.{IsReporting, AreReporting}
 use Rattle.rept_weave.specs.declared.stretch.Stretch.{Stretch}
-use Rattle.rept_weave.specs.Woven.{start_of, ended, end_of, IsSent, AreSent}
+use Rattle.rept_weave.specs.Woven.{start_of, ended, end_of, IsStretchSent, AreSent}
 use Rattle.rept_path.specs.Trace.{loses}
 use Rattle.rept_path.specs.declared.fault.PathFault.TheVariants.{TimeBack}
 use Rattle.rept_slices.specs.Checks.{back_from}
@@ -56,7 +56,7 @@ stretch_past (r ∷ rs) rest h =
 
 module _ (halves : Bool) where
   -- the packets of a stretch, and those after it
-  pub layout : (x : Stretch) (front later : List Packet) (i : IsSent halves x front) → front ++ later ≡ start_of x i.first ∷ (i.reports ++ (ended ∷ end_of x ∷ later))
+  pub layout : (x : Stretch) (front later : List Packet) (i : IsStretchSent halves x front) → front ++ later ≡ start_of x i.first ∷ (i.reports ++ (ended ∷ end_of x ∷ later))
   layout x front later i =
       ap (λ (ps : List Packet). ps ++ later) i.order
       ∙ ap (λ (ps : List Packet). start_of x i.first ∷ ps) (append_assoc i.reports (ended ∷ end_of x ∷ []) later)
@@ -84,7 +84,7 @@ module _ (halves : Bool) where
         begin = refl;
         waits = refl;
         end = ap first_time (end_past i.reports (end_of x ∷ later) i.told);
-        packets = subst (λ (ps : List Packet). IsSent halves x ps) whole i;
+        packets = subst (λ (ps : List Packet). IsStretchSent halves x ps) whole i;
       } in
       subst (λ (ts : List ToldSlice). AreSlicesOf halves s (x ∷ xs) ts) (sym all) (first, slices_are xs later s (suc (suc (suc k + length i.reports))) others)
 

@@ -17,10 +17,10 @@ use Rattle.rept_path.specs.Moves.{◌>>=◌}
 use Rattle.rept_slices.specs.Stamps.{address_of}
 use Rattle.rept_slices.specs.Parts.{ToldSlice, thread_of, begin_of, beyond, first_time, lesser, never, end_before}
 use Rattle.rept_slices.specs.Order.{put, by_time, head_of}
-use Rattle.rept_slices.specs.Stretches.{Ran}
-use Rattle.rept_slices.specs.Joins.{Note, ThreadGround, Joined, stand_at, bridge, with_rows, join, slice_by, slices, thread, of_thread, thread_ground, rows_in, ran_rows, threads}
+use Rattle.rept_slices.specs.Stretches.{RanSlice}
+use Rattle.rept_slices.specs.Joins.{ThreadNote, ThreadGround, JoinedSlice, stand_at, bridge, with_rows, join, slice_by, slices, thread, of_thread, thread_ground, rows_in, ran_rows, threads}
 use Rattle.rept_slices.proofs.InTime.{Each, each_by_time, each_filter}
-use Rattle.rept_woven.specs.Ordered.{Piece, slices_from, thread_of as rows_of, of_thread as pieces_of, IsJoined, IsNoted}
+use Rattle.rept_woven.specs.Ordered.{Piece, slices_from, thread_of as rows_of, of_thread as pieces_of, IsThreadJoined, IsNoted}
 use Rattle.rept_woven.specs.Ordered as ordered
 use Rattle.rept_woven.proofs.Zipped.{zip_filter, zip_by_time, zip_each}
 use Rattle.rept_woven.proofs.Ways.{IsRanOf, walked_rows, rows_before}
@@ -55,14 +55,14 @@ abbrev steps : List Piece → List StepRow
 steps ps = flat_map (λ (p : Piece). p.stretch.steps) ps
 
 -- A slice that was joined has the rows of its stretch.
-pub record IsJoinedOf (p : Piece) (j : Joined) : Type 0 where
+pub record IsJoinedOf (p : Piece) (j : JoinedSlice) : Type 0 where
   pub stream : j.told.stream ≡ p.hart
   pub begin : begin_of j.told ≡ p.stretch.begin
   pub end : first_time (beyond j.told) ≡ Some p.stretch.end
   pub fits : p.stretch.end < 2 ^ 64
   pub rows : j.rows ≡ p.stretch.steps
 
-joined_steps : (ps : List Piece) (js : List Joined) → AllZip IsJoinedOf ps js → flat_map (λ (j : Joined). j.rows) js ≡ flat_map (λ (p : Piece). p.stretch.steps) ps
+joined_steps : (ps : List Piece) (js : List JoinedSlice) → AllZip IsJoinedOf ps js → flat_map (λ (j : JoinedSlice). j.rows) js ≡ flat_map (λ (p : Piece). p.stretch.steps) ps
 joined_steps [] [] h = refl
 joined_steps [] (j ∷ js) h = absurd h
 joined_steps (p ∷ ps) [] h = absurd h
@@ -82,7 +82,7 @@ own_end t end (Some b) is fits late =
     ∙ ap (λ (n : ℕ). lesser n (Some b)) (lesser_is end never (omega (arith, fits)))
     ∙ (let le = late b refl in elim (leb_tells end b) [ inl t ↦ ap (λ (c : Bool). cond c end b) t.0 | inr t ↦ absurd (let lt = t.1 in omega (arith, lt, le)) ])
 
-joined_slices : (first : ℕ) (ps : List Piece) (js : List Joined) → AllZip IsJoinedOf ps js → KeepTime (slices_from first ps) → slices first js ≡ slices_from first ps
+joined_slices : (first : ℕ) (ps : List Piece) (js : List JoinedSlice) → AllZip IsJoinedOf ps js → KeepTime (slices_from first ps) → slices first js ≡ slices_from first ps
 joined_slices first [] [] h keep = refl
 joined_slices first [] (j ∷ js) h keep = absurd h
 joined_slices first (p ∷ ps) [] h keep = absurd h
@@ -90,12 +90,12 @@ joined_slices first (p ∷ ps) (j ∷ js) h keep =
     let x = h.0 in
     let count = ap (length {A = StepRow}) x.rows in
     let rest = joined_slices (first + length p.stretch.steps) ps js h.1 keep.2 in
-    let end : end_before j.told (option_map (λ (n : Joined). begin_of n.told) (head_of js)) ≡ p.stretch.end = own_end j.told p.stretch.end (option_map (λ (n : Joined). begin_of n.told) (head_of js)) x.end x.fits (later ps js h.1 keep.1) in
+    let end : end_before j.told (option_map (λ (n : JoinedSlice). begin_of n.told) (head_of js)) ≡ p.stretch.end = own_end j.told p.stretch.end (option_map (λ (n : JoinedSlice). begin_of n.told) (head_of js)) x.end x.fits (later ps js h.1 keep.1) in
     let here : slice_by j (head_of js) first ≡ ordered.slice_of first p = λ i. record { stream = x.stream i; begin = x.begin i; end = end i; first = first; count = count i } in
     let first_is : slices first (j ∷ js) ≡ ordered.slice_of first p ∷ slices (first + length p.stretch.steps) js = λ i. here i ∷ slices (first + count i) js in
     first_is ∙ ap (λ (ss : List Slice). ordered.slice_of first p ∷ ss) rest
   where
-    later : (qs : List Piece) (ks : List Joined) → AllZip IsJoinedOf qs ks → BeginsFrom p.stretch.end (first_slice (slices_from (first + length p.stretch.steps) qs)) → (b : ℕ) → option_map (λ (n : Joined). begin_of n.told) (head_of ks) ≡ Some b → p.stretch.end ≤ b
+    later : (qs : List Piece) (ks : List JoinedSlice) → AllZip IsJoinedOf qs ks → BeginsFrom p.stretch.end (first_slice (slices_from (first + length p.stretch.steps) qs)) → (b : ℕ) → option_map (λ (n : JoinedSlice). begin_of n.told) (head_of ks) ≡ Some b → p.stretch.end ≤ b
     later [] [] z k b e = absurd (cc)
     later [] (m ∷ ks) z k b e = absurd z
     later (q ∷ qs) [] z k b e = absurd z
@@ -112,18 +112,18 @@ all_steps (p ∷ ps) h =
     omega (arith, r, some, length-append p.stretch.steps (flat_map (λ (q : Piece). q.stretch.steps) ps))
 
 -- how many stretches the threads of notes have
-abbrev pub counted : List Piece → List Note → ℕ
+abbrev pub counted : List Piece → List ThreadNote → ℕ
 counted ps [] = 0
 counted ps (n ∷ notes) = length (pieces_of n.process ps) + counted ps notes
 
 module _ (code : Code) where
-  has_steps : (p : Piece) (r : Ran) → IsRanOf code p r → HasSteps p
+  has_steps : (p : Piece) (r : RanSlice) → IsRanOf code p r → HasSteps p
   has_steps p r i = let n = ap (length {A = StepRow}) i.rows in omega (arith, n, length-append r.rows (i.last ∷ []))
 
-  pub all_have_steps : (ps : List Piece) (rs : List Ran) → AllZip (IsRanOf code) ps rs → Each HasSteps ps
+  pub all_have_steps : (ps : List Piece) (rs : List RanSlice) → AllZip (IsRanOf code) ps rs → Each HasSteps ps
   all_have_steps ps rs h = zip_each (IsRanOf code) HasSteps has_steps ps rs h
 
-  pub ran_are : (ps : List Piece) (rs : List Ran) → AllZip (IsRanOf code) ps rs → ran_rows rs ≡ rows_before ps
+  pub ran_are : (ps : List Piece) (rs : List RanSlice) → AllZip (IsRanOf code) ps rs → ran_rows rs ≡ rows_before ps
   ran_are [] [] h = refl
   ran_are [] (r ∷ rs) h = absurd h
   ran_are (p ∷ ps) [] h = absurd h
@@ -131,24 +131,24 @@ module _ (code : Code) where
       let x = h.0 in
       let n = ap (length {A = StepRow}) x.rows in
       let rest = ran_are ps rs h.1 in
-      let s = sum_by-cons (λ (q : Ran). length q.rows) r rs in
+      let s = sum_by-cons (λ (q : RanSlice). length q.rows) r rs in
       omega (arith, n, rest, s, length-append r.rows (x.last ∷ []))
 
   -- a thread's slices in order
-  pub in_order : (process : ℕ) (ps : List Piece) (rs : List Ran) → AllZip (IsRanOf code) ps rs → AllZip (IsRanOf code) (pieces_of process ps) (of_thread process rs)
+  pub in_order : (process : ℕ) (ps : List Piece) (rs : List RanSlice) → AllZip (IsRanOf code) ps rs → AllZip (IsRanOf code) (pieces_of process ps) (of_thread process rs)
   in_order process ps rs h =
-      zip_by_time (IsRanOf code) ordered.begin_of (λ (r : Ran). begin_of r.told) (λ p r i. sym i.begin) (filter (λ p. p.stretch.process == process) ps) (filter (λ (r : Ran). thread_of r.told == process) rs)
-      (zip_filter (IsRanOf code) (λ p. p.stretch.process == process) (λ (r : Ran). thread_of r.told == process) (λ p r i. ap (λ (n : ℕ). n == process) (sym i.thread)) ps rs h)
+      zip_by_time (IsRanOf code) ordered.begin_of (λ (r : RanSlice). begin_of r.told) (λ p r i. sym i.begin) (filter (λ p. p.stretch.process == process) ps) (filter (λ (r : RanSlice). thread_of r.told == process) rs)
+      (zip_filter (IsRanOf code) (λ p. p.stretch.process == process) (λ (r : RanSlice). thread_of r.told == process) (λ p r i. ap (λ (n : ℕ). n == process) (sym i.thread)) ps rs h)
 
   -- What is left of a thread was joined.
-  pub record Joins (e : ThreadGround) (count : ℕ) (ps : List Piece) (rs : List Ran) : Type 0 where
-    pub js : List Joined
+  pub record Joins (e : ThreadGround) (count : ℕ) (ps : List Piece) (rs : List RanSlice) : Type 0 where
+    pub js : List JoinedSlice
     pub is : join e count rs ≡ Ok js
     pub zip : AllZip IsJoinedOf ps js
     pub rows : rows_in js ≡ rows_before ps + length ps
 
   module _ (e : ThreadGround) (same : e.code ≡ code) where
-    bridged : (count : ℕ) (p : Piece) (r : Ran) (ps : List Piece) (rs : List Ran) (i : IsRanOf code p r) → AllZip (IsRanOf code) ps rs → count < 65536 → AreLinked (p.stretch.steps ++ steps ps) → EndBefore (p.stretch.steps ++ steps ps) e.pc → bridge e count r (head_of rs) ≡ Ok (i.last ∷ [])
+    bridged : (count : ℕ) (p : Piece) (r : RanSlice) (ps : List Piece) (rs : List RanSlice) (i : IsRanOf code p r) → AllZip (IsRanOf code) ps rs → count < 65536 → AreLinked (p.stretch.steps ++ steps ps) → EndBefore (p.stretch.steps ++ steps ps) e.pc → bridge e count r (head_of rs) ≡ Ok (i.last ∷ [])
     bridged count p r [] [] i h few linked ends =
         let at : i.last.next ≡ e.pc = last_ends r.rows i.last e.pc (subst (λ (xs : List StepRow). EndBefore xs e.pc) (append-nil p.stretch.steps ∙ i.rows) ends) in
         ap (λ (c : Code). gap c (stand_at e.packets r count) (record { address = e.pc; otherwise = End r.last.at e.pc })) same
@@ -169,7 +169,7 @@ module _ (code : Code) where
         ∙ ap (λ (b : ℕ). gap code (stand_at n.told.number r count) (record { address = b; otherwise = Gap n.told.number r.last.at (address_of n.told.start) })) to
         ∙ i.cross n.told.number count (Gap n.told.number r.last.at (address_of n.told.start)) few
 
-    pub joins : (count : ℕ) (ps : List Piece) (rs : List Ran) → AllZip (IsRanOf code) ps rs → count + length ps ≤ 65536 → AreLinked (steps ps) → EndBefore (steps ps) e.pc → Joins e count ps rs
+    pub joins : (count : ℕ) (ps : List Piece) (rs : List RanSlice) → AllZip (IsRanOf code) ps rs → count + length ps ≤ 65536 → AreLinked (steps ps) → EndBefore (steps ps) e.pc → Joins e count ps rs
     joins count [] [] h few linked ends = record { js = []; is = refl; zip = tt; rows = refl }
     joins count [] (r ∷ rs) h few linked ends = absurd h
     joins count (p ∷ ps) [] h few linked ends = absurd h
@@ -177,26 +177,26 @@ module _ (code : Code) where
         let i = h.0 in
         let b = bridged count p r ps rs i h.1 (omega (arith, few)) linked ends in
         let rest = joins (count + 1) ps rs h.1 (omega (arith, few)) (linked_after p.stretch.steps (steps ps) linked) (left ps rs h.1 ends) in
-        let j : Joined = with_rows r (i.last ∷ []) in
+        let j : JoinedSlice = with_rows r (i.last ∷ []) in
         let own : IsJoinedOf p j = record { stream = i.stream; begin = i.begin; end = i.end; fits = i.fits; rows = sym i.rows } in
         let n = ap (length {A = StepRow}) i.rows in
-        let s = sum_by-cons (λ (x : Joined). length x.rows) j rest.js in
+        let s = sum_by-cons (λ (x : JoinedSlice). length x.rows) j rest.js in
         let size = rest.rows in
         record {
           js = j ∷ rest.js;
-          is = ap (λ (more : Result (List StepRow) PathFault). more >>= (λ (xs : List StepRow). join e (count + length xs) rs >>= (λ (others : List Joined). Ok (with_rows r xs ∷ others)))) b
-              ∙ ap (λ (others : Result (List Joined) PathFault). others >>= (λ (os : List Joined). Ok (with_rows r (i.last ∷ []) ∷ os))) rest.is;
+          is = ap (λ (more : Result (List StepRow) PathFault). more >>= (λ (xs : List StepRow). join e (count + length xs) rs >>= (λ (others : List JoinedSlice). Ok (with_rows r xs ∷ others)))) b
+              ∙ ap (λ (others : Result (List JoinedSlice) PathFault). others >>= (λ (os : List JoinedSlice). Ok (with_rows r (i.last ∷ []) ∷ os))) rest.is;
           zip = (own, rest.zip);
           rows = omega (arith, n, s, size, length-append r.rows (i.last ∷ []));
         }
       where
-        left : (qs : List Piece) (ns : List Ran) → AllZip (IsRanOf code) qs ns → EndBefore (p.stretch.steps ++ steps qs) e.pc → EndBefore (steps qs) e.pc
+        left : (qs : List Piece) (ns : List RanSlice) → AllZip (IsRanOf code) qs ns → EndBefore (p.stretch.steps ++ steps qs) e.pc → EndBefore (steps qs) e.pc
         left [] ns z k = tt
         left (q ∷ qs) [] z k = absurd z
         left (q ∷ qs) (m ∷ ns) z k = ends_after p.stretch.steps (q.stretch.steps ++ steps qs) e.pc (let some = has_steps q m z.0 in omega (arith, some, length-append q.stretch.steps (steps qs))) k
 
-  pub all_threads : (packets count : ℕ) (notes : List Note) (ps : List Piece) (rs : List Ran) → AllZip (IsRanOf code) ps rs → count + counted ps notes ≤ 65536 → Each (λ (n : Note). IsJoined (rows_of (pieces_of n.process ps)) n.pc) notes
-      → threads (record { code = code; packets = packets }) count notes rs ≡ Ok (map (λ (n : Note). rows_of (pieces_of n.process ps)) notes)
+  pub all_threads : (packets count : ℕ) (notes : List ThreadNote) (ps : List Piece) (rs : List RanSlice) → AllZip (IsRanOf code) ps rs → count + counted ps notes ≤ 65536 → Each (λ (n : ThreadNote). IsThreadJoined (rows_of (pieces_of n.process ps)) n.pc) notes
+      → threads (record { code = code; packets = packets }) count notes rs ≡ Ok (map (λ (n : ThreadNote). rows_of (pieces_of n.process ps)) notes)
   all_threads packets count [] ps rs h few each = refl
   all_threads packets count (n ∷ notes) ps rs h few each =
       let zip = in_order n.process ps rs h in
@@ -210,9 +210,9 @@ module _ (code : Code) where
       let steps_are = joined_steps (pieces_of n.process ps) own.js own.zip in
       let slices_are = joined_slices 0 (pieces_of n.process ps) own.js own.zip x.in_time in
       let thread_is : thread own.js ≡ rows_of (pieces_of n.process ps) = λ i. record { steps = steps_are i; slices = slices_are i } in
-      ap (λ (js : Result (List Joined) PathFault). js >>= (λ (ks : List Joined). threads (record { code = code; packets = packets }) (count + (rows_in ks - ran_rows (of_thread n.process rs))) notes rs >>= (λ (others : List ThreadRows). Ok (thread ks ∷ others)))) own.is
+      ap (λ (js : Result (List JoinedSlice) PathFault). js >>= (λ (ks : List JoinedSlice). threads (record { code = code; packets = packets }) (count + (rows_in ks - ran_rows (of_thread n.process rs))) notes rs >>= (λ (others : List ThreadRows). Ok (thread ks ∷ others)))) own.is
       ∙ ap (λ (others : Result (List ThreadRows) PathFault). others >>= (λ (os : List ThreadRows). Ok (thread own.js ∷ os))) rest
-      ∙ ap (λ (t : ThreadRows). Ok (t ∷ map (λ (m : Note). rows_of (pieces_of m.process ps)) notes)) thread_is
+      ∙ ap (λ (t : ThreadRows). Ok (t ∷ map (λ (m : ThreadNote). rows_of (pieces_of m.process ps)) notes)) thread_is
 
 -- how many rows all stretches have, thread by thread
 put_rows : (p : Piece) (ps : List Piece) → (rows_before (put ordered.begin_of p ps) ≡ walked_rows p + rows_before ps) × (length (put ordered.begin_of p ps) ≡ suc (length ps))
@@ -228,19 +228,19 @@ sorted_rows [] = refl
 sorted_rows (p ∷ ps) = let a = (put_rows p (by_time ordered.begin_of ps)).0 in let r = sorted_rows ps in omega (arith, a, r)
 
 -- rows of the threads of notes
-abbrev thread_rows : List Piece → List Note → ℕ
+abbrev thread_rows : List Piece → List ThreadNote → ℕ
 thread_rows ps [] = 0
 thread_rows ps (n ∷ notes) = rows_before (filter (λ p. p.stretch.process == n.process) ps) + thread_rows ps notes
 
 -- one stretch more: the threads of its process have its rows too
-one_more : (p : Piece) (ps : List Piece) (notes : List Note) → thread_rows ps notes ≤ thread_rows (p ∷ ps) notes
+one_more : (p : Piece) (ps : List Piece) (notes : List ThreadNote) → thread_rows ps notes ≤ thread_rows (p ∷ ps) notes
 one_more p ps [] = omega arith
 one_more p ps (n ∷ notes) = go (p.stretch.process == n.process) (one_more p ps notes) where
   go : (b : Bool) → thread_rows ps notes ≤ thread_rows (p ∷ ps) notes → rows_before (filter (λ q. q.stretch.process == n.process) ps) + thread_rows ps notes ≤ rows_before (cond b (p ∷ filter (λ q. q.stretch.process == n.process) ps) (filter (λ q. q.stretch.process == n.process) ps)) + thread_rows (p ∷ ps) notes
   go true r = omega (arith, r)
   go false r = omega (arith, r)
 
-own_more : (p : Piece) (ps : List Piece) (notes : List Note) → list_any (λ (n : Note). n.process == p.stretch.process) notes ≡ true → walked_rows p + thread_rows ps notes ≤ thread_rows (p ∷ ps) notes
+own_more : (p : Piece) (ps : List Piece) (notes : List ThreadNote) → list_any (λ (n : ThreadNote). n.process == p.stretch.process) notes ≡ true → walked_rows p + thread_rows ps notes ≤ thread_rows (p ∷ ps) notes
 own_more p ps [] h = absurd (cc)
 own_more p ps (n ∷ notes) h = go (n.process == p.stretch.process) (p.stretch.process == n.process) (same n.process p.stretch.process) h (own_more p ps notes) (one_more p ps notes) where
   same : (a b : ℕ) → (a == b) ≡ (b == a)
@@ -249,32 +249,32 @@ own_more p ps (n ∷ notes) h = go (n.process == p.stretch.process) (p.stretch.p
     | inr x ↦ elim (eqb_tells b a) [ inl y ↦ absurd (x.1 (sym y.1)) | inr y ↦ x.0 ∙ sym y.0 ]
   ]
 
-  go : (b c : Bool) → b ≡ c → (b || list_any (λ (m : Note). m.process == p.stretch.process) notes) ≡ true → (list_any (λ (m : Note). m.process == p.stretch.process) notes ≡ true → walked_rows p + thread_rows ps notes ≤ thread_rows (p ∷ ps) notes) → thread_rows ps notes ≤ thread_rows (p ∷ ps) notes
+  go : (b c : Bool) → b ≡ c → (b || list_any (λ (m : ThreadNote). m.process == p.stretch.process) notes) ≡ true → (list_any (λ (m : ThreadNote). m.process == p.stretch.process) notes ≡ true → walked_rows p + thread_rows ps notes ≤ thread_rows (p ∷ ps) notes) → thread_rows ps notes ≤ thread_rows (p ∷ ps) notes
       → walked_rows p + (rows_before (filter (λ q. q.stretch.process == n.process) ps) + thread_rows ps notes) ≤ rows_before (cond c (p ∷ filter (λ q. q.stretch.process == n.process) ps) (filter (λ q. q.stretch.process == n.process) ps)) + thread_rows (p ∷ ps) notes
   go true true e k more less = omega (arith, less)
   go true false e k more less = absurd (cc)
   go false true e k more less = absurd (cc)
   go false false e k more less = let m = more k in omega (arith, m)
 
-all_noted : (ps : List Piece) (notes : List Note) → Each (IsNoted notes) ps → rows_before ps ≤ thread_rows ps notes
+all_noted : (ps : List Piece) (notes : List ThreadNote) → Each (IsNoted notes) ps → rows_before ps ≤ thread_rows ps notes
 all_noted [] notes h = omega arith
 all_noted (p ∷ ps) notes h = let a = all_noted ps notes h.1 in let b = own_more p ps notes h.0 in omega (arith, a, b)
 
-abbrev run_rows : List Piece → List Note → ℕ
-run_rows ps notes = sum_by (λ (n : Note). length (rows_of (pieces_of n.process ps)).steps) notes
+abbrev run_rows : List Piece → List ThreadNote → ℕ
+run_rows ps notes = sum_by (λ (n : ThreadNote). length (rows_of (pieces_of n.process ps)).steps) notes
 
-threads_rows : (ps : List Piece) (notes : List Note) → Each HasSteps ps → run_rows ps notes ≡ thread_rows ps notes + counted ps notes
+threads_rows : (ps : List Piece) (notes : List ThreadNote) → Each HasSteps ps → run_rows ps notes ≡ thread_rows ps notes + counted ps notes
 threads_rows ps [] h = refl
 threads_rows ps (n ∷ notes) h =
     let own : Each HasSteps (pieces_of n.process ps) = each_by_time ordered.begin_of HasSteps (filter (λ p. p.stretch.process == n.process) ps) (each_filter HasSteps (λ p. p.stretch.process == n.process) ps h) in
     let a = all_steps (pieces_of n.process ps) own in
     let b = sorted_rows (filter (λ p. p.stretch.process == n.process) ps) in
-    let s = sum_by-cons (λ (m : Note). length (rows_of (pieces_of m.process ps)).steps) n notes in
+    let s = sum_by-cons (λ (m : ThreadNote). length (rows_of (pieces_of m.process ps)).steps) n notes in
     let r = threads_rows ps notes h in
     omega (arith, a, b, s, r)
 
 -- there is room for the rows of the walks and those of the joins
-pub rooms : (ps : List Piece) (notes : List Note) → Each HasSteps ps → Each (IsNoted notes) ps → sum_by (λ (n : Note). length (rows_of (pieces_of n.process ps)).steps) notes ≤ 65536 → rows_before ps + counted ps notes ≤ 65536
+pub rooms : (ps : List Piece) (notes : List ThreadNote) → Each HasSteps ps → Each (IsNoted notes) ps → sum_by (λ (n : ThreadNote). length (rows_of (pieces_of n.process ps)).steps) notes ≤ 65536 → rows_before ps + counted ps notes ≤ 65536
 rooms ps notes some noted few =
     let a = all_noted ps notes noted in
     let b = threads_rows ps notes some in

@@ -10,11 +10,11 @@ use Rattle.rept_path.specs.declared.fault.PathFault.TheVariants.{SliceOverlap, U
 use Rattle.rept_weave.specs.declared.stretch.Stretch.{Stretch}
 use Rattle.rept_weave.specs.Woven.{start_of, ended, end_of, AreSent}
 use Rattle.rept_slices.specs.Stamps.{clock_of, is_start}
-use Rattle.rept_slices.specs.Parts.{Left, ToldSlice, thread_of, begin_of, slices_told}
+use Rattle.rept_slices.specs.Parts.{LeftPackets, ToldSlice, thread_of, begin_of, slices_told}
 use Rattle.rept_slices.specs.Order.{end_of as end_at, meets, least, lasts_past}
 use Rattle.rept_slices.specs.Skipping.{numbered, whole, skip, window_of, windows, opening, greatest, full_from, from_time, kept, skipped, ends_of, dark}
 use Rattle.rept_slices.specs.Checks.{first_fault, time_back, startless, all_idle, stranger, while_other, check}
-use Rattle.rept_slices.specs.Joins.{Note}
+use Rattle.rept_slices.specs.Joins.{ThreadNote}
 use Rattle.rept_slices.specs.Many.{overlap_fault}
 use Rattle.rept_slices.proofs.InTime.{Each}
 use Rattle.rept_slices.proofs.Calm.{each_append}
@@ -30,7 +30,7 @@ pub no_fault : {A : Type 0} (check : A → Option PathFault) (xs : List A) → E
 no_fault check [] h = refl
 no_fault check (x ∷ xs) h = fault_on check x xs h.0 ∙ no_fault check xs h.1
 
-unmoved : (l : Left) (n : ℕ) → n ≡ 0 → skip n l ≡ l
+unmoved : (l : LeftPackets) (n : ℕ) → n ≡ 0 → skip n l ≡ l
 unmoved l n e =
     ap (λ (m : ℕ). skip m l) e ∙ ap (λ (m : ℕ). record { stream = l.stream; number = m; packets = l.packets }) (let z : l.number + 0 ≡ l.number = omega arith in z)
 
@@ -91,7 +91,7 @@ module _ (halves : Bool) (time : ℕ) where
   windows_from [] (ps ∷ lists) s k h = absurd h
   windows_from (hart ∷ harts) [] s k h = absurd h
   windows_from (hart ∷ harts) (ps ∷ lists) s k h =
-      let l : Left = record { stream = s; number = k; packets = ps } in
+      let l : LeftPackets = record { stream = s; number = k; packets = ps } in
       let a : skip (unwrap_or (window_of 0 ps) 0) l ≡ l = unmoved l (unwrap_or (window_of 0 ps) 0) (first_window hart ps h.0) in
       let b = windows_from harts lists (suc s) (k + length ps) h.1 in
       λ i. a i ∷ b i
@@ -114,13 +114,13 @@ module _ (halves : Bool) (time : ℕ) where
   kept_from [] (ps ∷ lists) s k h st = absurd h
   kept_from (hart ∷ harts) [] s k h st = absurd h
   kept_from ([] ∷ harts) (ps ∷ lists) s k h st =
-      let l : Left = record { stream = s; number = k; packets = ps } in
+      let l : LeftPackets = record { stream = s; number = k; packets = ps } in
       let none : before ps ≡ 0 = ap (λ (qs : List Packet). before qs) h.0 in
       let a : from_time time l ≡ l = unmoved l (before ps) none in
       let b = kept_from harts lists (suc s) (k + length ps) h.1 st in
       λ i. a i ∷ b i
   kept_from ((x ∷ xs) ∷ harts) (ps ∷ lists) s k h st =
-      let l : Left = record { stream = s; number = k; packets = ps } in
+      let l : LeftPackets = record { stream = s; number = k; packets = ps } in
       let a : from_time time l ≡ l = unmoved l (before ps) (none_before x xs ps h.0 st.0) in
       let b = kept_from harts lists (suc s) (k + length ps) h.1 st.1 in
       λ i. a i ∷ b i
@@ -155,16 +155,16 @@ module _ (halves : Bool) (time : ℕ) where
   some_stream ((x ∷ xs) ∷ harts) (ps ∷ lists) h some = ap (λ (qs : List Packet). all_idle (qs ∷ lists)) (starts_at x xs ps h.0).2
 
   -- the threads of all slices
-  one_known : (notes : List Note) (p : Piece) (t : ToldSlice) → IsPieceOf halves p t → IsNoted notes p → stranger (map (λ (n : Note). n.process) notes) t ≡ None
+  one_known : (notes : List ThreadNote) (p : Piece) (t : ToldSlice) → IsPieceOf halves p t → IsNoted notes p → stranger (map (λ (n : ThreadNote). n.process) notes) t ≡ None
   one_known notes p t i noted =
-      let known : list_any (λ thread. thread == thread_of t) (map (λ (n : Note). n.process) notes) ≡ true = any_map notes ∙ ap (λ (n : ℕ). list_any (λ (m : Note). m.process == n) notes) (thread_is halves p t i) ∙ noted in
+      let known : list_any (λ thread. thread == thread_of t) (map (λ (n : ThreadNote). n.process) notes) ≡ true = any_map notes ∙ ap (λ (n : ℕ). list_any (λ (m : ThreadNote). m.process == n) notes) (thread_is halves p t i) ∙ noted in
       ap (λ (b : Bool). cond b (while_other t t.inside) (Some (UnknownThread t.number (thread_of t)))) known ∙ ap (λ (o : Option ℕ). while_other t o) i.waits
     where
-      any_map : (ns : List Note) → list_any (λ thread. thread == thread_of t) (map (λ (n : Note). n.process) ns) ≡ list_any (λ (n : Note). n.process == thread_of t) ns
+      any_map : (ns : List ThreadNote) → list_any (λ thread. thread == thread_of t) (map (λ (n : ThreadNote). n.process) ns) ≡ list_any (λ (n : ThreadNote). n.process == thread_of t) ns
       any_map [] = refl
       any_map (n ∷ ns) = ap (λ (b : Bool). (n.process == thread_of t) || b) (any_map ns)
 
-  all_known : (notes : List Note) (ps : List Piece) (ts : List ToldSlice) → AllZip (IsPieceOf halves) ps ts → Each (IsNoted notes) ps → Each (λ t. stranger (map (λ (n : Note). n.process) notes) t ≡ None) ts
+  all_known : (notes : List ThreadNote) (ps : List Piece) (ts : List ToldSlice) → AllZip (IsPieceOf halves) ps ts → Each (IsNoted notes) ps → Each (λ t. stranger (map (λ (n : ThreadNote). n.process) notes) t ≡ None) ts
   all_known notes [] [] h n = tt
   all_known notes [] (t ∷ ts) h n = absurd h
   all_known notes (p ∷ ps) [] h n = absurd h
@@ -240,12 +240,12 @@ module _ (halves : Bool) (time : ℕ) where
     | inr x ↦ absurd (let lt = x.1 in omega (arith, lt))
   ]
 
-  sizes : (lists : List (List Packet)) (s k : ℕ) → sum_by (λ (l : Left). length l.packets) (numbered s k lists) ≡ sum_by (λ (ps : List Packet). length ps) lists
+  sizes : (lists : List (List Packet)) (s k : ℕ) → sum_by (λ (l : LeftPackets). length l.packets) (numbered s k lists) ≡ sum_by (λ (ps : List Packet). length ps) lists
   sizes [] s k = refl
   sizes (ps ∷ lists) s k =
-      let l : Left = record { stream = s; number = k; packets = ps } in
+      let l : LeftPackets = record { stream = s; number = k; packets = ps } in
       let r = sizes lists (suc s) (k + length ps) in
-      let a = sum_by-cons (λ (m : Left). length m.packets) l (numbered (suc s) (k + length ps) lists) in
+      let a = sum_by-cons (λ (m : LeftPackets). length m.packets) l (numbered (suc s) (k + length ps) lists) in
       let b = sum_by-cons (λ (qs : List Packet). length qs) ps lists in
       a ∙ ap (λ (n : ℕ). length ps + n) r ∙ sym b
 
@@ -258,14 +258,14 @@ module _ (halves : Bool) (time : ℕ) where
 
     pub kept_is : kept 0 lists ≡ numbered 0 0 lists
     kept_is =
-        ap (λ (ls : List Left). map (from_time (full_from ls)) ls) windows_are
+        ap (λ (ls : List LeftPackets). map (from_time (full_from ls)) ls) windows_are
         ∙ ap (λ (n : ℕ). map (from_time n) (numbered 0 0 lists)) full_is
         ∙ kept_from harts lists 0 0 sent starts
 
     pub none_skipped : skipped 0 lists ≡ 0
     none_skipped =
         let n : ℕ = sum_by (λ (ps : List Packet). length ps) lists in
-        ap (λ (ls : List Left). sum_by (λ (ps : List Packet). length ps) lists - sum_by (λ (l : Left). length l.packets) ls) kept_is
+        ap (λ (ls : List LeftPackets). sum_by (λ (ps : List Packet). length ps) lists - sum_by (λ (l : LeftPackets). length l.packets) ls) kept_is
         ∙ ap (λ (m : ℕ). sum_by (λ (ps : List Packet). length ps) lists - m) (sizes lists 0 0)
         ∙ (let z : sum_by (λ (ps : List Packet). length ps) lists - sum_by (λ (ps : List Packet). length ps) lists ≡ 0 = omega arith in z)
 
@@ -275,19 +275,19 @@ module _ (halves : Bool) (time : ℕ) where
         let none : ends_of time (slices_told (numbered 0 0 lists)) ≡ [] = ap (map (end_at (slices_told (numbered 0 0 lists)))) (none_early time (slices_told (numbered 0 0 lists)) (told_late (pieces_from 0 harts) (slices_told (numbered 0 0 lists)) zip late)) in
         let opened = opens harts lists 0 0 sent in
         let a : dark 0 lists ≡ cond (nat_lt 1 (length (filter_map opening (numbered 0 0 lists)))) (Some (greatest (full_from (numbered 0 0 lists) ∷ ends_of (full_from (numbered 0 0 lists)) (slices_told (numbered 0 0 lists))))) None =
-        ap (λ (ws : List Left). cond (nat_lt 1 (length (filter_map opening ws))) (Some (greatest (full_from ws ∷ ends_of (full_from ws) (slices_told ws)))) None) windows_are in
+        ap (λ (ws : List LeftPackets). cond (nat_lt 1 (length (filter_map opening ws))) (Some (greatest (full_from ws ∷ ends_of (full_from ws) (slices_told ws)))) None) windows_are in
         let b : cond (nat_lt 1 (length (filter_map opening (numbered 0 0 lists)))) (Some (greatest (full_from (numbered 0 0 lists) ∷ ends_of (full_from (numbered 0 0 lists)) (slices_told (numbered 0 0 lists))))) None ≡ cond (nat_lt 1 (length (begins harts))) (Some (greatest (time ∷ ends_of time (slices_told (numbered 0 0 lists))))) None =
         λ n. cond (nat_lt 1 (length (opened n))) (Some (greatest (full_is n ∷ ends_of (full_is n) (slices_told (numbered 0 0 lists))))) None in
         a ∙ b ∙ ap (λ (ns : List ℕ). cond (nat_lt 1 (length (begins harts))) (Some (greatest (time ∷ ns))) None) none ∙ told_dark (begins harts) starts
 
-    pub passes : (notes : List Note) → Each (AreInTime 0) harts → Each (IsNoted notes) (pieces_from 0 harts) → AllZip (IsPieceOf halves) (pieces_from 0 harts) (slices_told (numbered 0 0 lists)) → check 0 (map (λ (n : Note). n.process) notes) lists ≡ None
+    pub passes : (notes : List ThreadNote) → Each (AreInTime 0) harts → Each (IsNoted notes) (pieces_from 0 harts) → AllZip (IsPieceOf halves) (pieces_from 0 harts) (slices_told (numbered 0 0 lists)) → check 0 (map (λ (n : ThreadNote). n.process) notes) lists ≡ None
     passes notes times noted zip =
-        let processes : List ℕ = map (λ (n : Note). n.process) notes in
+        let processes : List ℕ = map (λ (n : ThreadNote). n.process) notes in
         let a : first_fault time_back (whole lists) ≡ None = no_fault time_back (numbered 0 0 lists) (times_pass harts lists 0 0 sent times) in
         let b : first_fault (startless 0) (whole lists) ≡ None = no_fault (startless 0) (numbered 0 0 lists) (all_start harts lists 0 0 sent) in
         let c : all_idle lists ≡ None = some_stream harts lists sent some in
-        let d : first_fault (stranger (map (λ (n : Note). n.process) notes)) (slices_told (kept 0 lists)) ≡ None =
-        ap (λ (ls : List Left). first_fault (stranger (map (λ (n : Note). n.process) notes)) (slices_told ls)) kept_is ∙ no_fault (stranger (map (λ (n : Note). n.process) notes)) (slices_told (numbered 0 0 lists)) (all_known notes (pieces_from 0 harts) (slices_told (numbered 0 0 lists)) zip noted) in
+        let d : first_fault (stranger (map (λ (n : ThreadNote). n.process) notes)) (slices_told (kept 0 lists)) ≡ None =
+        ap (λ (ls : List LeftPackets). first_fault (stranger (map (λ (n : ThreadNote). n.process) notes)) (slices_told ls)) kept_is ∙ no_fault (stranger (map (λ (n : ThreadNote). n.process) notes)) (slices_told (numbered 0 0 lists)) (all_known notes (pieces_from 0 harts) (slices_told (numbered 0 0 lists)) zip noted) in
         λ i. first_fault (λ found. found) (a i ∷ b i ∷ c i ∷ d i ∷ [])
 
 -- No stretch begins before the time.

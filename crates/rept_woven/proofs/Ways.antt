@@ -16,7 +16,7 @@ use Rattle.rept_encode.specs.Encoded.{coded, LeadsOver}
 use Rattle.rept_weave.specs.Woven.{ended, end_of}
 use Rattle.rept_slices.specs.Stamps.{address_of}
 use Rattle.rept_slices.specs.Parts.{ToldSlice, thread_of, begin_of, inner, beyond, first_time}
-use Rattle.rept_slices.specs.Stretches.{same_stretch, stretch, heads, Walked, last_place, count_of, origin_after, Walks, Ran, within, rows_of, ran_by, ran_in, ran}
+use Rattle.rept_slices.specs.Stretches.{same_stretch, stretch, heads, StretchLegs, last_place, count_of, origin_after, Walks, RanSlice, within, rows_of, ran_by, ran_in, ran}
 use Rattle.rept_slices.specs.Joins.{stand_at}
 use Rattle.rept_slices.proofs.InTime.{Each}
 use Rattle.rept_slices.proofs.Whether.{Started}
@@ -38,13 +38,13 @@ rows_before [] = 0
 rows_before (p ∷ ps) = walked_rows p + rows_before ps
 
 -- The walk is one along the packets of a stretch.
-pub record IsWay (halves : Bool) (contents : Contents) (p : Piece) (w : Walked) : Type 0 where
+pub record IsWay (halves : Bool) (contents : Contents) (p : Piece) (w : StretchLegs) : Type 0 where
   pub is : IsPieceOf halves p w.head
   pub leads : LeadsOver (coded halves contents) (reverse (stretch w.head)) p.stretch.steps
   pub legs : w.legs ≡ leads.legs
 
 -- The slice that was walked is that of a stretch: its rows are all but the last one, and from where it ended a gap leads over that one.
-pub record IsRanOf (code : Code) (p : Piece) (r : Ran) : Type 0 where
+pub record IsRanOf (code : Code) (p : Piece) (r : RanSlice) : Type 0 where
   pub stream : r.told.stream ≡ p.hart
   pub thread : thread_of r.told ≡ p.stretch.process
   pub begin : begin_of r.told ≡ p.stretch.begin
@@ -71,7 +71,7 @@ module _ (halves : Bool) (contents : Contents) where
   leads_of : (p : Piece) (t : ToldSlice) → IsPieceOf halves p t → Carried p → LeadsOver (coded halves contents) (reverse (stretch t)) p.stretch.steps
   leads_of p t i carried = subst (λ (ps : List Packet). LeadsOver (coded halves contents) (reverse ps) p.stretch.steps) (sym (packets_are halves p t i)) (i.sent.leads contents carried)
 
-  module _ (p : Piece) (w : Walked) (way : IsWay halves contents p w) where
+  module _ (p : Piece) (w : StretchLegs) (way : IsWay halves contents p w) where
     all_but_last : p.stretch.steps ≡ reverse (last_place code w).rows ++ way.leads.last ∷ []
     all_but_last =
         way.leads.all ∙ back_to_front way.leads.last (place code (reverse (stretch w.head)) way.leads.legs).rows
@@ -119,13 +119,13 @@ module _ (halves : Bool) (contents : Contents) where
     }
 
   -- All stretches are walked, one after the other.
-  pub ways : (ps : List Piece) (ts : List ToldSlice) (count : ℕ) → AllZip (IsPieceOf halves) ps ts → Each Carried ps → count + rows_before ps ≤ 65536 → (ws : List Walked) × Walks code count ts ws × AllZip (IsWay halves contents) ps ws
+  pub ways : (ps : List Piece) (ts : List ToldSlice) (count : ℕ) → AllZip (IsPieceOf halves) ps ts → Each Carried ps → count + rows_before ps ≤ 65536 → (ws : List StretchLegs) × Walks code count ts ws × AllZip (IsWay halves contents) ps ws
   ways [] [] count h carried few = ([], refl, tt)
   ways [] (t ∷ ts) count h carried few = absurd h
   ways (p ∷ ps) [] count h carried few = absurd h
   ways (p ∷ ps) (t ∷ ts) count h carried few =
       let l = leads_of p t h.0 carried.0 in
-      let w : Walked = record { head = t; legs = l.legs } in
+      let w : StretchLegs = record { head = t; legs = l.legs } in
       let way : IsWay halves contents p w = record { is = h.0; leads = l; legs = refl } in
       let size : count_of code w ≡ walked_rows p = count_is p w way in
       let rest = ways ps ts (count + count_of code w) h.1 carried.1 (omega (arith, few, size)) in
@@ -145,9 +145,9 @@ module _ (halves : Bool) (contents : Contents) where
   head_waits (p ∷ ps) (t ∷ ts) h = h.0.waits
 
   -- each slice is all of its stretch
-  pub all_ran : (ts before later : List ToldSlice) (count : ℕ) (ps : List Piece) (ws : List Walked) → ts ≡ before ++ later → Each Started (before ++ later) → Following (before ++ later)
+  pub all_ran : (ts before later : List ToldSlice) (count : ℕ) (ps : List Piece) (ws : List StretchLegs) → ts ≡ before ++ later → Each Started (before ++ later) → Following (before ++ later)
       → AllZip (IsPieceOf halves) ps later → Walks code count later ws → AllZip (IsWay halves contents) ps ws → AllZip (IsRanOf code) ps (ran code ts ws)
-  all_ran ts before [] count [] ws e s f h a y = subst (λ (vs : List Walked). AllZip (IsRanOf code) [] (ran code ts vs)) (sym a) tt
+  all_ran ts before [] count [] ws e s f h a y = subst (λ (vs : List StretchLegs). AllZip (IsRanOf code) [] (ran code ts vs)) (sym a) tt
   all_ran ts before [] count (p ∷ ps) ws e s f h a y = absurd h
   all_ran ts before (t ∷ later) count [] ws e s f h a y = absurd h
   all_ran ts before (t ∷ later) count (p ∷ ps) [] e s f h a y = absurd a
@@ -162,4 +162,4 @@ module _ (halves : Bool) (contents : Contents) where
       let alone_in : filter (within w) ts ≡ w.head ∷ [] = own ∙ ap (λ (us : List ToldSlice). t ∷ us) (none_inner later (head_waits ps later h.1)) ∙ ap (λ (u : ToldSlice). u ∷ []) (sym a.0) in
       let here : ran_in code ts w ≡ ran_by code w w.head ∷ [] = ap (map (ran_by code w)) alone_in in
       let is : IsRanOf code p (ran_by code w w.head) = ran_is p w y.0 (subst Started (sym a.0) starts) in
-      subst (λ (rs : List Ran). AllZip (IsRanOf code) (p ∷ ps) (rs ++ ran code ts ws)) (sym here) (is, rest)
+      subst (λ (rs : List RanSlice). AllZip (IsRanOf code) (p ∷ ps) (rs ++ ran code ts ws)) (sym here) (is, rest)

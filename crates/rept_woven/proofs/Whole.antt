@@ -25,18 +25,18 @@ use Rattle.rept_path.specs.Rows.{CarryCode}
 use Rattle.rept_encode.specs.Encoded.{coded}
 use Rattle.rept_weave.specs.declared.stretch.Stretch.{Stretch}
 use Rattle.rept_weave.specs.Woven.{AreSent, AreStreamsOf, IsWoven}
-use Rattle.rept_slices.specs.Parts.{Left, ToldSlice, slices_told}
+use Rattle.rept_slices.specs.Parts.{LeftPackets, ToldSlice, slices_told}
 use Rattle.rept_slices.specs.Skipping.{numbered, kept}
 use Rattle.rept_slices.specs.Checks.{first_fault}
-use Rattle.rept_slices.specs.Stretches.{heads, Walked, Walks, Ran, ran}
-use Rattle.rept_slices.specs.Joins.{Note, ran_rows, threads}
+use Rattle.rept_slices.specs.Stretches.{heads, StretchLegs, Walks, RanSlice, ran}
+use Rattle.rept_slices.specs.Joins.{ThreadNote, ran_rows, threads}
 use Rattle.rept_slices.specs.Many.{Traces, ground, overlap_fault, unmet, run_by, IsRunOfStreams}
-use Rattle.rept_slices.specs.Raw.{HoldEach, Files, traces, IsRunOf, note_in, files_of}
+use Rattle.rept_slices.specs.Raw.{HoldEach, RawFiles, traces, IsRunOfFiles, note_in, files_of}
 use Rattle.rept_slices.proofs.InTime.{Each}
 use Rattle.rept_slices.proofs.Whether.{starts_told}
 use Rattle.rept_slices.proofs.Following.{kept_follow}
 use Rattle.rept_woven.specs.Told.{AreInTime}
-use Rattle.rept_woven.specs.Ordered.{Piece, pieces, begins, thread_in, run_of_harts, IsJoined, IsNoted, AreApart, AreOrdered, HasStretches}
+use Rattle.rept_woven.specs.Ordered.{Piece, pieces, begins, thread_in, run_of_harts, IsThreadJoined, IsNoted, AreApart, AreOrdered, HasStretches}
 use Rattle.rept_woven.proofs.Zipped.{each_of, zip_each}
 use Rattle.rept_woven.proofs.Sliced.{Fits, IsPieceOf, all_slices}
 use Rattle.rept_woven.proofs.Ways.{IsRanOf, rows_before, ways, all_heads, all_ran}
@@ -92,10 +92,10 @@ each_all R ps [] h = tt
 each_all R ps (q ∷ qs) h = (each_of (R q) ps (All-head (λ (x : Piece). All (R x) ps) q qs h), each_all R ps qs (All-tail (λ (x : Piece). All (R x) ps) q qs h))
 
 -- what a file of streams holds over the code and the notes of a program
-abbrev pub files : Contents → StreamFile → List Note → Files
+abbrev pub files : Contents → StreamFile → List ThreadNote → RawFiles
 files program file notes = record { contents = program; file = file; notes = notes; from = 0 }
 
-module _ (program : Contents) (file : StreamFile) (notes : List Note) (harts : List (List Stretch)) (carries : HasStretches (coded file.halves program) harts) (o : AreOrdered harts notes) where
+module _ (program : Contents) (file : StreamFile) (notes : List ThreadNote) (harts : List (List Stretch)) (carries : HasStretches (coded file.halves program) harts) (o : AreOrdered harts notes) where
   module _ (lists : List (List Packet)) (sent : AllZip (AreSent file.halves) harts lists) (fit : Each (Each Fits) lists) where
     starts : Each (λ n. n ≡ o.time) (begins harts)
     starts = each_of (λ n. n ≡ o.time) (begins harts) o.together
@@ -113,7 +113,7 @@ module _ (program : Contents) (file : StreamFile) (notes : List Note) (harts : L
     zip_whole = all_slices file.halves harts lists 0 0 sent fit
 
     zip : AllZip (IsPieceOf file.halves) (pieces harts) (slices_told (kept 0 lists))
-    zip = subst (λ (ls : List Left). AllZip (IsPieceOf file.halves) (pieces harts) (slices_told ls)) (sym kept_whole) zip_whole
+    zip = subst (λ (ls : List LeftPackets). AllZip (IsPieceOf file.halves) (pieces harts) (slices_told ls)) (sym kept_whole) zip_whole
 
     carried : Each (λ (p : Piece). CarryCode (coded file.halves program) p.stretch.steps) (pieces harts)
     carried = each_of (λ (p : Piece). CarryCode (coded file.halves program) p.stretch.steps) (pieces harts) carries
@@ -122,7 +122,7 @@ module _ (program : Contents) (file : StreamFile) (notes : List Note) (harts : L
     room = rooms (pieces harts) notes (zip_each (IsPieceOf file.halves) HasSteps (has_steps file.halves) (pieces harts) (slices_told (kept 0 lists)) zip) noted o.few
 
     -- the slices of the walks
-    walked : (ws : List Walked) × Walks (coded file.halves program) 0 (heads (slices_told (kept 0 lists))) ws × AllZip (IsRanOf (coded file.halves program)) (pieces harts) (ran (coded file.halves program) (slices_told (kept 0 lists)) ws)
+    walked : (ws : List StretchLegs) × Walks (coded file.halves program) 0 (heads (slices_told (kept 0 lists))) ws × AllZip (IsRanOf (coded file.halves program)) (pieces harts) (ran (coded file.halves program) (slices_told (kept 0 lists)) ws)
     walked =
         let few = room in
         let w = ways file.halves program (pieces harts) (slices_told (kept 0 lists)) 0 zip carried (omega (arith, few)) in
@@ -132,13 +132,13 @@ module _ (program : Contents) (file : StreamFile) (notes : List Note) (harts : L
           all_ran file.halves program (slices_told (kept 0 lists)) [] (slices_told (kept 0 lists)) 0 (pieces harts) w.0 refl (starts_told (kept 0 lists)) (kept_follow 0 lists) zip w.1 w.2,
         )
 
-    none_overlaps : first_fault (overlap_fault (slices_told (kept 0 lists))) (map (λ (n : Note). n.process) notes) ≡ None
-    none_overlaps = none_overlap file.halves o.time (pieces harts) (slices_told (kept 0 lists)) zip (each_all AreApart (pieces harts) (pieces harts) o.apart) (map (λ (n : Note). n.process) notes)
+    none_overlaps : first_fault (overlap_fault (slices_told (kept 0 lists))) (map (λ (n : ThreadNote). n.process) notes) ≡ None
+    none_overlaps = none_overlap file.halves o.time (pieces harts) (slices_told (kept 0 lists)) zip (each_all AreApart (pieces harts) (pieces harts) o.apart) (map (λ (n : ThreadNote). n.process) notes)
 
     abbrev own : Traces
     own = traces (files program file notes) lists
 
-    abbrev rs : List Ran
+    abbrev rs : List RanSlice
     rs = ran (coded file.halves program) (slices_told (kept 0 lists)) walked.0
 
     all_joined : threads (ground own) (ran_rows rs) notes rs ≡ Ok (map (thread_in harts) notes)
@@ -146,7 +146,7 @@ module _ (program : Contents) (file : StreamFile) (notes : List Note) (harts : L
         let few = room in
         let zipped = walked.2 in
         let rows = ran_are (coded file.halves program) (pieces harts) rs walked.2 in
-        all_threads (coded file.halves program) (sum_by (λ packets. length packets) lists) (ran_rows rs) notes (pieces harts) rs walked.2 (omega (arith, few, rows)) (each_of (λ (n : Note). IsJoined (thread_in harts n) n.pc) notes o.joined)
+        all_threads (coded file.halves program) (sum_by (λ packets. length packets) lists) (ran_rows rs) notes (pieces harts) rs walked.2 (omega (arith, few, rows)) (each_of (λ (n : ThreadNote). IsThreadJoined (thread_in harts n) n.pc) notes o.joined)
 
     run_is : run_by own (map (thread_in harts) notes) ≡ run_of_harts harts notes
     run_is =
@@ -165,16 +165,16 @@ module _ (program : Contents) (file : StreamFile) (notes : List Note) (harts : L
           ∙ ap (λ (run : Run). Ok run) run_is;
     }
 
-  pub whole_run : AreStreamsOf file.halves harts file.streams → IsRunOf (files program file notes) (run_of_harts harts notes)
+  pub whole_run : AreStreamsOf file.halves harts file.streams → IsRunOfFiles (files program file notes) (run_of_harts harts notes)
   whole_run streams = let all = held file.halves harts file.streams streams in (all.lists, all.hold, is_run all.lists all.sent all.fit)
 
 -- the files of a dump
 pub rebuilt : (dump : Dump) (file : StreamFile) (descs : List (List ℕ)) (halves : Bool) (harts : List (List Stretch)) (trace : List ℕ) (w : IsWoven halves harts trace) → ◌≡◌ {A = Result StreamFile TraceFault} (Ok file) (Ok (record { halves = halves; streams = w.streams })) → HasStretches (coded halves (contents (exe_of dump))) harts → AreOrdered harts (map note_in descs)
-    → IsRunOf (files_of dump file descs 0) (run_of_harts harts (map note_in descs))
+    → IsRunOfFiles (files_of dump file descs 0) (run_of_harts harts (map note_in descs))
 rebuilt dump file descs halves harts trace w same carries o =
     let all : StreamFile = record { halves = halves; streams = w.streams } in
     let is : file ≡ all = cc in
-    subst (λ (f : StreamFile). IsRunOf (files_of dump f descs 0) (run_of_harts harts (map note_in descs))) (sym is) (whole_run (contents (exe_of dump)) all (map note_in descs) harts carries o w.each)
+    subst (λ (f : StreamFile). IsRunOfFiles (files_of dump f descs 0) (run_of_harts harts (map note_in descs))) (sym is) (whole_run (contents (exe_of dump)) all (map note_in descs) harts carries o w.each)
 
 -- one clause of a result from its two
 pub either_way : {A E : Type 0} (P : A → Type 0) (Q : E → Type 0) (r : Result A E) → IfOk r P → IfErr r Q → MatchResult r P Q

@@ -8,7 +8,7 @@ use Rattle.rept_steps.specs.Course.{KeepTime}
 use Rattle.rept_steps.specs.Linked.{AreLinked, EndBefore}
 use Rattle.rept_path.specs.Code.{Code}
 use Rattle.rept_path.specs.Rows.{CarryCode}
-use Rattle.rept_slices.specs.Joins.{Note}
+use Rattle.rept_slices.specs.Joins.{ThreadNote}
 use Rattle.rept_slices.specs.Order.{by_time}
 use Rattle.rept_weave.specs.declared.stretch.Stretch.{Stretch}
 use Rattle.rept_woven.specs.Told.{AreInTime}
@@ -48,7 +48,7 @@ slices_from first (p ∷ ps) = slice_of first p ∷ slices_from (first + length 
 abbrev pub thread_of : List Piece → ThreadRows
 thread_of ps = record { steps = flat_map (λ (p : Piece). p.stretch.steps) ps; slices = slices_from 0 ps }
 
-abbrev pub thread_in : List (List Stretch) → Note → ThreadRows
+abbrev pub thread_in : List (List Stretch) → ThreadNote → ThreadRows
 thread_in harts note = thread_of (of_thread note.process (pieces harts))
 
 -- when the harts began that did something
@@ -64,25 +64,25 @@ dark_of (time ∷ []) = None
 dark_of (time ∷ (other ∷ times)) = Some time
 
 -- The run of the harts: the threads of the notes, in their order. No packet is skipped.
-abbrev pub run_of_harts : List (List Stretch) → List Note → Run
+abbrev pub run_of_harts : List (List Stretch) → List ThreadNote → Run
 run_of_harts harts notes = record { threads = map (thread_in harts) notes; dark = dark_of (begins harts); skipped = 0 }
 
 -- A thread's steps follow one another up to where it stopped, and so do its slices in time.
-pub record IsJoined (t : ThreadRows) (pc : ℕ) : Type 0 where
+pub record IsThreadJoined (t : ThreadRows) (pc : ℕ) : Type 0 where
   pub linked : AreLinked t.steps
   pub ends : EndBefore t.steps pc
   pub in_time : KeepTime t.slices
 
 -- The thread has a note.
-abbrev pub IsNoted : List Note → Piece → Type 0
-IsNoted notes p = list_any (λ (n : Note). n.process == p.stretch.process) notes ≡ true
+abbrev pub IsNoted : List ThreadNote → Piece → Type 0
+IsNoted notes p = list_any (λ (n : ThreadNote). n.process == p.stretch.process) notes ≡ true
 
 -- Two stretches of one thread that begin at one time are of one hart.
 abbrev pub AreApart : Piece → Piece → Type 0
 AreApart p q = p.stretch.process ≡ q.stretch.process → p.stretch.begin ≡ q.stretch.begin → p.hart ≡ q.hart
 
 -- What is asked of harts and the notes of threads, so that a trace tells all of the run.
-pub record AreOrdered (harts : List (List Stretch)) (notes : List Note) : Type 0 where
+pub record AreOrdered (harts : List (List Stretch)) (notes : List ThreadNote) : Type 0 where
   -- The stretches of each hart follow one another in time.
   pub in_time : All (AreInTime 0) harts
   -- Some hart did something, and all that did began at one time.
@@ -93,9 +93,9 @@ pub record AreOrdered (harts : List (List Stretch)) (notes : List Note) : Type 0
   pub apart : All (λ p. All (AreApart p) (pieces harts)) (pieces harts)
   pub noted : All (IsNoted notes) (pieces harts)
   -- Each thread goes on from stretch to stretch, up to the program counter of its note.
-  pub joined : All (λ (n : Note). IsJoined (thread_in harts n) n.pc) notes
+  pub joined : All (λ (n : ThreadNote). IsThreadJoined (thread_in harts n) n.pc) notes
   -- All threads together have no more steps than a run can have.
-  pub few : sum_by (λ (n : Note). length (thread_in harts n).steps) notes ≤ 65536
+  pub few : sum_by (λ (n : ThreadNote). length (thread_in harts n).steps) notes ≤ 65536
 
 -- The code has the instructions of all stretches.
 abbrev pub HasStretches : Code → List (List Stretch) → Type 0

@@ -1,7 +1,7 @@
 -- What the slices are that a written stream tells. This project's own.
 use Rattle.std.specs.Prelude.{⊤, ◌≡◌, ℕ, ◌≤◌, Bool, List, [], ◌∷◌, Some, None}
 use Rattle.rept_weave.specs.declared.stretch.Stretch.{Stretch}
-use Rattle.rept_weave.specs.Woven.{IsSent}
+use Rattle.rept_weave.specs.Woven.{IsStretchSent}
 use Rattle.rept_slices.specs.Parts.{ToldSlice, thread_of, begin_of, beyond, first_time}
 use Rattle.rept_slices.specs.Stretches.{stretch}
 
@@ -13,7 +13,7 @@ pub record IsSliceOf (halves : Bool) (s : ℕ) (x : Stretch) (t : ToldSlice) : T
   pub begin : begin_of t ≡ x.begin
   pub waits : t.inside ≡ None
   pub end : first_time (beyond t) ≡ Some x.end
-  pub packets : IsSent halves x (stretch t)
+  pub packets : IsStretchSent halves x (stretch t)
 
 -- one slice for each stretch, in order
 abbrev pub AreSlicesOf : Bool → ℕ → List Stretch → List ToldSlice → Type 0

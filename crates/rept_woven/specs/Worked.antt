@@ -6,7 +6,7 @@ use Rattle.rept_isa.specs.declared.row.StepRow.{StepRow}
 use Rattle.rept_steps.specs.declared.run.Run.{Run}
 use Rattle.rept_steps.specs.declared.slice.Slice.{Slice}
 use Rattle.rept_dump.specs.Memory.{Contents}
-use Rattle.rept_slices.specs.Joins.{Note}
+use Rattle.rept_slices.specs.Joins.{ThreadNote}
 use Rattle.rept_weave.specs.declared.stretch.Stretch.{Stretch}
 
 -- The code stands at 65536: two instructions that do nothing, a jump to where x6 points, a call, and one that does nothing.
@@ -40,7 +40,7 @@ harts =
     ∷ []
 
 -- where the threads stopped
-abbrev pub notes : List Note
+abbrev pub notes : List ThreadNote
 notes = record { process = 1; pc = 65540 } ∷ record { process = 2; pc = 65556 } ∷ []
 
 -- the rows of a slice: the number of its first one, and how many it has

@@ -11,8 +11,8 @@ ghost use Rattle.rept_dump.specs.Memory.{Contents};
 ghost use Rattle.rept_trace.specs.Streams.{StreamFile};
 ghost use Rattle.rept_encode.specs.Encoded.{coded};
 ghost use Rattle.rept_weave.specs.Woven.{AreStreamsOf};
-ghost use Rattle.rept_slices.specs.Joins.{Note};
-ghost use Rattle.rept_slices.specs.Raw.{IsRunOf};
+ghost use Rattle.rept_slices.specs.Joins.{ThreadNote};
+ghost use Rattle.rept_slices.specs.Raw.{IsRunOfFiles};
 ghost use Rattle.rept_woven.specs.Told.{AreSlicesOf, AreInTime};
 ghost use Rattle.rept_woven.specs.Ordered.{run_of_harts, AreOrdered, HasStretches};
 ghost use Rattle.rept_woven.specs.Worked as worked;
@@ -35,7 +35,7 @@ pub fn times_rise()
 /// A file each stream of which was written of the stretches of a hart tells the run of all harts: the rows and the slices of each thread, until when nothing is told, and that no packet is skipped. The code has
 /// the instructions of the stretches, and stretches and the notes of the threads are in order.
 pub fn runs_are_whole()
-    ensures { (contents : Contents) (file : StreamFile) (notes : List Note) (harts : List (List Stretch)) → AreStreamsOf file.halves harts file.streams → HasStretches (coded file.halves contents) harts → AreOrdered harts notes → IsRunOf (record { contents = contents; file = file; notes = notes; from = 0 }) (run_of_harts harts notes) }
+    ensures { (contents : Contents) (file : StreamFile) (notes : List ThreadNote) (harts : List (List Stretch)) → AreStreamsOf file.halves harts file.streams → HasStretches (coded file.halves contents) harts → AreOrdered harts notes → IsRunOfFiles (record { contents = contents; file = file; notes = notes; from = 0 }) (run_of_harts harts notes) }
 {}
 
 /// An example of harts and notes that are in order: two threads that go from one hart to another. The code has their instructions, and this is the run.

@@ -9,7 +9,7 @@ ghost use Rattle.rept_path.specs.declared.fault.PathFault.TheVariants.{Packet, O
 ghost use Rattle.rept_encode.specs.Encoded.{coded};
 ghost use Rattle.rept_weave.specs.declared.stretch.Stretch.{Stretch};
 ghost use Rattle.rept_weave.specs.Woven.{IsWoven};
-ghost use Rattle.rept_slices.specs.Raw.{files_of, note_in, IsRunOf, HasNoRun};
+ghost use Rattle.rept_slices.specs.Raw.{files_of, note_in, IsRunOfFiles, HasNoRun};
 ghost use Rattle.rept_woven.specs.Ordered.{run_of_harts, AreOrdered, HasStretches};
 
 use rept_dump::Dump;
@@ -26,7 +26,7 @@ use std::alloc::Global;
 pub fn rebuild_trace(alloc: Global, trace: &[u8], dump: &Dump<'_>) -> Result<Run, PathFault>
     requires { length trace.now < 2 ^ 32 }
     ensures woven { (halves : Bool) (harts : List (List Stretch)) (descs : List (List ℕ)) → IsWoven halves harts trace.now → HasThreads dump.now descs → threads_of dump.now ≡ length descs → HasStretches (coded halves (contents (exe_of dump.now))) harts → AreOrdered harts (map note_in descs) → MatchResult result (λ run. run ≡ run_of_harts harts (map note_in descs)) (λ e. e ≡ OutOfMemory) }
-    ensures read { (file : StreamFile) (descs : List (List ℕ)) → AreStreams trace.now file → HasThreads dump.now descs → threads_of dump.now ≡ length descs → MatchResult result (λ run. IsRunOf (files_of dump.now file descs 0) run) (λ e. (e ≡ OutOfMemory) ⊎ HasNoRun (files_of dump.now file descs 0) e) }
+    ensures read { (file : StreamFile) (descs : List (List ℕ)) → AreStreams trace.now file → HasThreads dump.now descs → threads_of dump.now ≡ length descs → MatchResult result (λ run. IsRunOfFiles (files_of dump.now file descs 0) run) (λ e. (e ≡ OutOfMemory) ⊎ HasNoRun (files_of dump.now file descs 0) e) }
     ensures refused { (fault : TraceFault) → AreNoStreams trace.now fault → result ≡ Err (Packet fault) }
 {
     match Streams::open(trace) {

@@ -74,6 +74,7 @@ filed_sorted list narrow sorted wide filed moved = record {
   sound = All-permutation (λ (h : Hit). hits_at list h.index h.address ≡ true) narrow sorted moved filed.sound;
   complete = λ j a small hits. elim (filed.complete j a small hits) [ inl there ↦ inl (Contains-permutation narrow sorted _ moved there) | inr there ↦ inr there ];
   rising = filed.rising;
+  each_once = filed.each_once;
   inside = filed.inside;
   few = filed.few;
   apart = All-permutation (λ (h : Hit). Contains wide h.index → ⊥) narrow sorted moved filed.apart;

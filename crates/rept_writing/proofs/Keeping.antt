@@ -3,7 +3,7 @@ use Rattle.std.proofs.Common.{◌≡◌, ℕ, zero, suc, ◌+◌, ◌-◌, ◌<�
 use Rattle.std.specs.Prelude.{slice_get, set, get_or, if◌then◌else◌}
 use Rattle.std.specs.List.{All, Contains}
 use Rattle.std.proofs.lemmas.Bool.{cases_lt, cases_eq}
-use Rattle.std.proofs.lemmas.List.{length-append, length-set, length-take-le}
+use Rattle.std.proofs.lemmas.List.{get_or_append_left, get_or_push, length-append, length-set, length-take-le}
 use Rattle.std.proofs.Math.ListN.{take}
 use Rattle.std.proofs.Math.Seq.{take-suc}
 use Rattle.std.proofs.lemmas.List.Elements.{All-nil, All-push, All-append, All-weaker, All-contains, Contains-append_left, Contains-append_right, Contains-append_cases, Contains-push}
@@ -15,7 +15,7 @@ use Rattle.rept_alias.specs.declared.addresses.Access.{Access}
 use Rattle.rept_alias.specs.declared.addresses.CallAccess.{CallAccess}
 use Rattle.rept_writing.specs.declared.list.Writing.{Writing}
 use Rattle.rept_writing.specs.declared.narrow.Hit.{Hit}
-use Rattle.rept_writing.specs.Hits.{hits_at, may_write}
+use Rattle.rept_writing.specs.Hits.{hits_at, writing_hits}
 use Rattle.rept_writing.specs.Filed.{IsFiled, IsKeptByAddress, StartsAtWord, hit, hits_from, hits_of, hits_of_part, size, size_of_part}
 
 few_of : (b : Bool) (n : ℕ) → (if b then 2 ^ 32 else n) ≤ 8 → (b ≡ false) × ((if b then 2 ^ 32 else n) ≡ n)
@@ -93,7 +93,7 @@ slice_get_end : (xs : List Writing) (w : Writing) → slice_get (xs ++ w ∷ [])
 slice_get_end [] w = refl
 slice_get_end (x ∷ xs) w = slice_get_end xs w
 
-within : (list : List Writing) (w : Option Writing) (h a : ℕ) → slice_get list h ≡ w → may_write w a ≡ true → h < length list
+within : (list : List Writing) (w : Option Writing) (h a : ℕ) → slice_get list h ≡ w → writing_hits w a ≡ true → h < length list
 within list (Some w) h a is hit = slice_get_within list h w is
 within list None h a is hit = absurd (cc)
 
@@ -101,10 +101,10 @@ pub inside_of : (list : List Writing) (h a : ℕ) → hits_at list h a ≡ true 
 inside_of list h a hit = within list (slice_get list h) h a refl hit
 
 front_hits : (list : List Writing) (w : Writing) (j a : ℕ) → j < length list → hits_at (list ++ w ∷ []) j a ≡ hits_at list j a
-front_hits list w j a lt = ap (λ x. may_write x a) (slice_get_front list (w ∷ []) j lt)
+front_hits list w j a lt = ap (λ x. writing_hits x a) (slice_get_front list (w ∷ []) j lt)
 
 end_hits : (list : List Writing) (w : Writing) (a : ℕ) → hits_at (list ++ w ∷ []) (length list) a ≡ call_hits w.access a
-end_hits list w a = ap (λ x. may_write x a) (slice_get_end list w)
+end_hits list w a = ap (λ x. writing_hits x a) (slice_get_end list w)
 
 more_hits : (list : List Writing) (w : Writing) (j a : ℕ) → hits_at list j a ≡ true → hits_at (list ++ w ∷ []) j a ≡ true
 more_hits list w j a h = front_hits list w j a (inside_of list j a h) ∙ h
@@ -129,6 +129,11 @@ set_elsewhere (x ∷ xs) zero (suc j) w ne = refl
 set_elsewhere (x ∷ xs) (suc i) zero w ne = refl
 set_elsewhere (x ∷ xs) (suc i) (suc j) w ne = set_elsewhere xs i j w (λ e. ne (ap suc e))
 
+pub set_there : (xs : List Writing) (i : ℕ) (w : Writing) → i < length xs → slice_get (set xs i w) i ≡ Some w
+set_there [] i w lt = absurd (omega (arith, lt))
+set_there (x ∷ xs) zero w lt = refl
+set_there (x ∷ xs) (suc i) w lt = set_there xs i w (omega (arith, lt))
+
 -- a row of few was added
 pub filed_narrow : (list : List Writing) (narrow new : List Hit) (wide : List ℕ) (w : Writing) → IsFiled list narrow wide → IsKeptByAddress w.access (length list) narrow new → IsFiled (list ++ w ∷ []) new wide
 filed_narrow list narrow new wide w filed kept = record {
@@ -138,6 +143,7 @@ filed_narrow list narrow new wide w filed kept = record {
     | inr (e, now) ↦ inl (Contains-append_right narrow (hits_of w.access (length list)) (hit a j) (subst (λ (i : ℕ). Contains (hits_of w.access (length list)) (hit a i)) (sym e) (row_complete w.access (length list) a narrow new kept fits now)))
   ]);
   rising = filed.rising;
+  each_once = filed.each_once;
   inside = more_inside list w wide filed.inside;
   few = omega (arith, filed.few, length-append list (w ∷ []));
   apart = subst (All (λ (h : Hit). Contains wide h.index → ⊥)) (sym kept.is) (All-append (λ (h : Hit). Contains wide h.index → ⊥) narrow (hits_of w.access (length list)) filed.apart (All-weaker (IsOfRow w.access (length list)) (λ (h : Hit). Contains wide h.index → ⊥) (λ h o there. new_index h.index o.0 there) (hits_of w.access (length list)) (row_sound w.access (length list) narrow new kept)));
@@ -158,6 +164,13 @@ filed_wide list narrow wide w filed = record {
     | inr (e, now) ↦ inr (subst (Contains (wide ++ length list ∷ [])) (sym e) (Contains-push wide (length list)))
   ];
   rising = IsNonDecreasingBy-push (λ (j : ℕ). j) wide (length list) filed.rising (λ d some. omega (arith, filed.inside (length wide - 1) d (omega (arith, some))));
+  each_once = λ p q less here. elim (cases_lt q (length wide)) [
+    | inl before ↦ omega (arith, get_or_append_left wide (length list ∷ []) 0 q before, get_or_append_left wide (length list ∷ []) 0 p (omega (arith, less, before)), filed.each_once p q less before)
+    | inr le ↦
+        let end : q ≡ length wide = omega (arith, le, here, length-append wide (length list ∷ [])) in
+        let low = filed.inside p 0 (omega (arith, less, end)) in
+        omega (arith, low, get_or_append_left wide (length list ∷ []) 0 p (omega (arith, less, end)), get_or_push wide (length list) 0 q (sym end))
+  ];
   inside = All-push (λ (j : ℕ). j < length (list ++ w ∷ [])) wide (length list) (more_inside list w wide filed.inside) (omega (arith, length-append list (w ∷ [])));
   few = omega (arith, filed.few, length-append list (w ∷ []), length-append wide (length list ∷ []));
   apart = λ k h lt. not_there (get_or narrow k h) (filed.sound k h lt) (filed.apart k h lt);
@@ -181,13 +194,14 @@ filed_replaced list narrow wide k w there filed = record {
     | inr ne ↦ filed.complete j a fits (sym (other j a ne) ∙ h)
   ];
   rising = filed.rising;
+  each_once = filed.each_once;
   inside = subst (λ (n : ℕ). All (λ j. j < n) wide) (sym (length-set list k w)) filed.inside;
   few = rw (length-set list k w) filed.few;
   apart = filed.apart;
 }
   where
     other : (j a : ℕ) → (j ≡ k → ⊥) → hits_at (set list k w) j a ≡ hits_at list j a
-    other j a ne = ap (λ x. may_write x a) (set_elsewhere list k j w ne)
+    other j a ne = ap (λ x. writing_hits x a) (set_elsewhere list k j w ne)
 
     kept_hit : (h : Hit) → hits_at list h.index h.address ≡ true → (Contains wide h.index → ⊥) → hits_at (set list k w) h.index h.address ≡ true
     kept_hit h hits apart = other h.index h.address (λ e. apart (subst (Contains wide) (sym e) there)) ∙ hits
@@ -198,6 +212,7 @@ filed_none = record {
   sound = All-nil (λ (h : Hit). hits_at [] h.index h.address ≡ true);
   complete = λ j a fits h. absurd (none (inside_of [] j a h));
   rising = λ i j d le lt. absurd (omega (arith, lt));
+  each_once = λ p q less lt. absurd (omega (arith, lt));
   inside = All-nil (λ (j : ℕ). j < 0);
   few = omega arith;
   apart = All-nil (λ (h : Hit). Contains [] h.index → ⊥);

@@ -7,3 +7,4 @@ pub mod Reading
 pub mod Passing
 pub mod Rising
 pub mod Meeting
+pub mod Bounding

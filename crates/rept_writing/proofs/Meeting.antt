@@ -9,9 +9,9 @@ use Rattle.std.proofs.lemmas.Option.{slice_get-get_or, slice_get_within}
 use Rattle.rept_alias.specs.Accesses.{call_hits}
 use Rattle.rept_writing.specs.declared.columns.Columns.{Columns}
 use Rattle.rept_writing.specs.declared.list.Writing.{Writing}
-use Rattle.rept_writing.specs.Hits.{IsFreeSince, IsMeeting, IsNextHitBelow, IsNextMeeting, IsPastHitFrom, IsSplitAt, Link, hits_at, may_write}
+use Rattle.rept_writing.specs.Hits.{IsFreeSince, IsMeeting, IsNextHitBelow, IsNextMeeting, IsPastHitFrom, IsSplitAt, Link, hits_at, writing_hits}
 use Rattle.rept_writing.specs.Filed.{IsFirst, sooner}
-use Rattle.rept_writing.specs.Falling.{AreColumns, IsAround, IsCut, IsSince}
+use Rattle.rept_writing.specs.Falling.{AreColumns, IsAround, IsSince, IsSplit}
 use Rattle.rept_writing.proofs.Filing.{first_within, sooner_first}
 use Rattle.rept_writing.proofs.Passing.{at_or_after, place_of}
 
@@ -48,14 +48,14 @@ NoneMeets list c link start p = (q : ℕ) → start ≤ q → q < p → IsMeetin
 
 module _ (list : List Writing) (c : Columns) (a : AreColumns list c) where
   -- a row that falls above a number isn't before the place up to which none does
-  not_past : (m low p : ℕ) (x : Writing) → IsCut c.lasts.items (m + 1) low → p < length c.places.items → slice_get list (get_or c.places.items p 0) ≡ Some x → m < x.to → low ≤ p
+  not_past : (m low p : ℕ) (x : Writing) → IsSplit c.lasts.items (m + 1) low → p < length c.places.items → slice_get list (get_or c.places.items p 0) ≡ Some x → m < x.to → low ≤ p
   not_past m low p x cut inside is above = elim (cases_lt p low) [
     | inl lt ↦ absurd (omega (arith, cut.below p lt, a.no_later p p x (omega arith) inside is, above))
     | inr le ↦ le
   ]
 
   -- and one that falls to a number up to one is before the place from which on none does
-  not_ahead : (w high p : ℕ) (x : Writing) → IsCut c.firsts.items (w + 1) high → p < length c.places.items → slice_get list (get_or c.places.items p 0) ≡ Some x → x.from ≤ w → p < high
+  not_ahead : (w high p : ℕ) (x : Writing) → IsSplit c.firsts.items (w + 1) high → p < length c.places.items → slice_get list (get_or c.places.items p 0) ≡ Some x → x.from ≤ w → p < high
   not_ahead w high p x cut inside is below = elim (cases_lt p high) [
     | inl lt ↦ lt
     | inr le ↦ absurd (omega (arith, cut.above p le (omega (arith, inside, a.as_many_firsts)), a.no_sooner p p x (omega arith) inside is, below))
@@ -67,7 +67,7 @@ module _ (list : List Writing) (c : Columns) (a : AreColumns list c) where
       let (p, inside, e) = place_of c.places.items j (a.complete j x is kind) in
       (p, inside, e, subst (λ (n : ℕ). slice_get list n ≡ Some x) (sym e) is)
 
-  pub around_of : (m w low high first after : ℕ) → IsCut c.lasts.items (m + 1) low → IsCut c.firsts.items (w + 1) high → first ≡ get_or c.places.items low (length list) → after ≡ get_or c.places.items high (length list) → IsAround list c.is_call (record { from = m; to = w; address = 0 }) first after
+  pub around_of : (m w low high first after : ℕ) → IsSplit c.lasts.items (m + 1) low → IsSplit c.firsts.items (w + 1) high → first ≡ get_or c.places.items low (length list) → after ≡ get_or c.places.items high (length list) → IsAround list c.is_call (record { from = m; to = w; address = 0 }) first after
   around_of m w low high first after late ahead is_first is_after j x is kind above below =
       let (p, inside, e, at) = place j x is kind in
       let from = not_past m low p x late inside at above in
@@ -79,7 +79,7 @@ module _ (list : List Writing) (c : Columns) (a : AreColumns list c) where
         ],
       )
 
-  module _ (k m w b late begin end : ℕ) (passed : IsCut c.lasts.items (m + 1) late) (cut : IsCut c.places.items k begin) (ahead : IsCut c.firsts.items (w + 1) end) where
+  module _ (k m w b late begin end : ℕ) (passed : IsSplit c.lasts.items (m + 1) late) (cut : IsSplit c.places.items k begin) (ahead : IsSplit c.firsts.items (w + 1) end) where
     met_place : (j : ℕ) → k ≤ j → Contains c.places.items j → IsMeeting list (record { from = m; to = w; address = b }) j → (q : ℕ) × (max late begin ≤ q) × (q < end) × (q < length c.places.items) × (get_or c.places.items q 0 ≡ j)
     met_place j from there met =
         let (q, inside, e) = place_of c.places.items j there in
@@ -111,7 +111,7 @@ abbrev pub NoneMet : List Writing → Link → ℕ → ℕ → Type 0
 NoneMet list link k from = (j : ℕ) → k ≤ j → j < from → IsMeeting list link j → ⊥
 
 met_hits : (list : List Writing) (link : Link) (j : ℕ) → IsMeeting list link j → hits_at list j link.address ≡ true
-met_hits list link j met = ap (λ w. may_write w link.address) met.stands ∙ met.hits
+met_hits list link j met = ap (λ w. writing_hits w link.address) met.stands ∙ met.hits
 
 pub none_hit : (list : List Writing) (link : Link) (k from end : ℕ) → NoneMet list link k from → IsNextHitBelow list from end link.address None → IsFirst (IsMeeting list link) k end None
 none_hit list link k from end none nothing j low high met = elim (cases_lt j from) [

@@ -7,7 +7,7 @@ use Rattle.std.proofs.lemmas.Bool.{cases_lt}
 use Rattle.std.proofs.lemmas.Option.{slice_get_within, slice_get-get_or}
 use Rattle.rept_alias.specs.Accesses.{call_hits}
 use Rattle.rept_writing.specs.declared.list.Writing.{Writing}
-use Rattle.rept_writing.specs.Hits.{hits_at, may_write, IsHitBefore, IsPastHitFrom, IsSplitAt}
+use Rattle.rept_writing.specs.Hits.{hits_at, writing_hits, IsHitBefore, IsPastHitFrom, IsSplitAt}
 use Rattle.rept_writing.specs.Filed.{IsPast}
 
 -- the rows before index k are those at lower numbers
@@ -23,7 +23,7 @@ cut_at list number k bound parts = record {
   above = λ j d low high. let e = parts.1 j d low high in grind (arith, nat_tests, e);
 }
 
-stands : (w : Option Writing) (a : ℕ) → may_write w a ≡ true → (x : Writing) × (w ≡ Some x) × (call_hits x.access a ≡ true)
+stands : (w : Option Writing) (a : ℕ) → writing_hits w a ≡ true → (x : Writing) × (w ≡ Some x) × (call_hits x.access a ≡ true)
 stands None a h = absurd (cc)
 stands (Some x) a h = (x, refl, h)
 
@@ -45,7 +45,7 @@ hit_before list number k a j split lt h =
 before_split : (list : List Writing) (number k a j : ℕ) → IsSplitAt list number k → IsHitBefore list number a j → (j < k) × (hits_at list j a ≡ true)
 before_split list number k a j split h = (
   elim (cases_lt j k) [ inl lt ↦ lt | inr le ↦ absurd (omega (arith, split.above j h.writing h.stands le, h.lower)) ],
-  ap (λ w. may_write w a) h.stands ∙ h.hits,
+  ap (λ w. writing_hits w a) h.stands ∙ h.hits,
 )
 
 pub past_row : (list : List Writing) (low number k a r : ℕ) → IsSplitAt list number k → IsPast (λ j. hits_at list j a ≡ true) low k r → IsPastHitFrom list low number a r

@@ -1,5 +1,5 @@
 -- How the rows of one kind are found, and that what is kept of them stays true where a row like the old one takes its place.
-use Rattle.std.proofs.Common.{◌≡◌, ℕ, zero, suc, ◌+◌, ◌-◌, ◌<◌, ◌≤◌, ◌⊎◌, List, [], ◌∷◌, ◌++◌, length, get_or, inl, inr, refl, sym, ◌∙◌, ap, subst, arith}
+use Rattle.std.proofs.Common.{◌≡◌, ℕ, ◌+◌, ◌-◌, ◌<◌, ◌≤◌, ◌⊎◌, List, [], ◌∷◌, ◌++◌, length, get_or, inl, inr, refl, sym, ◌∙◌, ap, subst, arith}
 use Rattle.std.specs.Prelude.{max, set, slice_get, Some}
 use Rattle.std.specs.List.{All, Contains}
 use Rattle.std.specs.List.Sorted.{IsNonDecreasing}
@@ -11,7 +11,7 @@ use Rattle.std.proofs.lemmas.Option.{slice_get-get_or, slice_get_within}
 use Rattle.rept_writing.specs.declared.columns.Columns.{Columns}
 use Rattle.rept_writing.specs.declared.list.Writing.{Writing}
 use Rattle.rept_writing.specs.Falling.{AreColumns, AreLeastOnward, AreTaken, FallsAs}
-use Rattle.rept_writing.proofs.Keeping.{set_elsewhere}
+use Rattle.rept_writing.proofs.Keeping.{set_elsewhere, set_there}
 
 -- from a place on each number is the least one onward, and before it each is as it was
 pub record IsSettledFrom (old new : List ℕ) (p least : ℕ) : Type 0 where
@@ -137,11 +137,6 @@ columns_taken list c new t kind places lasts least = record {
   no_sooner = λ p q w le lt is. omega (arith, least.least p q le (omega (arith, lt, ap length places, t.as_many_firsts)), t.first q w (omega (arith, lt, ap length places)) (subst (λ (xs : List ℕ). slice_get list (get_or xs q 0) ≡ Some w) places is));
   no_later = λ p q w le lt is. omega (arith, ap (λ (xs : List ℕ). get_or xs q 0) lasts, t.no_later p q w le (omega (arith, lt, ap length places)) (subst (λ (xs : List ℕ). slice_get list (get_or xs p 0) ≡ Some w) places is));
 }
-
-set_there : (xs : List Writing) (i : ℕ) (w : Writing) → i < length xs → slice_get (set xs i w) i ≡ Some w
-set_there [] i w lt = absurd (omega (arith, lt))
-set_there (x ∷ xs) zero w lt = refl
-set_there (x ∷ xs) (suc i) w lt = set_there xs i w (omega (arith, lt))
 
 -- what may stand at an index now fell as it does before
 was_there : (list : List Writing) (k : ℕ) (d w : Writing) (j : ℕ) (x : Writing) → k < length list → FallsAs (get_or list k d) w → slice_get (set list k w) j ≡ Some x → (y : Writing) × (slice_get list j ≡ Some y) × FallsAs y x

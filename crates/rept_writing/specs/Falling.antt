@@ -9,7 +9,7 @@ use Rattle.rept_writing.specs.declared.list.Writing.{Writing}
 use Rattle.rept_writing.specs.Hits.{Link}
 
 -- the numbers before a place are below k, and the others aren't
-pub record IsCut (numbers : List ℕ) (k end : ℕ) : Type 0 where
+pub record IsSplit (numbers : List ℕ) (k end : ℕ) : Type 0 where
   pub bound : end ≤ length numbers
   pub below : (m : ℕ) → m < end → get_or numbers m 0 < k
   pub above : (m : ℕ) → end ≤ m → m < length numbers → k ≤ get_or numbers m 0

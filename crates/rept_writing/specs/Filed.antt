@@ -1,5 +1,5 @@
 -- How the bytes that rows of a list may write are kept, so that they are found by address. This project's own.
-use Rattle.std.specs.Prelude.{◌≡◌, ℕ, ◌+◌, ◌<◌, ◌≤◌, ◌^◌, ◌⊎◌, zero, suc, List, [], ◌∷◌, ◌++◌, length, true, Option, Some, None, if◌then◌else◌, min}
+use Rattle.std.specs.Prelude.{◌≡◌, ℕ, ◌+◌, ◌<◌, ◌≤◌, ◌^◌, ◌⊎◌, zero, suc, List, [], ◌∷◌, ◌++◌, get_or, length, true, Option, Some, None, if◌then◌else◌, min}
 use Rattle.std.specs.List.{All, Contains}
 use Rattle.std.specs.List.Sorted.{IsNonDecreasing}
 use Rattle.std.specs.Ordering.{nat_cmp, ordering_then}
@@ -84,6 +84,7 @@ pub record IsFiled (list : List Writing) (narrow : List Hit) (wide : List ℕ) :
   pub sound : All (λ h. hits_at list h.index h.address ≡ true) narrow
   pub complete : (j a : ℕ) → a < 2 ^ 32 → hits_at list j a ≡ true → Contains narrow (hit a j) ⊎ Contains wide j
   pub rising : IsNonDecreasing wide
+  pub each_once : (p q : ℕ) → p < q → q < length wide → get_or wide p 0 < get_or wide q 0
   pub inside : All (λ j. j < length list) wide
   pub few : length wide ≤ length list
   pub apart : All (λ h. Contains wide h.index → ⊥) narrow

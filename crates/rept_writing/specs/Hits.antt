@@ -9,13 +9,13 @@ pub record Listed : Type 0 where
   pub list : List Writing
   pub room : ℕ
 
-abbrev pub may_write : Option Writing → ℕ → Bool
-may_write None a = false
-may_write (Some w) a = call_hits w.access a
+abbrev pub writing_hits : Option Writing → ℕ → Bool
+writing_hits None a = false
+writing_hits (Some w) a = call_hits w.access a
 
 -- whether the row at an index of the list may write the address; past the end none does
 abbrev pub hits_at : List Writing → ℕ → ℕ → Bool
-hits_at list j a = may_write (slice_get list j) a
+hits_at list j a = writing_hits (slice_get list j) a
 
 -- the row at index h is the first one from index k on that may write the address
 pub record IsFirstHit (list : List Writing) (k a h : ℕ) : Type 0 where

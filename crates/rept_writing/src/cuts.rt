@@ -2,12 +2,12 @@
 
 ghost use Rattle.std.specs.Prelude.{◌+◌};
 ghost use Rattle.std.specs.List.Sorted.{IsNonDecreasing};
-ghost use Rattle.rept_writing.specs.Falling.{IsCut};
+ghost use Rattle.rept_writing.specs.Falling.{IsSplit};
 
 /// How many of these indices are below one.
 pub fn below(indices: &[usize], k: usize) -> usize
     requires { IsNonDecreasing indices.now }
-    ensures { IsCut indices.now k result }
+    ensures { IsSplit indices.now k result }
 {
     indices.partition_point(|j| *j < k)
 }
@@ -15,7 +15,7 @@ pub fn below(indices: &[usize], k: usize) -> usize
 /// How many of these numbers are no greater than one.
 pub fn up_to(numbers: &[u32], bound: u32) -> usize
     requires { IsNonDecreasing numbers.now }
-    ensures { IsCut numbers.now (bound + 1) result }
+    ensures { IsSplit numbers.now (bound + 1) result }
 {
     numbers.partition_point(|number| *number <= bound)
 }

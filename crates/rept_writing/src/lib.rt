@@ -1,6 +1,7 @@
 //! Rows that may write, found by the address.
 #![tactic(auto)]
 
+mod bounds;
 mod columns;
 mod cuts;
 mod list;

@@ -6,9 +6,10 @@ ghost use Rattle.rept_writing.specs.Hits.{IsMeeting, IsNextHitBelow, IsNextMeeti
 ghost use Rattle.rept_writing.specs.Falling.{FallsAs};
 ghost use Rattle.rept_writing.specs.Filed.{IsFiled, IsFirst, sooner};
 
+use crate::bounds::{Bounds, blocks_of, bound_all, widen};
 use crate::columns::{Columns, meets};
 use crate::narrow::{Hit, file, next_narrow, past_narrow};
-use crate::wide::{is_among, next_wide, past_wide, scan, scan_back, scan_since, scan_until};
+use crate::wide::{next_wide, past_wide, place_of, scan, scan_back, scan_since, scan_until};
 use rept_alias::CallAccess;
 use std::alloc::{AllocError as OutOfMemory, Global};
 use std::marker::Model;
@@ -48,11 +49,13 @@ pub struct Writings {
     narrow: Vec<Hit>,
     /// the indices of the others
     wide: Vec<usize>,
+    /// the bounds of what these may write, for each block of them
+    blocks: Vec<Bounds>,
     /// the calls, and when they may fall
     calls: Columns,
     /// the same of the others
     others: Columns,
-    /// whether `narrow` is in order, and `calls` and `others` are those of the list
+    /// whether `narrow` is in order, `blocks` are the bounds of `wide`, and `calls` and `others` are those of the list
     is_indexed: bool,
     /// how many of the others were replaced since then
     replaced: usize,
@@ -63,6 +66,7 @@ impl Model for Writings {
     ghost use Rattle.std.specs.Vec.{vec_capacity};
     ghost use Rattle.std.specs.List.Sorted.{IsSorted};
     ghost use Rattle.rept_writing.specs.Hits.{Listed};
+    ghost use Rattle.rept_writing.specs.Bounded.{AreBounded};
     ghost use Rattle.rept_writing.specs.Filed.{IsFiled, hit_cmp};
     ghost use Rattle.rept_writing.specs.Falling.{AreColumns, room_of};
 
@@ -70,7 +74,7 @@ impl Model for Writings {
 
     ghost view = { λ w. record { list = w.list.items; room = vec_capacity w.list } };
 
-    ghost invariant = { λ w. record { filed : IsFiled w.list.items w.narrow.items w.wide.items; sorted : w.is_indexed ≡ true → IsSorted hit_cmp w.narrow.items; room : vec_capacity w.list ≤ vec_capacity w.wide; calls : w.is_indexed ≡ true → AreColumns w.list.items w.calls; others : w.is_indexed ≡ true → AreColumns w.list.items w.others; are_calls : w.calls.is_call ≡ true; are_others : w.others.is_call ≡ false; calls_room : vec_capacity w.list ≤ room_of w.calls; others_room : vec_capacity w.list ≤ room_of w.others } };
+    ghost invariant = { λ w. record { filed : IsFiled w.list.items w.narrow.items w.wide.items; sorted : w.is_indexed ≡ true → IsSorted hit_cmp w.narrow.items; room : vec_capacity w.list ≤ vec_capacity w.wide; calls : w.is_indexed ≡ true → AreColumns w.list.items w.calls; others : w.is_indexed ≡ true → AreColumns w.list.items w.others; bounded : w.is_indexed ≡ true → AreBounded w.list.items w.wide.items w.blocks.items; are_calls : w.calls.is_call ≡ true; are_others : w.others.is_call ≡ false; calls_room : vec_capacity w.list ≤ room_of w.calls; others_room : vec_capacity w.list ≤ room_of w.others } };
 }
 
 impl Writings {
@@ -82,6 +86,7 @@ impl Writings {
         let list = Vec::with_capacity(alloc, rows)?;
         let narrow = Vec::with_capacity(alloc, bytes)?;
         let wide = Vec::with_capacity(alloc, rows)?;
+        let blocks = Vec::with_capacity(alloc, blocks_of(rows))?;
         let room = list.capacity();
         let calls = Columns::new(alloc, true, room)?;
         let others = Columns::new(alloc, false, room)?;
@@ -89,6 +94,7 @@ impl Writings {
             list,
             narrow,
             wide,
+            blocks,
             calls,
             others,
             is_indexed: false,
@@ -145,12 +151,14 @@ impl Writings {
         ensures same { result ≡ false → self.new ≡ self.old }
         ensures room { self.new.room ≡ self.old.room }
     {
-        if !is_among(self.wide.as_slice(), k) {
+        let Some(place) = place_of(self.wide.as_slice(), k) else {
             return false;
-        }
+        };
         if !falls_as(&self.list[k], &writing) {
             return false;
         }
+        let access = writing.access;
+        widen(&mut self.blocks, place, &access);
         self.list[k] = writing;
         self.replaced = self.replaced.wrapping_add(1);
         true
@@ -169,6 +177,8 @@ impl Writings {
         self.narrow.clear();
         self.wide.clear();
         file_all(self.list.as_slice(), &mut self.narrow, &mut self.wide);
+        self.blocks.clear();
+        bound_all(self.list.as_slice(), self.wide.as_slice(), &mut self.blocks);
         self.narrow.sort_unstable();
         self.calls.fill(self.list.as_slice());
         self.others.fill(self.list.as_slice());
@@ -183,7 +193,14 @@ impl Writings {
         let list = self.list.as_slice();
         if self.is_indexed {
             let narrow = next_narrow(self.narrow.as_slice(), k, end, a);
-            let wide = next_wide(list, self.wide.as_slice(), k, end, a);
+            let wide = next_wide(
+                list,
+                self.wide.as_slice(),
+                self.blocks.as_slice(),
+                k,
+                end,
+                a,
+            );
             sooner(narrow, wide)
         } else {
             scan(list, k, end, a)
@@ -286,7 +303,14 @@ impl Writings {
         let k = self.before(number);
         if self.is_indexed {
             let narrow = past_narrow(self.narrow.as_slice(), k, a);
-            let wide = past_wide(list, self.wide.as_slice(), low, k, a);
+            let wide = past_wide(
+                list,
+                self.wide.as_slice(),
+                self.blocks.as_slice(),
+                low,
+                k,
+                a,
+            );
             narrow.max(low).max(wide)
         } else {
             scan_back(list, low, k, a)

@@ -1,6 +1,6 @@
 //! Between which moments a row falls, and how far a byte's value goes at once.
 
-ghost use Rattle.rept_steps.specs.Course.{IsSound};
+ghost use Rattle.rept_steps.specs.Course.{IsSoundCourse};
 ghost use Rattle.rept_steps.specs.Runs.{course_of};
 ghost use Rattle.rept_moments.specs.Courses.{IsCourseOf};
 
@@ -20,7 +20,7 @@ pub fn reaching(
     asked: &str,
     n: &Numbers,
 ) -> Result<String, AllocError>
-    requires sound { IsSound (course_of run.now) }
+    requires sound { IsSoundCourse (course_of run.now) }
     requires course { IsCourseOf (course_of run.now) paths.now.ways }
 {
     let rows = RunRows::new(alloc, run, paths)?;
@@ -28,7 +28,7 @@ pub fn reaching(
         "falls" => falls(alloc, &rows, n),
         "bars" => bars(alloc, &rows, n.word(0), n.word(1)),
         "extent" => extent(alloc, &rows, n.word(0)),
-        "leaving" => leaving(alloc, &rows, n.word(0), n.word(1)),
+        "leaving" => leaving(alloc, &rows, n),
         _ => reached(alloc, &rows, n.word(0), n.word(1)),
     }
 }
@@ -62,12 +62,14 @@ fn extent(alloc: Global, rows: &RunRows<'_>, row: u32) -> Result<String, AllocEr
     format!(in alloc; "{} to {}", window.from, window.to)
 }
 
-/// Of numbers one after the other the first from which a value may go elsewhere, or the last.
-fn leaving(alloc: Global, rows: &RunRows<'_>, least: u32, most: u32) -> Result<String, AllocError> {
-    if least > most || most > rows.end() {
+/// Of the numbers of a window from one on the first from which a value may go out of the window, or the last.
+fn leaving(alloc: Global, rows: &RunRows<'_>, n: &Numbers) -> Result<String, AllocError> {
+    let (least, last, from) = (n.word(0), n.word(1), n.word(2));
+    if from > least || least > last || last > rows.end() {
         return String::from_str(alloc, "no such moments");
     }
-    format!(in alloc; "{}", rows.leaving_from(least, most))
+    let known = Window { from, to: last + 1 };
+    format!(in alloc; "{}", rows.leaving_from(least, known))
 }
 
 /// Up and down to which numbers a value goes from the one to the other.

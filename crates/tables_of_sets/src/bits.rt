@@ -1,15 +1,15 @@
 //! What sets of values have in common: ranges, one value or any, known bits, and these with a range.
 
-use crate::shown::{Value, flat, range_at, set};
+use crate::shown::{Value, range_at, set};
 use rept_known::{Bits, Both, least_from};
-use rept_partial::Partial;
+use rept_partial::{Flat, Partial};
 use std::alloc::{AllocError, Global};
 use test_lines::Numbers;
 
 pub fn answer(alloc: Global, asked: &str, n: &Numbers) -> Result<String, AllocError> {
     match asked {
         "set-range" => set(alloc, range_at(n, 0).meet(range_at(n, 2))),
-        "set-value" => set(alloc, flat(n.known(0)).meet(flat(n.known(1)))),
+        "set-value" => set(alloc, Flat::of(n.known(0)).meet(Flat::of(n.known(1)))),
         "set-bits" => show_bits(alloc, bits_at(n, 0).meet(bits_at(n, 2))),
         "set-least" => format!(in alloc; "{}", Value(least_from(bits_at(n, 0), n.word(2)))),
         "set-reduced" => show_both(alloc, Both::new(range_at(n, 0), bits_at(n, 2))),

@@ -1,9 +1,9 @@
 //! What each listed call may change.
 
 use crate::accesses::Ends;
-use crate::shown::{flat, range_at};
+use crate::shown::range_at;
 use rept_havoc::havoc;
-use rept_partial::{Partial, Range};
+use rept_partial::{Flat, Partial, Range};
 use std::alloc::{AllocError, Global};
 use test_lines::Numbers;
 
@@ -22,7 +22,7 @@ pub fn changed(alloc: Global, n: &Numbers) -> Result<String, AllocError> {
         None => 0x1_0000_0000,
         Some(end) => u64::from(end),
     };
-    let changed = havoc(flat(n.known(0)), &args, range_at(n, 7), image_end);
+    let changed = havoc(Flat::of(n.known(0)), &args, range_at(n, 7), image_end);
     format!(in alloc; "{} and {}", Ends(changed.first), Ends(changed.second))
 }
 
@@ -37,6 +37,6 @@ pub fn changed_of_ranges(alloc: Global, n: &Numbers) -> Result<String, AllocErro
         any,
         any,
     ];
-    let changed = havoc(flat(n.known(0)), &args, any, 0);
+    let changed = havoc(Flat::of(n.known(0)), &args, any, 0);
     format!(in alloc; "{} and {}", Ends(changed.first), Ends(changed.second))
 }

@@ -1,10 +1,10 @@
 //! What the rules of RV32IMA say of rows, and what that rests on.
 
 use crate::sample::Sample;
-use crate::shown::{Value, flat, yes};
+use crate::shown::{Value, yes};
 use rept_amo::Atomic;
 use rept_isa::{Instr, StepRow};
-use rept_partial::Partial;
+use rept_partial::{Flat, Partial};
 use rept_reason::Cell;
 use rept_rules::{Drawn, RegisterAt, RowRules, Side, When, forward, solve};
 use std::alloc::{AllocError, Global};
@@ -41,14 +41,14 @@ pub fn answer(
 
 /// The result of an instruction at 0x10000.
 fn result(alloc: Global, instr: &Instr, n: &Numbers) -> Result<String, AllocError> {
-    let made = forward(instr, 0x1_0000, flat(n.known(3)), flat(n.known(4)));
+    let made = forward(instr, 0x1_0000, Flat::of(n.known(3)), Flat::of(n.known(4)));
     format!(in alloc; "{}", Value(made.as_exact()))
 }
 
 /// The first and the second operand of an instruction that has this result, where the other one is known or not.
 fn operands(alloc: Global, instr: &Instr, n: &Numbers) -> Result<String, AllocError> {
-    let first = solve(instr, Side::First, n.word(3), flat(n.known(4)));
-    let second = solve(instr, Side::Second, n.word(3), flat(n.known(4)));
+    let first = solve(instr, Side::First, n.word(3), Flat::of(n.known(4)));
+    let second = solve(instr, Side::Second, n.word(3), Flat::of(n.known(4)));
     format!(in alloc;
         "{} and {}",
         Value(first.as_exact()),

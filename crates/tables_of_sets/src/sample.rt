@@ -2,7 +2,7 @@
 
 ghost use Rattle.std.specs.Prelude.{◌≡◌};
 ghost use Rattle.rept_reason.specs.Facts.{flat};
-ghost use Rattle.rept_rules.specs.Sample.{as_word, register_before, register_after, byte_at, range_by};
+ghost use Rattle.rept_rules.specs.Sample.{as_word, register_before, register_after, sample_byte, range_by};
 
 use rept_isa::Reg;
 use rept_partial::{Flat, Partial, Range};
@@ -56,7 +56,7 @@ fn shown_after(outcome: Option<u32>, number: u8) -> Flat
 
 /// Byte `k` of a word.
 fn shown_byte(word: Option<u32>, a: u32) -> Option<u8>
-    ensures { result ≡ byte_at word a }
+    ensures { result ≡ sample_byte word a }
 {
     match word {
         None => None,

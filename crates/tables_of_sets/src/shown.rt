@@ -1,6 +1,6 @@
 //! How values and sets are read and shown.
 
-use rept_partial::{Flat, Partial, Range};
+use rept_partial::{Partial, Range};
 use std::alloc::{AllocError, Global};
 use std::fmt;
 use test_lines::Numbers;
@@ -48,12 +48,4 @@ pub fn range(lo: u32, hi: u32) -> Range {
 /// The words from a number of a line to the next one.
 pub fn range_at(n: &Numbers, k: usize) -> Range {
     range(n.word(k), n.word(k.wrapping_add(1)))
-}
-
-/// One value, or any.
-pub fn flat(value: Option<u32>) -> Flat {
-    match value {
-        None => Flat::Unknown,
-        Some(n) => Flat::Known(n),
-    }
 }

@@ -15,7 +15,7 @@ use Rattle.rept_reason.specs.declared.fact.Cell.TheVariants.{Register, Byte}
 use Rattle.rept_reason.specs.Facts.{IsCell, flat}
 use Rattle.rept_view.specs.declared.drawn.Need.{Need}
 use Rattle.rept_view.specs.Rules.{AreLawful, IsRowCell, IsRowByte, IsSeenStep, HasNeeds, HasSameCells, Fits}
-use Rattle.rept_rules.specs.MayWrite.{may_write}
+use Rattle.rept_rules.specs.MayWrite.{instr_may_write}
 use Rattle.rept_rules.specs.Listing.{known_at}
 use Rattle.rept_rules.specs.Base.{base_rules}
 use Rattle.rept_rules.specs.Laws.BaseLaws.{base_lawful}
@@ -23,7 +23,7 @@ use Rattle.rept_amo.specs.declared.form.Form.{Form}
 use Rattle.rept_amo.specs.Conclusions.{form_of}
 use Rattle.rept_amo.specs.Listing.{drawn_of}
 use Rattle.rept_amo.specs.Needs.{needs_at, needs_by}
-use Rattle.rept_amo.specs.Writes.{is_sure, places_of}
+use Rattle.rept_amo.specs.Writes.{form_is_sure, places_of}
 use Rattle.rept_amo.specs.Atomic.{atomic_rules}
 use Rattle.rept_amo.specs.Laws.Listed.{listed, concluded}
 use Rattle.rept_amo.specs.Laws.Sound.{sound_by, form_is}
@@ -94,11 +94,11 @@ module _ (row : StepRow) where
   slot_once_law s t d c a b r ls lt on_a on_b read same slots None e has also = base_lawful.slot_once row s t d c a b r ls lt has also on_a on_b read same slots
   slot_once_law s t d c a b r ls lt on_a on_b read same slots (Some form) e has also = slot_once_by row s t d c a b r (listed row s d form e has) (listed row t c form e also) on_a on_b read same slots
 
-  certain_law : (image_end : ℕ) (view : Seen) (before after : State) (a : ℕ) → IsLawful view → IsSeenStep image_end row view before after → a < 2 ^ 32 → may_write row.instr view image_end a ≡ true → (o : Option Form) → form_of row.instr ≡ o → is_sure o row view ≡ true → WritesBy row.instr image_end before after a
+  certain_law : (image_end : ℕ) (view : Seen) (before after : State) (a : ℕ) → IsLawful view → IsSeenStep image_end row view before after → a < 2 ^ 32 → instr_may_write row.instr view image_end a ≡ true → (o : Option Form) → form_of row.instr ≡ o → form_is_sure o row view ≡ true → WritesBy row.instr image_end before after a
   certain_law image_end view before after a lawful step fits may None e sure = base_lawful.certain image_end row view before after a lawful step fits sure may
   certain_law image_end view before after a lawful step fits may (Some form) e sure = certain_at row form image_end view before after a e lawful step.meets fits sure may
 
-  more_law : (s t : Seen) → IsLawful s → IsLawful t → KnowsMore s t → (o : Option Form) → is_sure o row s ≡ true → is_sure o row t ≡ true
+  more_law : (s t : Seen) → IsLawful s → IsLawful t → KnowsMore s t → (o : Option Form) → form_is_sure o row s ≡ true → form_is_sure o row t ≡ true
   more_law s t ls lt more None sure = base_lawful.sure_more row s t ls lt more sure
   more_law s t ls lt more (Some form) sure = sure_more_at row form s t more sure
 

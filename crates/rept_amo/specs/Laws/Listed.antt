@@ -14,7 +14,7 @@ use Rattle.rept_view.specs.Seen.{Seen}
 use Rattle.rept_isa.specs.Operands.{unless_zero}
 use Rattle.rept_machine.specs.Arithmetic.{word_at, combined}
 use Rattle.rept_reason.specs.Facts.{flat}
-use Rattle.rept_rules.specs.Conclusions.{Says, IsKnown}
+use Rattle.rept_rules.specs.Conclusions.{IsOnRegister, IsKnown}
 use Rattle.rept_rules.specs.Listing.{register_drawn, known_at}
 use Rattle.rept_rules.specs.Laws.ValueLemmas.{either_way, equal, same_some, destination, over_zero}
 use Rattle.rept_rules.specs.Laws.SolveLemmas.{known, unknown}
@@ -22,7 +22,7 @@ use Rattle.rept_rules.specs.Laws.ListLemmas.{nothing, single, has_single, flat_s
 use Rattle.rept_amo.specs.declared.form.WordDrawn.{WordDrawn}
 use Rattle.rept_amo.specs.declared.form.Form.{Form}
 use Rattle.rept_amo.specs.declared.form.Access.{Access}
-use Rattle.rept_amo.specs.Conclusions.{IsAccess, ReadsWord, IsOperation, form_of, byte_drawn, word_before, word_after, word_stored, undone, Concludes}
+use Rattle.rept_amo.specs.Conclusions.{IsAtomicAccess, ReadsWord, IsOperation, form_of, byte_drawn, word_before, word_after, word_stored, undone, AtomicConcludes}
 use Rattle.rept_amo.specs.Conclusions as rules
 use Rattle.rept_amo.specs.Listing.{bytes_drawn, word_drawn, from_both, word_there, word_left, source_of, answer_of, read_drawn, written_drawn, source_back, source_drawn, word_back_drawn, operation_drawn, if_success, stored_drawn, drawn_by, access_drawn}
 
@@ -93,13 +93,13 @@ undone_operation atomic.Maxu a b v e = absurd (unknown e)
 
 -- ---- from the list to the relation
 
-module _ (row : StepRow) (s : Seen) (d : Drawn) (x : Access) (acc : IsAccess row s x) where
-  read_listed : ReadsWord x.form.op → Contains (read_drawn x s) d → Concludes row s d
+module _ (row : StepRow) (s : Seen) (d : Drawn) (x : Access) (acc : IsAtomicAccess row s x) where
+  read_listed : ReadsWord x.form.op → Contains (read_drawn x s) d → AtomicConcludes row s d
   read_listed reads has = elim (Contains-append_cases (register_drawn 19 After x.form.rd (word_there x s)) (word_drawn (word_before 21 x.base) (answer_of x s)) d has) [
     | inl h ↦
         let i = in_register 19 After x.form.rd (word_there x s) d h in
         let w = word_is (s.byte Before) x.base i.0 i.1 in
-        rules.read x (memory_of (s.byte Before)) acc reads w.0 (subst (λ (v : ℕ). Says d 19 After x.form.rd v) w.1 i.2)
+        rules.read x (memory_of (s.byte Before)) acc reads w.0 (subst (λ (v : ℕ). IsOnRegister d 19 After x.form.rd v) w.1 i.2)
     | inr h ↦
         let i = in_word (word_before 21 x.base) (answer_of x s) d h in
         let a = known_after_is s (unless_zero x.form.rd) i.0 i.2 in
@@ -107,7 +107,7 @@ module _ (row : StepRow) (s : Seen) (d : Drawn) (x : Access) (acc : IsAccess row
         rules.read_back x i.0 i.1 acc reads to.1 (subst (λ (r : ℕ). IsKnown s After r i.0) (sym to.0) a.2) i.3 i.4
   ]
 
-  written_listed : IsOperation x.form.op → Contains (written_drawn x s) d → Concludes row s d
+  written_listed : IsOperation x.form.op → Contains (written_drawn x s) d → AtomicConcludes row s d
   written_listed operation has =
       let i = in_word (word_after x.base) (from_both (λ w v. Known (combined x.form.op w v)) (word_there x s) (source_of x s)) d has in
       let p = from_both_is (λ w v. Known (combined x.form.op w v)) (word_there x s) (source_of x s) i.0 i.2 in
@@ -115,13 +115,13 @@ module _ (row : StepRow) (s : Seen) (d : Drawn) (x : Access) (acc : IsAccess row
       let e : i.0 ≡ combined x.form.op (word_at (memory_of (s.byte Before)) x.base) p.1 = sym (known p.4) ∙ ap (λ (n : ℕ). combined x.form.op n p.1) w.1 in
       rules.written x (memory_of (s.byte Before)) p.1 i.1 acc operation (flat_some (s.register Before x.form.rs2) p.1 p.3) w.0 i.3 (i.4 ∙ ap (λ (n : ℕ). byte_drawn (word_after x.base n) i.1) e)
 
-  source_listed : Contains (source_drawn x s) d → Concludes row s d
+  source_listed : Contains (source_drawn x s) d → AtomicConcludes row s d
   source_listed has =
       let i = in_register 22 Before x.form.rs2 (source_back x.form.op (word_there x s) (word_left x s)) d has in
       elim (source_back_is x.form.op (word_there x s) (word_left x s) i.0 i.1) [
         | inl h ↦
             let w = word_is (s.byte After) x.base i.0 h.1 in
-            rules.swapped x (memory_of (s.byte After)) acc h.0 w.0 (subst (λ (v : ℕ). Says d 22 Before x.form.rs2 v) w.1 i.2)
+            rules.swapped x (memory_of (s.byte After)) acc h.0 w.0 (subst (λ (v : ℕ). IsOnRegister d 22 Before x.form.rs2 v) w.1 i.2)
         | inr h ↦
             let p = from_both_is (undone x.form.op) (word_left x s) (word_there x s) i.0 h in
             let w = word_is (s.byte After) x.base p.0 p.2 in
@@ -129,14 +129,14 @@ module _ (row : StepRow) (s : Seen) (d : Drawn) (x : Access) (acc : IsAccess row
             rules.source x (memory_of (s.byte Before)) (memory_of (s.byte After)) i.0 acc u.0 w.0 (ap (λ (n : ℕ). undone x.form.op n (word_at (memory_of (s.byte Before)) x.base)) (sym w.1) ∙ ap (λ (n : ℕ). undone x.form.op p.0 n) (sym u.1) ∙ p.4) i.2
       ]
 
-  word_back_listed : Contains (word_back_drawn x s) d → Concludes row s d
+  word_back_listed : Contains (word_back_drawn x s) d → AtomicConcludes row s d
   word_back_listed has =
       let i = in_word (word_before 23 x.base) (from_both (undone x.form.op) (word_left x s) (source_of x s)) d has in
       let p = from_both_is (undone x.form.op) (word_left x s) (source_of x s) i.0 i.2 in
       let w = word_is (s.byte After) x.base p.0 p.2 in
       rules.word_back x (memory_of (s.byte After)) p.1 i.0 i.1 acc (flat_some (s.register Before x.form.rs2) p.1 p.3) w.0 (ap (λ (n : ℕ). undone x.form.op n p.1) (sym w.1) ∙ p.4) i.3 i.4
 
-  operation_listed : ReadsWord x.form.op → IsOperation x.form.op → Contains (operation_drawn x s) d → Concludes row s d
+  operation_listed : ReadsWord x.form.op → IsOperation x.form.op → Contains (operation_drawn x s) d → AtomicConcludes row s d
   operation_listed reads operation has = elim (Contains-append_cases (read_drawn x s ++ written_drawn x s ++ source_drawn x s) (word_back_drawn x s) d has) [
     | inr h ↦ word_back_listed h
     | inl g ↦ elim (Contains-append_cases (read_drawn x s ++ written_drawn x s) (source_drawn x s) d g) [
@@ -148,7 +148,7 @@ module _ (row : StepRow) (s : Seen) (d : Drawn) (x : Access) (acc : IsAccess row
     ]
   ]
 
-  stored_listed : x.form.op ≡ atomic.Sc → Contains (stored_drawn x s) d → Concludes row s d
+  stored_listed : x.form.op ≡ atomic.Sc → Contains (stored_drawn x s) d → AtomicConcludes row s d
   stored_listed sc has =
       let i = in_word (word_stored x.base) (if_success (answer_of x s) (source_of x s)) d has in
       let p = if_success_is (answer_of x s) (source_of x s) i.0 i.2 in
@@ -156,7 +156,7 @@ module _ (row : StepRow) (s : Seen) (d : Drawn) (x : Access) (acc : IsAccess row
       let to = destination x.form.rd a.0 a.1 in
       rules.stored x i.0 i.1 acc sc to.1 (flat_some (s.register Before x.form.rs2) i.0 p.1) (subst (λ (r : ℕ). IsKnown s After r 0) (sym to.0) a.2) i.3 i.4
 
-  listed_by : (op : AmoOp) → x.form.op ≡ op → Contains (drawn_by op x s) d → Concludes row s d
+  listed_by : (op : AmoOp) → x.form.op ≡ op → Contains (drawn_by op x s) d → AtomicConcludes row s d
   listed_by atomic.Lr e has = read_listed (subst ReadsWord (sym e) tt) has
   listed_by atomic.Sc e has = stored_listed e has
   listed_by atomic.Swap e has = operation_listed (subst ReadsWord (sym e) tt) (subst IsOperation (sym e) tt) has
@@ -169,10 +169,10 @@ module _ (row : StepRow) (s : Seen) (d : Drawn) (x : Access) (acc : IsAccess row
   listed_by atomic.Minu e has = operation_listed (subst ReadsWord (sym e) tt) (subst IsOperation (sym e) tt) has
   listed_by atomic.Maxu e has = operation_listed (subst ReadsWord (sym e) tt) (subst IsOperation (sym e) tt) has
 
-pub listed : (row : StepRow) (s : Seen) (d : Drawn) (form : Form) → form_of row.instr ≡ Some form → Contains (access_drawn form (known_at s Before form.rs1) s) d → Concludes row s d
+pub listed : (row : StepRow) (s : Seen) (d : Drawn) (form : Form) → form_of row.instr ≡ Some form → Contains (access_drawn form (known_at s Before form.rs1) s) d → AtomicConcludes row s d
 listed row s d form is has = go (s.register Before form.rs1) refl has
   where
-    go : (o : Option ℕ) → s.register Before form.rs1 ≡ o → Contains (access_drawn form (flat o) s) d → Concludes row s d
+    go : (o : Option ℕ) → s.register Before form.rs1 ≡ o → Contains (access_drawn form (flat o) s) d → AtomicConcludes row s d
     go None e h = absurd (nothing d h)
     go (Some b) e h = listed_by row s d (record { form = form; base = b }) (record { is_row = is; base = e }) form.op refl h
 
@@ -218,7 +218,7 @@ source_there atomic.Minu before after v e = e
 source_there atomic.Maxu before after v e = e
 
 module _ (row : StepRow) (s : Seen) (d : Drawn) (form : Form) (is : form_of row.instr ≡ Some form) where
-  place_in : (x : Access) → IsAccess row s x → Contains (drawn_by x.form.op x s) d → Contains (access_drawn form (known_at s Before form.rs1) s) d
+  place_in : (x : Access) → IsAtomicAccess row s x → Contains (drawn_by x.form.op x s) d → Contains (access_drawn form (known_at s Before form.rs1) s) d
   place_in x acc has =
       let same : x.form ≡ form = same_some (sym acc.is_row ∙ is) in
       subst (λ (f : Form). Contains (access_drawn f (known_at s Before f.rs1) s) d) same
@@ -234,7 +234,7 @@ module _ (row : StepRow) (s : Seen) (d : Drawn) (form : Form) (is : form_of row.
       named_is zero h = absurd (h refl)
       named_is (suc n) h = rw (over_zero n) refl
 
-  pub concluded : Concludes row s d → Contains (access_drawn form (known_at s Before form.rs1) s) d
+  pub concluded : AtomicConcludes row s d → Contains (access_drawn form (known_at s Before form.rs1) s) d
   concluded (rules.read x m acc reads bytes says) =
       place_in x acc (reads_in x.form.op x s d reads (Contains-append_left (register_drawn 19 After x.form.rd (word_there x s)) (word_drawn (word_before 21 x.base) (answer_of x s)) d
       (register_in 19 After x.form.rd (word_at m x.base) (word_there x s) d (word_from_bytes (s.byte Before) x.base m bytes) says)))

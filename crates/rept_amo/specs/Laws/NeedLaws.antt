@@ -17,7 +17,7 @@ use Rattle.rept_reason.specs.declared.fact.Cell.TheVariants.{Register}
 use Rattle.rept_reason.specs.Facts.{flat}
 use Rattle.rept_view.specs.declared.drawn.Need.{Need}
 use Rattle.rept_view.specs.Rules.{IsRowCell}
-use Rattle.rept_rules.specs.Conclusions.{Says, IsKnown, AreKnown}
+use Rattle.rept_rules.specs.Conclusions.{IsOnRegister, IsKnown, AreKnown}
 use Rattle.rept_rules.specs.Needs.{register_need, both_needs, byte_needs}
 use Rattle.rept_rules.specs.Laws.ValueLemmas.{either_way}
 use Rattle.rept_rules.specs.Laws.SolveLemmas.{unknown}
@@ -25,7 +25,7 @@ use Rattle.rept_rules.specs.Laws.NeedLemmas.{in_need, in_byte_needs, Agree, agre
 use Rattle.rept_amo.specs.declared.form.WordDrawn.{WordDrawn}
 use Rattle.rept_amo.specs.declared.form.Form.{Form}
 use Rattle.rept_amo.specs.declared.form.Access.{Access}
-use Rattle.rept_amo.specs.Conclusions.{IsAccess, IsOperation, form_of, byte_drawn, undone, Concludes}
+use Rattle.rept_amo.specs.Conclusions.{IsAtomicAccess, IsOperation, form_of, byte_drawn, undone, AtomicConcludes}
 use Rattle.rept_amo.specs.Conclusions as rules
 use Rattle.rept_amo.specs.Needs.{source_needs, access_needs, needs_at, needs_by}
 use Rattle.rept_amo.specs.Atomic.{atomic_rules}
@@ -35,11 +35,11 @@ use Rattle.rept_amo.specs.Laws.Own.{access_byte, cell_byte, own_source, own_stor
 
 -- ---- the list of a conclusion
 
-list_is : (row : StepRow) (s : Seen) (d : Drawn) (x : Access) (rule : ℕ) → IsAccess row s x → d.rule ≡ rule → needs_by (form_of row.instr) row s d ≡ access_needs x rule
+list_is : (row : StepRow) (s : Seen) (d : Drawn) (x : Access) (rule : ℕ) → IsAtomicAccess row s x → d.rule ≡ rule → needs_by (form_of row.instr) row s d ≡ access_needs x rule
 list_is row s d x rule acc e =
     ap (λ (o : Option Form). needs_by o row s d) acc.is_row ∙ ap (λ (o : Option ℕ). needs_at x.form (flat o) d.rule) acc.base ∙ ap (λ (n : ℕ). access_needs x n) e
 
-says_rule : (d : Drawn) (rule : ℕ) (when : When) (r v : ℕ) → Says d rule when r v → d.rule ≡ rule
+says_rule : (d : Drawn) (rule : ℕ) (when : When) (r v : ℕ) → IsOnRegister d rule when r v → d.rule ≡ rule
 says_rule d rule when r v says = ap (λ (x : Drawn). x.rule) says.is
 
 byte_rule : (d : Drawn) (w : WordDrawn) (k : ℕ) → d ≡ byte_drawn w k → d.rule ≡ w.rule
@@ -83,15 +83,15 @@ good_pair row s r q f g = elim (either_way (r == q)) [
   | inr h ↦ subst (λ (b : Bool). AreGood row s (if b then register_need Before r else register_need Before r ++ register_need Before q)) (sym h) (good_both row s (register_need Before r) (register_need Before q) f g)
 ]
 
-good_bytes : (row : StepRow) (s : Seen) (when : When) (x : Access) (m : ℕ → ℕ) → IsAccess row s x → AreKnown s when x.base 4 m → AreGood row s (byte_needs when x.base 4)
+good_bytes : (row : StepRow) (s : Seen) (when : When) (x : Access) (m : ℕ → ℕ) → IsAtomicAccess row s x → AreKnown s when x.base 4 m → AreGood row s (byte_needs when x.base 4)
 good_bytes row s when x m acc bytes n has =
     let i = in_byte_needs when x.base 4 n has in
     subst (λ (q : Need). IsGood row s q) (sym i.2) (record { own = cell_byte row s when (beside x.base i.0) (access_byte row s x i.0 acc i.1); value = m (beside x.base i.0); is_known = bytes i.0 i.1 })
 
-good_address : (row : StepRow) (s : Seen) (x : Access) → IsAccess row s x → AreGood row s (register_need Before x.form.rs1)
+good_address : (row : StepRow) (s : Seen) (x : Access) → IsAtomicAccess row s x → AreGood row s (register_need Before x.form.rs1)
 good_address row s x acc = good_register row s Before x.form.rs1 x.base (inl (ap first_read (form_is row.instr x.form acc.is_row))) acc.base
 
-good_answer : (row : StepRow) (s : Seen) (x : Access) (v : ℕ) → IsAccess row s x → x.form.rd ≢ 0 → IsKnown s After x.form.rd v → AreGood row s (register_need After x.form.rd)
+good_answer : (row : StepRow) (s : Seen) (x : Access) (v : ℕ) → IsAtomicAccess row s x → x.form.rd ≢ 0 → IsKnown s After x.form.rd v → AreGood row s (register_need After x.form.rd)
 good_answer row s x v acc named value = good_register row s After x.form.rd v (destination_of row s x acc named) value
 
 module _ (row : StepRow) (s : Seen) (d : Drawn) where
@@ -101,7 +101,7 @@ module _ (row : StepRow) (s : Seen) (d : Drawn) where
   good_list : (xs : List Need) → needs_by (form_of row.instr) row s d ≡ xs → AreGood row s xs → Good
   good_list xs e h = subst (λ (ys : List Need). AreGood row s ys) (sym e) h
 
-  pub good_by : Concludes row s d → Good
+  pub good_by : AtomicConcludes row s d → Good
   good_by (rules.read x m acc reads bytes says) =
       good_list _ (list_is row s d x 19 acc (says_rule d 19 After x.form.rd _ says)) (good_both row s (register_need Before x.form.rs1) (byte_needs Before x.base 4) (good_address row s x acc) (good_bytes row s Before x m acc bytes))
   good_by (rules.written x m v k acc operation value bytes below is) =
@@ -130,13 +130,13 @@ module _ (row : StepRow) (s t : Seen) (d : Drawn) (ls : IsLawful s) (lt : IsLawf
   agree_list : (xs : List Need) → needs_by (form_of row.instr) row s d ≡ xs → Agree s t xs
   agree_list xs e = subst (λ (ys : List Need). Agree s t ys) e h
 
-  still_at : (x : Access) → IsAccess row s x → t.register Before x.form.rs1 ≡ s.register Before x.form.rs1 → IsAccess row t x
+  still_at : (x : Access) → IsAtomicAccess row s x → t.register Before x.form.rs1 ≡ s.register Before x.form.rs1 → IsAtomicAccess row t x
   still_at x acc same = record { is_row = acc.is_row; base = same ∙ acc.base }
 
   still_bytes : (when : When) (base : ℕ) (m : ℕ → ℕ) → AreKnown s when base 4 m → Agree s t (byte_needs when base 4) → AreKnown t when base 4 m
   still_bytes when base m bytes g k below = agree_byte s t when base 4 k below g ∙ bytes k below
 
-  pub again_by : Concludes row s d → Concludes row t d
+  pub again_by : AtomicConcludes row s d → AtomicConcludes row t d
   again_by (rules.read x m acc reads bytes says) =
       let g = agree_list _ (list_is row s d x 19 acc (says_rule d 19 After x.form.rd _ says)) in
       let p = agree_left s t (register_need Before x.form.rs1) (byte_needs Before x.base 4) g in

@@ -1,10 +1,10 @@
 //! The carrying of bytes over rows that may not write them.
 
-ghost use Rattle.std.specs.Prelude.{◌≡◌, ◌↔◌, ◌+◌, ◌<◌, ◌≤◌, ◌⊎◌, ℕ, length, true, false, Some, None, IsSome, IsTrue, IfOk, IfErr, ⊤};
+ghost use Rattle.std.specs.Prelude.{◌≡◌, ◌↔◌, ◌+◌, ◌<◌, ◌≤◌, ◌^◌, ◌⊎◌, ℕ, if◌then◌else◌, length, true, false, Some, None, IsSome, IsTrue, IfSome, IfOk, IfErr, ⊤};
 ghost use Rattle.rept_reason.specs.declared.fact.Cell.TheVariants.{Byte};
-ghost use Rattle.rept_versions.specs.Facts.{Nexts};
+ghost use Rattle.rept_versions.specs.Facts.{KnownValues, Nexts};
 ghost use Rattle.rept_analysis.specs.State.{IsLined, state_of, reader};
-ghost use Rattle.rept_analysis.specs.Drawing.{Knows, IsTracked, Grows, Drew, IsHalt, AreWritings, AreBlocked, IsBlocker, IsBridged, IsBlocked, IsSparedBetween, IsLed, IsSpreadTo, IsCarriedFrom, IsCalm, IsLooseEnd, IsLooseBefore, IsPiece, IsCarriedIf, IsCarriedBeside, IsCarriedIn, AreLinks, IsBrought};
+ghost use Rattle.rept_analysis.specs.Drawing.{Knows, IsTracked, Grows, Drew, IsHalt, AreWritings, AreBlocked, IsBlocker, IsBridged, IsBlocked, IsSparedBetween, IsLed, IsSpreadTo, IsCarriedFrom, IsCalm, IsLooseEnd, IsLooseBefore, IsPiece, IsCarriedIf, IsCarriedBeside, IsCarriedIn, AreLinks, IsBrought, IsHitBy};
 ghost use Rattle.rept_analysis.specs.Told.{Sends};
 ghost use Rattle.rept_reach.specs.Reaching.{IsBar};
 ghost use Rattle.rept_report.specs.Timeline.{IsNextFrom, IsStrip};
@@ -58,6 +58,42 @@ fn has_all(stretch: &Stretch, from: u32, to: u32) -> bool
     ensures { result ≡ true → (stretch.now.first ≤ from) × (to ≤ stretch.now.last) }
 {
     stretch.first <= from && to <= stretch.last
+}
+
+/// A number where what is known differs, and else another one.
+fn like_unless(differs: bool, like: u32, from: u32) -> u32
+    ensures { result ≡ (if differs then from else like) }
+{
+    if differs { from } else { like }
+}
+
+/// Whether a value is known, and is that one.
+fn is_value(here: Option<u8>, value: u8) -> bool
+    ensures { result ≡ true → here ≡ Some value }
+{
+    match here {
+        None => false,
+        Some(known) => known == value,
+    }
+}
+
+/// A number from one on, no further than after the end, before which from there on a value is known, or none, by the first stretch that ends at the one or later.
+fn like_along(stretch: &Stretch, here: Option<u8>, from: u32, end: u32) -> u32
+    requires from { from ≤ end }
+    requires end { end + 1 < 2 ^ 32 }
+    requires reaches { from ≤ stretch.now.last }
+    ensures order { from ≤ result }
+    ensures alike { (f : KnownValues) (a : ℕ) → Nexts f a from (Some stretch.now) → (w : ℕ) → from ≤ w → w < result → f w a ≡ here }
+{
+    if from < stretch.first {
+        return like_unless(here.is_some(), stretch.first, from);
+    }
+    let last = stretch.last.min(end);
+    if is_value(here, stretch.value) {
+        last + 1
+    } else {
+        from
+    }
 }
 
 impl<'a, P: Reaches + Drop, L: LastValues + Drop, B: ByteFacts, W: Transfer, R: RowRules> Analysis<
@@ -234,43 +270,112 @@ impl<'a, P: Reaches + Drop, L: LastValues + Drop, B: ByteFacts, W: Transfer, R: 
         self.blocker(a, m, w).is_none()
     }
 
+    /// The row at an index of the list, if one is named and is there, and may write a byte.
+    fn listed_hit(&self, a: u32, index: Option<usize>) -> Option<u32>
+        requires writings { AreWritings (state_of (reader P.timeline L.values) W.sets W.moves R.rules B.store self.now) }
+        ensures there { IfSome result (λ row. IsSome ((P.timeline self.now.paths).legs.row row)) }
+        ensures hits { IfSome result (λ row. IsHitBy a row (state_of (reader P.timeline L.values) W.sets W.moves R.rules B.store self.now)) }
+    {
+        let Some(k) = index else {
+            return None;
+        };
+        if k >= self.writing_count() {
+            return None;
+        }
+        let entry = self.entry(k);
+        let access = entry.access;
+        if access.may_hit(a) {
+            Some(entry.row)
+        } else {
+            None
+        }
+    }
+
     /// Whether the row at an index of the list, if one is named, may write a byte and falls between a number and one that is next to it.
-    fn blocks(&self, a: u32, m: u32, w: u32, blocker: Option<usize>) -> bool
+    fn blocks(&self, a: u32, m: u32, w: u32, index: Option<usize>) -> bool
         requires writings { AreWritings (state_of (reader P.timeline L.values) W.sets W.moves R.rules B.store self.now) }
         requires next { (P.timeline self.now.paths).moments.next m w ≡ true }
         ensures { result ≡ true → IsBlocked (record { address = a; from = m; to = w }) (state_of (reader P.timeline L.values) W.sets W.moves R.rules B.store self.now) }
     {
-        let Some(k) = blocker else {
-            return false;
-        };
-        if k >= self.writing_count() {
-            return false;
+        match self.listed_hit(a, index) {
+            None => false,
+            Some(row) => self.falls(row, m, w),
         }
-        let entry = self.entry(k);
-        let access = entry.access;
-        if !access.may_hit(a) {
-            return false;
-        }
-        self.falls(entry.row, m, w)
     }
 
-    /// Whether it is sure that a row of the list, if one is named, may write a byte and falls between a number and each one that is next to it.
-    fn is_blocked(&self, a: u32, m: u32, blocker: Option<usize>) -> bool
+    /// Whether it is sure that the row at an index of the list, if one is named, may write a byte and falls between a number and each one that is next to it.
+    fn is_blocked(&self, a: u32, m: u32, index: Option<usize>) -> bool
         requires writings { AreWritings (state_of (reader P.timeline L.values) W.sets W.moves R.rules B.store self.now) }
         ensures { result ≡ true → AreBlocked a m (state_of (reader P.timeline L.values) W.sets W.moves R.rules B.store self.now) }
     {
-        let Some(k) = blocker else {
-            return false;
-        };
-        if k >= self.writing_count() {
+        match self.listed_hit(a, index) {
+            None => false,
+            Some(row) => self.bars(row, m),
+        }
+    }
+
+    /// The index of a row of the list that may stop a byte at a number: the one at which a byte stopped there, or else the one at which any stopped last. No clause rests on which it is.
+    fn wall(&self, a: u32, m: u32) -> Option<usize>
+        requires writings { AreWritings (state_of (reader P.timeline L.values) W.sets W.moves R.rules B.store self.now) }
+    {
+        let index = self.walls.at(m);
+        if self.is_blocked(a, m, index) {
+            index
+        } else {
+            self.walls.last()
+        }
+    }
+
+    /// Whether a row at which a byte stopped before may write this one and falls between a number and each one that is next to it.
+    pub(super) fn is_walled(&self, a: u32, m: u32) -> bool
+        requires writings { AreWritings (state_of (reader P.timeline L.values) W.sets W.moves R.rules B.store self.now) }
+        ensures { result ≡ true → AreBlocked a m (state_of (reader P.timeline L.values) W.sets W.moves R.rules B.store self.now) }
+    {
+        if self.is_blocked(a, m, self.walls.at(m)) {
+            return true;
+        }
+        self.is_blocked(a, m, self.walls.last())
+    }
+
+    /// Keeps at which row of the list, if one is named, a byte stopped at a number.
+    fn note_wall(&mut self, m: u32, index: Option<usize>)
+        ensures { self.new ≡ self.old }
+    {
+        if let Some(k) = index {
+            self.walls.note(m, k);
+        }
+    }
+
+    /// Whether a byte is carried from a number to the one after it, which is next to it; where a row of the list keeps it from that, that is kept.
+    fn is_carried_on(&mut self, a: u32, m: u32) -> bool
+        requires writings { AreWritings (state_of (reader P.timeline L.values) W.sets W.moves R.rules B.store self.old) }
+        requires next { (P.timeline self.old.paths).moments.next m (m + 1) ≡ true }
+        ensures yes { result ≡ true → IsBridged (record { address = a; from = m; to = m + 1 }) (state_of (reader P.timeline L.values) W.sets W.moves R.rules B.store self.old) }
+        ensures no { result ≡ false → IsBlocked (record { address = a; from = m; to = m + 1 }) (state_of (reader P.timeline L.values) W.sets W.moves R.rules B.store self.old) }
+        ensures same { self.new ≡ self.old }
+    {
+        let _end = self.end();
+        if self.is_dark_between(m, m + 1) {
             return false;
         }
-        let entry = self.entry(k);
-        let access = entry.access;
-        if !access.may_hit(a) {
-            return false;
+        let blocker = self.blocker(a, m, m + 1);
+        self.note_wall(m, blocker);
+        blocker.is_none()
+    }
+
+    /// Whether it is seen at once that a byte isn't carried from a number to the one after it, which is next to it: the row that the number is before may write it, or one at which a
+    /// byte stopped before.
+    fn is_stopped(&self, a: u32, m: u32) -> bool
+        requires writings { AreWritings (state_of (reader P.timeline L.values) W.sets W.moves R.rules B.store self.now) }
+        requires next { (P.timeline self.now.paths).moments.next m (m + 1) ≡ true }
+        ensures { result ≡ true → IsBlocked (record { address = a; from = m; to = m + 1 }) (state_of (reader P.timeline L.values) W.sets W.moves R.rules B.store self.now) }
+    {
+        let _end = self.end();
+        let own = self.listed_before(m);
+        if self.blocks(a, m, m + 1, Some(own)) {
+            return true;
         }
-        self.bars(entry.row, m)
+        self.is_walled(a, m)
     }
 
     /// Whether nothing that may write the byte falls at the pause of a strip, if it has one.
@@ -449,7 +554,10 @@ impl<'a, P: Reaches + Drop, L: LastValues + Drop, B: ByteFacts, W: Transfer, R: 
         if m >= end {
             return Ok(false);
         }
-        if !self.is_carried(a, m, m + 1) {
+        if self.is_stopped(a, m) {
+            return Ok(false);
+        }
+        if !self.is_carried_on(a, m) {
             return Ok(false);
         }
         self.carry_segment(a, m, m + 1)
@@ -726,38 +834,78 @@ impl<'a, P: Reaches + Drop, L: LastValues + Drop, B: ByteFacts, W: Transfer, R: 
         Ok(Link { has_news, blocker })
     }
 
-    /// The value of a byte from a number to all that are next to it, and back. Where a row of
-    /// the list, that at an index or one that is found, falls between it and all of them, these are gone over no further.
-    pub(super) fn carry_links(
+    /// A number from one on, before which from there on the same is known of a byte as at another number.
+    fn like_to(&self, a: u32, m: u32, from: u32) -> u32
+        requires inside { from ≤ (P.timeline self.now.paths).moments.end }
+        ensures order { from ≤ result }
+        ensures alike { (w : ℕ) → from ≤ w → w < result → (B.store self.now.known.bytes).fact w a ≡ (B.store self.now.known.bytes).fact m a }
+    {
+        let end = self.end();
+        let here = self.known_byte(m, a);
+        match self.stretch(a, from) {
+            None => like_unless(here.is_some(), end + 1, from),
+            Some(stretch) => like_along(&stretch, here, from, end),
+        }
+    }
+
+    /// The value of a byte from a number to one that is next to it, and back, if it is carried. Answers a number up to which, from the next one on, there is none to which it would go.
+    pub(super) fn carry_next(
         &mut self,
         a: u32,
         m: u32,
+        next: u32,
         blocker: Option<usize>,
-    ) -> Result<Link, Halt>
+    ) -> Result<(Link, u32), Halt>
+        requires inside { m ≤ (P.timeline self.old.paths).moments.end }
+        requires tracked { IsTracked a (state_of (reader P.timeline L.values) W.sets W.moves R.rules B.store self.old) }
+        requires next { (P.timeline self.old.paths).moments.next m next ≡ true }
+        requires writings { AreWritings (state_of (reader P.timeline L.values) W.sets W.moves R.rules B.store self.old) }
+        requires open { self.old.complete ≡ false }
+        ensures grows { Grows (state_of (reader P.timeline L.values) W.sets W.moves R.rules B.store self.old) (state_of (reader P.timeline L.values) W.sets W.moves R.rules B.store self.new) }
+        ensures drew { IfOk result (λ done. Drew (state_of (reader P.timeline L.values) W.sets W.moves R.rules B.store self.old) (state_of (reader P.timeline L.values) W.sets W.moves R.rules B.store self.new) done.0.has_news (λ s. (w : ℕ) → next ≤ w → w < done.1 → IsCarriedIf (record { address = a; from = m; to = w }) s)) }
+        ensures onward { IfOk result (λ done. next < done.1) }
+        ensures halt { IfErr result (λ h. IsHalt (state_of (reader P.timeline L.values) W.sets W.moves R.rules B.store self.new) h) }
+    {
+        let like = self.like_to(a, m, next);
+        if like > next {
+            let link = Link {
+                has_news: false,
+                blocker,
+            };
+            return Ok((link, like));
+        }
+        let link = self.carry_link(a, m, next, blocker)?;
+        Ok((link, next + 1))
+    }
+
+    /// The value of a byte from a number to all that are next to it, and back. Where a row of
+    /// the list, one at which a byte stopped before or one that is found, falls between it and all of them, these are gone over no further.
+    pub(super) fn carry_links(&mut self, a: u32, m: u32) -> Result<bool, Halt>
         requires inside { m ≤ (P.timeline self.old.paths).moments.end }
         requires tracked { IsTracked a (state_of (reader P.timeline L.values) W.sets W.moves R.rules B.store self.old) }
         requires writings { AreWritings (state_of (reader P.timeline L.values) W.sets W.moves R.rules B.store self.old) }
         requires open { self.old.complete ≡ false }
         ensures grows { Grows (state_of (reader P.timeline L.values) W.sets W.moves R.rules B.store self.old) (state_of (reader P.timeline L.values) W.sets W.moves R.rules B.store self.new) }
-        ensures drew { IfOk result (λ link. Drew (state_of (reader P.timeline L.values) W.sets W.moves R.rules B.store self.old) (state_of (reader P.timeline L.values) W.sets W.moves R.rules B.store self.new) link.has_news (AreLinks a m)) }
+        ensures drew { IfOk result (λ has_news. Drew (state_of (reader P.timeline L.values) W.sets W.moves R.rules B.store self.old) (state_of (reader P.timeline L.values) W.sets W.moves R.rules B.store self.new) has_news (AreLinks a m)) }
         ensures halt { IfErr result (λ h. IsHalt (state_of (reader P.timeline L.values) W.sets W.moves R.rules B.store self.new) h) }
     {
         let end = self.end();
         let mut has_news = false;
-        let mut blocker = blocker;
+        let mut blocker = self.wall(a, m);
         let mut least = 0;
         while least <= end {
             if self.is_blocked(a, m, blocker) {
-                return Ok(Link { has_news, blocker });
+                self.note_wall(m, blocker);
+                return Ok(has_news);
             }
             let Some(next) = self.next_from(m, least) else {
-                return Ok(Link { has_news, blocker });
+                return Ok(has_news);
             };
-            let link = self.carry_link(a, m, next, blocker)?;
-            has_news = has_news | link.has_news;
-            blocker = link.blocker;
-            least = next + 1;
+            let done = self.carry_next(a, m, next, blocker)?;
+            has_news = has_news | done.0.has_news;
+            blocker = done.0.blocker;
+            least = done.1;
         }
-        Ok(Link { has_news, blocker })
+        Ok(has_news)
     }
 }

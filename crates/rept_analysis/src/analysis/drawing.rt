@@ -478,8 +478,24 @@ impl<'a, P: Reaches + Drop, L: LastValues + Drop, B: ByteFacts, W: Transfer, R: 
         Ok(learnt)
     }
 
+    /// Whether something was learnt lately of one of the bytes that row i's rules look at.
+    fn has_recent(&self, i: u32, row: &StepRow) -> bool
+        requires { i < (P.timeline self.now.paths).legs.count }
+    {
+        let Some(base) = self.row_base(i, row) else {
+            return false;
+        };
+        let start = address(base, &row.instr);
+        for k in 0..R::places(row).min(4) {
+            if self.recent.has(start.wrapping_add(k)) {
+                return true;
+            }
+        }
+        false
+    }
+
     /// Whether row i may tell something new: something was learnt beside it since it was looked at, or it looks at bytes of which not all
-    /// are known, which are learnt along many rows.
+    /// are known, and of which something was learnt lately, along other rows.
     fn may_tell(&self, i: u32) -> bool
         requires { i < (P.timeline self.now.paths).legs.count }
     {
@@ -493,7 +509,7 @@ impl<'a, P: Reaches + Drop, L: LastValues + Drop, B: ByteFacts, W: Transfer, R: 
         let (first, second) = reads(&row.instr);
         let operands = one_if(first) + one_if(second) + one_if(writes(&row.instr));
         let pass = self.pass(i);
-        places > 0 && !is_with(pass, operands + 2 * places)
+        places > 0 && !is_with(pass, operands + 2 * places) && self.has_recent(i, &row)
     }
 
     /// All that row i lets one conclude, where it may tell something new.

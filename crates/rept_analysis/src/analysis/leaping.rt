@@ -1,23 +1,28 @@
 //! How far a byte's value goes at once, and over all moments.
 
-ghost use Rattle.std.specs.Prelude.{◌≡◌, ◌+◌, ◌<◌, ◌≤◌, ℕ, length, false, true, IfOk, IfErr, ⊤};
+ghost use Rattle.std.specs.Prelude.{◌≡◌, ◌+◌, ◌<◌, ◌≤◌, ℕ, length, false, true, IfSome, IfOk, IfErr, ⊤};
 ghost use Rattle.rept_reason.specs.declared.fact.Cell.TheVariants.{Byte};
 ghost use Rattle.rept_reach.specs.Reaching.{IsLeaving, IsReachedUp, IsReachedDown};
 ghost use Rattle.rept_report.specs.Timeline.{IsStrip};
 ghost use Rattle.rept_analysis.specs.State.{state_of, reader};
-ghost use Rattle.rept_analysis.specs.Drawing.{Knows, IsTracked, Grows, Drew, IsHalt, AreWritings, IsEven, IsCarriedUpTo, IsCarriedAlong, AllCarried, IsLeapUp, IsLeapDown};
+ghost use Rattle.rept_analysis.specs.Drawing.{Knows, IsTracked, Grows, Drew, IsHalt, AreWritings, IsEven, IsCarriedUpTo, IsCarriedAlong, AllCarried, IsLeapUp, IsLeapDown, IsEvenAround};
 
 use super::Analysis;
 use super::carrying::border;
 use crate::halt::Halt;
 use crate::leap::Leap;
-use crate::link::{Journey, Link};
 use rept_log::LastValues;
 use rept_reach::{Reaches, Window};
 use rept_report::paths::Strip;
 use rept_span::Transfer;
 use rept_versions::ByteFacts;
 use rept_view::RowRules;
+
+/// So far back it is looked at first for numbers at which the same is known.
+const FAR: u32 = 4096;
+
+/// And so far where that was too far.
+const NEAR: u32 = 256;
 
 impl<'a, P: Reaches + Drop, L: LastValues + Drop, B: ByteFacts, W: Transfer, R: RowRules> Analysis<
     'a,
@@ -27,13 +32,14 @@ impl<'a, P: Reaches + Drop, L: LastValues + Drop, B: ByteFacts, W: Transfer, R: 
     W,
     R,
 > {
-    /// A number from one on, up to another one, before which no number from there on has a next one that isn't among these.
-    fn leaving_from(&self, least: u32, most: u32) -> u32
-        requires order { least ≤ most }
-        requires inside { most ≤ (P.timeline self.now.paths).moments.end }
-        ensures { IsLeaving (P.timeline self.now.paths).moments least most result }
+    /// A number from one on, before the end of a window, before which no number from there on has a next one outside the window.
+    fn leaving_from(&self, least: u32, known: Window) -> u32
+        requires since { known.from ≤ least }
+        requires order { least < known.to }
+        requires inside { known.to ≤ (P.timeline self.now.paths).moments.end + 1 }
+        ensures { IsLeaving (P.timeline self.now.paths).moments known least result }
     {
-        self.paths.leaving_from(least, most)
+        self.paths.leaving_from(least, known)
     }
 
     /// A number up to which, but no further than another one, each number after those of a window is next to an earlier one that isn't below the window.
@@ -68,16 +74,84 @@ impl<'a, P: Reaches + Drop, L: LastValues + Drop, B: ByteFacts, W: Transfer, R: 
         }
     }
 
-    /// A number from one on, before which a byte is carried no further: the same is known of it at each number from there on and at those next to it.
+    /// Numbers around one at which the same is known of a byte, by the first stretch that ends at another one or later.
+    fn window_from(&self, a: u32, since: u32, number: u32) -> Option<Window>
+        requires order { since ≤ number }
+        requires inside { number ≤ (P.timeline self.now.paths).moments.end }
+        ensures window { IfSome result (λ known. IsEvenAround a number known (state_of (reader P.timeline L.values) W.sets W.moves R.rules B.store self.now)) }
+    {
+        let end = self.end();
+        match self.stretch(a, since) {
+            None => Some(Window {
+                from: since,
+                to: end + 1,
+            }),
+            Some(stretch) if stretch.last < number => None,
+            Some(stretch) if number < stretch.first => Some(Window {
+                from: since,
+                to: stretch.first.min(end + 1),
+            }),
+            Some(stretch) => Some(Window {
+                from: since.max(stretch.first),
+                to: stretch.last.min(end) + 1,
+            }),
+        }
+    }
+
+    /// Numbers around one at which the same is known of a byte: those before it are looked for a while back.
+    fn even_around(&self, a: u32, number: u32) -> Window
+        requires inside { number ≤ (P.timeline self.now.paths).moments.end }
+        ensures { IsEvenAround a number result (state_of (reader P.timeline L.values) W.sets W.moves R.rules B.store self.now) }
+    {
+        if let Some(known) = self.window_from(a, number.saturating_sub(FAR), number) {
+            return known;
+        }
+        match self.window_from(a, number.saturating_sub(NEAR), number) {
+            Some(known) => known,
+            None => Window {
+                from: number,
+                to: self.even_to(a, number) + 1,
+            },
+        }
+    }
+
+    /// A number from one on, before which a byte goes over the end of no strip: the same is known from the one up to another one, and at the last number of each strip on the way a byte
+    /// stopped at a row that may write this one, too.
+    fn walled_to(&self, a: u32, from: u32, last: u32) -> u32
+        requires order { from ≤ last }
+        requires inside { last ≤ (P.timeline self.now.paths).moments.end }
+        requires even { IsEven a from last (state_of (reader P.timeline L.values) W.sets W.moves R.rules B.store self.now) }
+        requires writings { AreWritings (state_of (reader P.timeline L.values) W.sets W.moves R.rules B.store self.now) }
+        ensures order { from ≤ result }
+        ensures up { IsCarriedUpTo a from (state_of (reader P.timeline L.values) W.sets W.moves R.rules B.store self.now) → IsCarriedUpTo a result (state_of (reader P.timeline L.values) W.sets W.moves R.rules B.store self.now) }
+    {
+        let mut number = from;
+        while number <= last {
+            let strip = self.strip(number);
+            if last < strip.last || !self.is_walled(a, strip.last) {
+                return number;
+            }
+            number = strip.last + 1;
+        }
+        number
+    }
+
+    /// A number from one on, before which a byte is carried no further: the same is known of it at each number from there on and at those next to it, or a row that may write it
+    /// falls between them.
     fn uneven_from(&self, a: u32, from: u32) -> u32
+        requires writings { AreWritings (state_of (reader P.timeline L.values) W.sets W.moves R.rules B.store self.now) }
         ensures order { from ≤ result }
         ensures up { IsCarriedUpTo a from (state_of (reader P.timeline L.values) W.sets W.moves R.rules B.store self.now) → IsCarriedUpTo a result (state_of (reader P.timeline L.values) W.sets W.moves R.rules B.store self.now) }
     {
         if from > self.end() {
             return from;
         }
-        let most = self.even_to(a, from);
-        self.leaving_from(from, most)
+        let known = self.even_around(a, from);
+        let walled = self.walled_to(a, from, known.to - 1);
+        if walled >= known.to {
+            return walled;
+        }
+        self.leaving_from(walled, known)
     }
 
     /// Whether a byte is known anywhere, so that it is tracked.
@@ -260,41 +334,56 @@ impl<'a, P: Reaches + Drop, L: LastValues + Drop, B: ByteFacts, W: Transfer, R: 
         Ok((inside | down.0, down.1))
     }
 
-    /// The value of a byte to the end of the strip before a number from those that are next to it, and down from there, where it isn't known there. Answers a number up to which it was
-    /// looked for.
-    fn carry_former(&mut self, a: u32, first: u32, blocker: Option<usize>) -> Result<Journey, Halt>
+    /// The value of a byte to a number from those of a window that are next to it.
+    fn carry_from(&mut self, a: u32, m: u32, known: Window) -> Result<bool, Halt>
+        requires inside { m ≤ (P.timeline self.old.paths).moments.end }
+        requires tracked { IsTracked a (state_of (reader P.timeline L.values) W.sets W.moves R.rules B.store self.old) }
+        requires writings { AreWritings (state_of (reader P.timeline L.values) W.sets W.moves R.rules B.store self.old) }
+        requires open { self.old.complete ≡ false }
+        ensures grows { Grows (state_of (reader P.timeline L.values) W.sets W.moves R.rules B.store self.old) (state_of (reader P.timeline L.values) W.sets W.moves R.rules B.store self.new) }
+        ensures drew { IfOk result (λ learnt. Drew (state_of (reader P.timeline L.values) W.sets W.moves R.rules B.store self.old) (state_of (reader P.timeline L.values) W.sets W.moves R.rules B.store self.new) learnt (λ _. ⊤)) }
+        ensures halt { IfErr result (λ h. IsHalt (state_of (reader P.timeline L.values) W.sets W.moves R.rules B.store self.new) h) }
+    {
+        let mut learnt = false;
+        let mut least = known.from;
+        while least < known.to {
+            let Some(next) = self.next_from(m, least) else {
+                return Ok(learnt);
+            };
+            if next >= known.to {
+                return Ok(learnt);
+            }
+            let blocker = self.walls.last();
+            let done = self.carry_next(a, m, next, blocker)?;
+            learnt = learnt | done.0.has_news;
+            least = done.1;
+        }
+        Ok(learnt)
+    }
+
+    /// The value of a byte to the end of the strip before a number from those of a window that are next to it, and down from there, where it isn't known there. Answers whether it was
+    /// new, and a number up to which it was looked for.
+    fn carry_former(&mut self, a: u32, first: u32, known: Window) -> Result<(bool, u32), Halt>
         requires some { 0 < first }
         requires inside { first ≤ (P.timeline self.old.paths).moments.end }
         requires tracked { IsTracked a (state_of (reader P.timeline L.values) W.sets W.moves R.rules B.store self.old) }
         requires writings { AreWritings (state_of (reader P.timeline L.values) W.sets W.moves R.rules B.store self.old) }
         requires open { self.old.complete ≡ false }
         ensures grows { Grows (state_of (reader P.timeline L.values) W.sets W.moves R.rules B.store self.old) (state_of (reader P.timeline L.values) W.sets W.moves R.rules B.store self.new) }
-        ensures drew { IfOk result (λ x. Drew (state_of (reader P.timeline L.values) W.sets W.moves R.rules B.store self.old) (state_of (reader P.timeline L.values) W.sets W.moves R.rules B.store self.new) x.has_news (λ _. ⊤)) }
+        ensures drew { IfOk result (λ ended. Drew (state_of (reader P.timeline L.values) W.sets W.moves R.rules B.store self.old) (state_of (reader P.timeline L.values) W.sets W.moves R.rules B.store self.new) ended.0 (λ _. ⊤)) }
         ensures halt { IfErr result (λ h. IsHalt (state_of (reader P.timeline L.values) W.sets W.moves R.rules B.store self.new) h) }
-        ensures down { IfOk result (λ x. x.number < first) }
+        ensures down { IfOk result (λ ended. ended.1 < first) }
     {
         let former = self.strip(first - 1);
         if self.known_byte(former.last, a).is_some() {
-            return Ok(Journey {
-                has_news: false,
-                number: former.first,
-                blocker,
-            });
+            return Ok((false, former.first));
         }
-        let links = self.carry_links(a, former.last, blocker)?;
-        if !links.has_news {
-            return Ok(Journey {
-                has_news: links.has_news,
-                number: former.first,
-                blocker: links.blocker,
-            });
+        let new = self.carry_from(a, former.last, known)?;
+        if !new {
+            return Ok((false, former.first));
         }
         let under = self.carry_under(a, former)?;
-        Ok(Journey {
-            has_news: links.has_news | under.0,
-            number: under.1,
-            blocker: links.blocker,
-        })
+        Ok((true, under.1))
     }
 
     /// The value of a byte down from the first number of a strip, and back through the strips before it that lead to one where it was new. That this is done at once saves rounds: no
@@ -309,16 +398,17 @@ impl<'a, P: Reaches + Drop, L: LastValues + Drop, B: ByteFacts, W: Transfer, R: 
         ensures halt { IfErr result (λ h. IsHalt (state_of (reader P.timeline L.values) W.sets W.moves R.rules B.store self.new) h) }
     {
         let down = self.leap_down(a, number)?;
+        let to = self.even_to(a, number) + 1;
         let mut learnt = down.0;
         let mut first = down.1;
+        let mut from = first;
         let mut low = self.least_former(first);
-        let mut blocker = None;
         while first > low {
-            let former = self.carry_former(a, first, blocker)?;
-            learnt = learnt | former.has_news;
-            first = former.number;
-            blocker = former.blocker;
-            if former.has_news {
+            let former = self.carry_former(a, first, Window { from, to })?;
+            learnt = learnt | former.0;
+            first = former.1;
+            if former.0 {
+                from = first;
                 low = low.min(self.least_former(first));
             }
         }
@@ -326,45 +416,38 @@ impl<'a, P: Reaches + Drop, L: LastValues + Drop, B: ByteFacts, W: Transfer, R: 
     }
 
     /// The value of a byte from a number to those that are next to it, where it is known there.
-    fn carry_links_on(&mut self, a: u32, m: u32, blocker: Option<usize>) -> Result<Link, Halt>
+    fn carry_links_on(&mut self, a: u32, m: u32) -> Result<bool, Halt>
         requires inside { m ≤ (P.timeline self.old.paths).moments.end }
         requires tracked { IsTracked a (state_of (reader P.timeline L.values) W.sets W.moves R.rules B.store self.old) }
         requires writings { AreWritings (state_of (reader P.timeline L.values) W.sets W.moves R.rules B.store self.old) }
         requires open { self.old.complete ≡ false }
         ensures grows { Grows (state_of (reader P.timeline L.values) W.sets W.moves R.rules B.store self.old) (state_of (reader P.timeline L.values) W.sets W.moves R.rules B.store self.new) }
-        ensures drew { IfOk result (λ link. Drew (state_of (reader P.timeline L.values) W.sets W.moves R.rules B.store self.old) (state_of (reader P.timeline L.values) W.sets W.moves R.rules B.store self.new) link.has_news (λ _. ⊤)) }
+        ensures drew { IfOk result (λ learnt. Drew (state_of (reader P.timeline L.values) W.sets W.moves R.rules B.store self.old) (state_of (reader P.timeline L.values) W.sets W.moves R.rules B.store self.new) learnt (λ _. ⊤)) }
         ensures halt { IfErr result (λ h. IsHalt (state_of (reader P.timeline L.values) W.sets W.moves R.rules B.store self.new) h) }
     {
         if self.known_byte(m, a).is_none() {
-            return Ok(Link {
-                has_news: false,
-                blocker,
-            });
+            return Ok(false);
         }
-        self.carry_links(a, m, blocker)
+        self.carry_links(a, m)
     }
 
-    /// The value of a byte in the strip around a number, up from it, and on to the numbers next to it, where it is known there. Answers its last number.
-    fn carry_later(&mut self, a: u32, first: u32, blocker: Option<usize>) -> Result<Journey, Halt>
+    /// The value of a byte in the strip around a number, up from it, and on to the numbers next to it, where it is known there. Answers whether it was new, and its last number.
+    fn carry_later(&mut self, a: u32, first: u32) -> Result<(bool, u32), Halt>
         requires inside { first ≤ (P.timeline self.old.paths).moments.end }
         requires tracked { IsTracked a (state_of (reader P.timeline L.values) W.sets W.moves R.rules B.store self.old) }
         requires writings { AreWritings (state_of (reader P.timeline L.values) W.sets W.moves R.rules B.store self.old) }
         requires open { self.old.complete ≡ false }
         ensures grows { Grows (state_of (reader P.timeline L.values) W.sets W.moves R.rules B.store self.old) (state_of (reader P.timeline L.values) W.sets W.moves R.rules B.store self.new) }
-        ensures drew { IfOk result (λ x. Drew (state_of (reader P.timeline L.values) W.sets W.moves R.rules B.store self.old) (state_of (reader P.timeline L.values) W.sets W.moves R.rules B.store self.new) x.has_news (λ _. ⊤)) }
+        ensures drew { IfOk result (λ ended. Drew (state_of (reader P.timeline L.values) W.sets W.moves R.rules B.store self.old) (state_of (reader P.timeline L.values) W.sets W.moves R.rules B.store self.new) ended.0 (λ _. ⊤)) }
         ensures halt { IfErr result (λ h. IsHalt (state_of (reader P.timeline L.values) W.sets W.moves R.rules B.store self.new) h) }
-        ensures up { IfOk result (λ x. (first ≤ x.number) × (x.number ≤ (P.timeline self.old.paths).moments.end)) }
+        ensures up { IfOk result (λ ended. (first ≤ ended.1) × (ended.1 ≤ (P.timeline self.old.paths).moments.end)) }
     {
         let later = self.strip(first);
         let inside = self.carry_strip(a, later)?;
         let up = self.leap_up(a, later.last)?;
         let number = self.strip(up.1).last;
-        let links = self.carry_links_on(a, number, blocker)?;
-        Ok(Journey {
-            has_news: inside | up.0 | links.has_news,
-            number,
-            blocker: links.blocker,
-        })
+        let links = self.carry_links_on(a, number)?;
+        Ok((inside | up.0 | links, number))
     }
 
     /// The value of a byte at the last number of a strip, on through those strips to which one leads where it was new.
@@ -377,21 +460,34 @@ impl<'a, P: Reaches + Drop, L: LastValues + Drop, B: ByteFacts, W: Transfer, R: 
         ensures drew { IfOk result (λ learnt. Drew (state_of (reader P.timeline L.values) W.sets W.moves R.rules B.store self.old) (state_of (reader P.timeline L.values) W.sets W.moves R.rules B.store self.new) learnt (λ _. ⊤)) }
         ensures halt { IfErr result (λ h. IsHalt (state_of (reader P.timeline L.values) W.sets W.moves R.rules B.store self.new) h) }
     {
-        let links = self.carry_links_on(a, number, None)?;
-        let mut learnt = links.has_news;
-        let mut blocker = links.blocker;
+        let mut learnt = self.carry_links_on(a, number)?;
         let mut last = number;
         let mut high = self.greatest_next(last);
         while last < high {
-            let later = self.carry_later(a, last + 1, blocker)?;
-            learnt = learnt | later.has_news;
-            last = later.number;
-            blocker = later.blocker;
-            if later.has_news {
+            let later = self.carry_later(a, last + 1)?;
+            learnt = learnt | later.0;
+            last = later.1;
+            if later.0 {
                 high = high.max(self.greatest_next(last));
             }
         }
         Ok(learnt)
+    }
+
+    /// The value of a byte up from a number, where it is known there and not at the one after it.
+    fn leap_end(&mut self, a: u32, number: u32) -> Result<bool, Halt>
+        requires inside { number ≤ (P.timeline self.old.paths).moments.end }
+        requires writings { AreWritings (state_of (reader P.timeline L.values) W.sets W.moves R.rules B.store self.old) }
+        requires open { self.old.complete ≡ false }
+        ensures grows { Grows (state_of (reader P.timeline L.values) W.sets W.moves R.rules B.store self.old) (state_of (reader P.timeline L.values) W.sets W.moves R.rules B.store self.new) }
+        ensures drew { IfOk result (λ learnt. Drew (state_of (reader P.timeline L.values) W.sets W.moves R.rules B.store self.old) (state_of (reader P.timeline L.values) W.sets W.moves R.rules B.store self.new) learnt (λ _. ⊤)) }
+        ensures halt { IfErr result (λ h. IsHalt (state_of (reader P.timeline L.values) W.sets W.moves R.rules B.store self.new) h) }
+    {
+        if self.even_to(a, number) > number {
+            return Ok(false);
+        }
+        let up = self.leap_up(a, number)?;
+        Ok(up.0)
     }
 
     /// The value of a byte back from the beginning of each of its stretches.
@@ -431,15 +527,13 @@ impl<'a, P: Reaches + Drop, L: LastValues + Drop, B: ByteFacts, W: Transfer, R: 
         let end = self.end();
         let mut learnt = false;
         let mut from = 0;
-        let mut blocker = None;
         while from <= end {
             self.held();
             let strip = self.strip(from);
             let inside = self.carry_strip(a, strip)?;
-            let up = self.leap_up(a, strip.last)?;
-            let links = self.carry_links(a, strip.last, blocker)?;
-            learnt = learnt | inside | up.0 | links.has_news;
-            blocker = links.blocker;
+            let up = self.leap_end(a, strip.last)?;
+            let links = self.carry_links(a, strip.last)?;
+            learnt = learnt | inside | up | links;
             from = self.uneven_from(a, strip.last + 1);
         }
         Ok(learnt)

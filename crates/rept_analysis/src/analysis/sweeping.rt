@@ -1,13 +1,13 @@
 //! All rules once: rows, last values and bytes, and sets of one value.
 
-ghost use Rattle.std.specs.Prelude.{⊤, ◌≡◌, ◌+◌, ◌<◌, ◌≤◌, length, false, IfOk, IfErr, IfSome, Some, None, Ok, Err};
+ghost use Rattle.std.specs.Prelude.{⊤, ◌≡◌, ◌+◌, ◌<◌, ◌≤◌, false, IfOk, IfErr, IfSome, Some, None, Ok};
 ghost use Rattle.rept_dump.specs.Memory.{crash_byte};
 ghost use Rattle.rept_dump.specs.Program.{contents};
 ghost use Rattle.rept_report.specs.Setting.{IsLast};
 ghost use Rattle.rept_report.specs.Timeline.{IsLastFrom};
 ghost use Rattle.rept_analysis.specs.Begun.{HasEndsAlone, HasEndsFirst, LearnsEndsFirst};
 ghost use Rattle.rept_analysis.specs.State.{setting_of, state_of, reader};
-ghost use Rattle.rept_analysis.specs.Drawing.{IsTracked, Grows, Drew, IsHalt, IsFitted, LastKnownAt, LastPointKnown, AreWritings, AreExact, AllCarried, IsUncut, RowsClosed, LastByteKnown, LastBytesKnown, SingleKnown, PointSingles, SinglesKnown, IsDrawnAll, LastKnownBelow};
+ghost use Rattle.rept_analysis.specs.Drawing.{IsTracked, Grows, Drew, IsHalt, IsFitted, LastKnownAt, LastPointKnown, AreWritings, AreExact, IsUncut, RowsClosed, LastByteKnown, LastBytesKnown, SingleKnown, PointSingles, SinglesKnown, IsDrawnAll, LastKnownBelow};
 
 use super::Analysis;
 use crate::halt::Halt;
@@ -298,21 +298,52 @@ impl<'a, P: Reaches + Drop, L: LastValues + Drop, B: ByteFacts, W: Transfer, R: 
         Ok(true)
     }
 
-    /// The values of the tracked bytes of which something was learnt lately over all rows, and the bytes of the dump; nothing where the rows told news, since rows carry the bytes that
-    /// they look at by themselves.
+    /// The values of the tracked bytes of which something was learnt lately; where that told nothing, the bytes of the dump.
+    fn carry_and_end(&mut self) -> Result<bool, Halt>
+        requires writings { AreWritings (state_of (reader P.timeline L.values) W.sets W.moves R.rules B.store self.old) }
+        requires open { self.old.complete ≡ false }
+        ensures grows { Grows (state_of (reader P.timeline L.values) W.sets W.moves R.rules B.store self.old) (state_of (reader P.timeline L.values) W.sets W.moves R.rules B.store self.new) }
+        ensures drew { IfOk result (λ learnt. Drew (state_of (reader P.timeline L.values) W.sets W.moves R.rules B.store self.old) (state_of (reader P.timeline L.values) W.sets W.moves R.rules B.store self.new) learnt (LastBytesKnown)) }
+        ensures halt { IfErr result (λ h. IsHalt (state_of (reader P.timeline L.values) W.sets W.moves R.rules B.store self.new) h) }
+    {
+        let carried = self.carry_all_told()?;
+        if carried {
+            return Ok(true);
+        }
+        self.draw_last_bytes()
+    }
+
+    /// Bytes and rows by turns, as long as the bytes tell something new, but so many times at most: so the sets are filled seldom where little is learnt at a time.
+    fn carry_by_turns(&mut self, most: u32) -> Result<bool, Halt>
+        requires writings { AreWritings (state_of (reader P.timeline L.values) W.sets W.moves R.rules B.store self.old) }
+        requires open { self.old.complete ≡ false }
+        requires uncut { IsUncut (state_of (reader P.timeline L.values) W.sets W.moves R.rules B.store self.old) }
+        ensures grows { Grows (state_of (reader P.timeline L.values) W.sets W.moves R.rules B.store self.old) (state_of (reader P.timeline L.values) W.sets W.moves R.rules B.store self.new) }
+        ensures drew { IfOk result (λ learnt. Drew (state_of (reader P.timeline L.values) W.sets W.moves R.rules B.store self.old) (state_of (reader P.timeline L.values) W.sets W.moves R.rules B.store self.new) learnt (LastBytesKnown)) }
+        ensures halt { IfErr result (λ h. IsHalt (state_of (reader P.timeline L.values) W.sets W.moves R.rules B.store self.new) h) }
+    {
+        let bytes = self.carry_and_end()?;
+        if !bytes || most == 0 {
+            return Ok(bytes);
+        }
+        self.draw_through()?;
+        self.carry_by_turns(most - 1)?;
+        Ok(true)
+    }
+
+    /// Bytes and rows by turns; nothing in the first round where the rows told news, since rows carry the bytes that they look at by themselves.
     fn carry_rest(&mut self, has_news: bool) -> Result<bool, Halt>
         requires writings { AreWritings (state_of (reader P.timeline L.values) W.sets W.moves R.rules B.store self.old) }
         requires open { self.old.complete ≡ false }
+        requires uncut { IsUncut (state_of (reader P.timeline L.values) W.sets W.moves R.rules B.store self.old) }
         ensures grows { Grows (state_of (reader P.timeline L.values) W.sets W.moves R.rules B.store self.old) (state_of (reader P.timeline L.values) W.sets W.moves R.rules B.store self.new) }
         ensures drew { IfOk result (λ learnt. Drew (state_of (reader P.timeline L.values) W.sets W.moves R.rules B.store self.old) (state_of (reader P.timeline L.values) W.sets W.moves R.rules B.store self.new) learnt (λ s. has_news ≡ false → LastBytesKnown s)) }
         ensures halt { IfErr result (λ h. IsHalt (state_of (reader P.timeline L.values) W.sets W.moves R.rules B.store self.new) h) }
     {
-        if has_news {
+        if has_news && self.is_first_round() {
             return Ok(false);
         }
-        let carried = self.carry_all_told()?;
-        let bytes = self.draw_last_bytes()?;
-        Ok(carried | bytes)
+        self.carry_by_turns(PASSES)
     }
 
     /// All rules once, with the rows and bytes that may tell something new: last values, rows, carried bytes, last bytes, and sets of one value. Bytes

@@ -2,7 +2,7 @@
 
 ghost use Rattle.std.specs.Prelude.{◌≤◌, ℕ, List};
 ghost use Rattle.std.specs.Str.Lines.{strip_carriage_return};
-ghost use Rattle.rept_ports.specs.Lines.{Holds, IsFound, IsLast};
+ghost use Rattle.rept_ports.specs.Lines.{HoldsLine, IsFound, IsLastLine};
 
 use crate::lines::limits::MOST_LINE;
 use arrayvec::ArrayVec;
@@ -20,7 +20,7 @@ pub type LineBytes = ArrayVec<u8, 257>;
 
 /// What a line is that ends here, whose carriage return is taken off.
 pub fn finish(line: &mut LineBytes, is_long: bool) -> Found
-    ensures { (front : List ℕ) → Holds line.old.items is_long front → IsFound result line.new.items (strip_carriage_return front) }
+    ensures { (front : List ℕ) → HoldsLine line.old.items is_long front → IsFound result line.new.items (strip_carriage_return front) }
 {
     if is_long {
         return Found::Long;
@@ -36,7 +36,7 @@ pub fn finish(line: &mut LineBytes, is_long: bool) -> Found
 
 /// What stands after the last newline.
 pub fn at_end(line: &LineBytes, is_long: bool) -> Found
-    ensures { (front : List ℕ) → Holds line.now.items is_long front → IsLast result line.now.items front }
+    ensures { (front : List ℕ) → HoldsLine line.now.items is_long front → IsLastLine result line.now.items front }
 {
     if is_long || line.len() > MOST_LINE {
         return Found::Long;

@@ -15,7 +15,7 @@ use Rattle.rept_view.specs.declared.drawn.When.{When}
 use Rattle.rept_view.specs.declared.drawn.When.TheVariants.{After}
 use Rattle.rept_view.specs.declared.drawn.Drawn.{Drawn}
 use Rattle.rept_view.specs.Seen.{Seen}
-use Rattle.rept_rules.specs.Conclusions.{Says, on_register, on_byte, load_width}
+use Rattle.rept_rules.specs.Conclusions.{IsOnRegister, on_register, on_byte, load_width}
 use Rattle.rept_rules.specs.Listing.{is_named, register_drawn, some_drawn, bytes_drawn, known_bytes_drawn, two_bytes, four_bytes, half_from, word_from, extended_from, loaded_from, at_known, known_after}
 use Rattle.rept_rules.specs.Laws.ValueLemmas.{either_way}
 use Rattle.rept_rules.specs.Laws.SolveLemmas.{known, unknown}
@@ -45,22 +45,22 @@ is_named_by : (r : ℕ) → 0 < r → r < 32 → is_named r ≡ true
 is_named_by r some few = grind (arith, some, few)
 
 -- a conclusion on a register
-pub in_register : (rule : ℕ) (when : When) (r : ℕ) (x : Flat) (d : Drawn) → Contains (register_drawn rule when r x) d → (v : ℕ) × (x ≡ Known v) × Says d rule when r v
+pub in_register : (rule : ℕ) (when : When) (r : ℕ) (x : Flat) (d : Drawn) → Contains (register_drawn rule when r x) d → (v : ℕ) × (x ≡ Known v) × IsOnRegister d rule when r v
 in_register rule when r Unknown d has = absurd (nothing d has)
 in_register rule when r (Known v) d has = elim (either_way (is_named r)) [
   | inl t ↦ let n = named r t in (v, refl, record { named = n.0; in_file = n.1; is = single (on_register rule when r v) d (subst (λ (b : Bool). Contains (if b then on_register rule when r v ∷ [] else []) d) t has) })
   | inr f ↦ absurd (nothing d (subst (λ (b : Bool). Contains (if b then on_register rule when r v ∷ [] else []) d) f has))
 ]
 
-pub register_in : (rule : ℕ) (when : When) (r v : ℕ) (x : Flat) (d : Drawn) → x ≡ Known v → Says d rule when r v → Contains (register_drawn rule when r x) d
+pub register_in : (rule : ℕ) (when : When) (r v : ℕ) (x : Flat) (d : Drawn) → x ≡ Known v → IsOnRegister d rule when r v → Contains (register_drawn rule when r x) d
 register_in rule when r v x d e says =
     subst (λ (y : Flat). Contains (register_drawn rule when r y) d) (sym e) (subst (λ (b : Bool). Contains (if b then on_register rule when r v ∷ [] else []) d) (sym (is_named_by r says.named says.in_file)) (has_single (on_register rule when r v) d says.is))
 
-pub in_some : (rule : ℕ) (when : When) (o : Option ℕ) (x : Flat) (d : Drawn) → Contains (some_drawn rule when o x) d → (r v : ℕ) × (o ≡ Some r) × (x ≡ Known v) × Says d rule when r v
+pub in_some : (rule : ℕ) (when : When) (o : Option ℕ) (x : Flat) (d : Drawn) → Contains (some_drawn rule when o x) d → (r v : ℕ) × (o ≡ Some r) × (x ≡ Known v) × IsOnRegister d rule when r v
 in_some rule when None x d has = absurd (nothing d has)
 in_some rule when (Some r) x d has = let i = in_register rule when r x d has in (r, i.0, refl, i.1, i.2)
 
-pub some_in : (rule : ℕ) (when : When) (r v : ℕ) (o : Option ℕ) (x : Flat) (d : Drawn) → o ≡ Some r → x ≡ Known v → Says d rule when r v → Contains (some_drawn rule when o x) d
+pub some_in : (rule : ℕ) (when : When) (r v : ℕ) (o : Option ℕ) (x : Flat) (d : Drawn) → o ≡ Some r → x ≡ Known v → IsOnRegister d rule when r v → Contains (some_drawn rule when o x) d
 some_in rule when r v o x d named e says = subst (λ (y : Option ℕ). Contains (some_drawn rule when y x) d) (sym named) (register_in rule when r v x d e says)
 
 -- conclusions on bytes

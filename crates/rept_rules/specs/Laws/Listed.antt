@@ -20,7 +20,7 @@ use Rattle.rept_view.specs.Seen.{Seen}
 use Rattle.rept_rules.specs.declared.operand.Side.{Side}
 use Rattle.rept_rules.specs.declared.operand.Side.TheVariants.{First, Second}
 use Rattle.rept_rules.specs.Operands.{copied, operand_of, opposite, solve_of}
-use Rattle.rept_rules.specs.Conclusions.{Concludes, Says, IsKnown, AreKnown, on_register, on_byte, seen_operand, load_width, solving_rule, equates}
+use Rattle.rept_rules.specs.Conclusions.{ConcludesByRow, IsOnRegister, IsKnown, AreKnown, on_register, on_byte, seen_operand, load_width, solving_rule, equates}
 use Rattle.rept_rules.specs.Conclusions as rules
 use Rattle.rept_rules.specs.Listing.{register_drawn, some_drawn, known_bytes_drawn, word_from, loaded_from, at_known, known_at, known_after, result_drawn, solve_known, by_rule, solved_drawn, both_drawn, copied_between, copy_drawn, operation_drawn, load_drawn, store_back_drawn, store_drawn, others_drawn, conclusions}
 use Rattle.rept_rules.specs.Laws.ValueLemmas.{no_some, destination}
@@ -29,7 +29,7 @@ use Rattle.rept_rules.specs.Laws.ListLemmas.{nothing, flat_some, some_flat, in_r
 
 -- ---- from the list to the relation
 
-result_listed : (row : StepRow) (s : Seen) (d : Drawn) → Contains (result_drawn row s) d → Concludes row s d
+result_listed : (row : StepRow) (s : Seen) (d : Drawn) → Contains (result_drawn row s) d → ConcludesByRow row s d
 result_listed row s d has = let i = in_some 7 After (written_by row.instr) _ d has in rules.result i.0 i.1 i.2 i.3 i.4
 
 solve_known_is : (instr : Instr) (side : Side) (x other : Flat) (w : ℕ) → solve_known instr side x other ≡ Known w → (v : ℕ) × (x ≡ Known v) × (solve_of instr side v other ≡ Known w)
@@ -40,7 +40,7 @@ by_rule_is : (rule r : Option ℕ) (x : Flat) (d : Drawn) → Contains (by_rule 
 by_rule_is None r x d has = absurd (nothing d has)
 by_rule_is (Some n) r x d has = (n, refl, has)
 
-solved_listed : (row : StepRow) (side : Side) (s : Seen) (d : Drawn) → Contains (solved_drawn row.instr side s) d → Concludes row s d
+solved_listed : (row : StepRow) (side : Side) (s : Seen) (d : Drawn) → Contains (solved_drawn row.instr side s) d → ConcludesByRow row s d
 solved_listed row side s d has =
     let b = by_rule_is (solving_rule row.instr) (operand_of row.instr side) _ d has in
     let i = in_some b.0 Before (operand_of row.instr side) _ d b.2 in
@@ -48,7 +48,7 @@ solved_listed row side s d has =
     let a = known_after_is s (written_by row.instr) k.0 k.1 in
     rules.solved b.0 a.0 i.0 k.0 i.1 side b.1 a.1 i.2 a.2 k.2 i.4
 
-copied_listed : (row : StepRow) (rd source : Option ℕ) (s : Seen) (d : Drawn) → written_by row.instr ≡ rd → copied row.instr ≡ source → Contains (copied_between rd source s) d → Concludes row s d
+copied_listed : (row : StepRow) (rd source : Option ℕ) (s : Seen) (d : Drawn) → written_by row.instr ≡ rd → copied row.instr ≡ source → Contains (copied_between rd source s) d → ConcludesByRow row s d
 copied_listed row None source s d e f has = absurd (nothing d has)
 copied_listed row (Some rd) None s d e f has = absurd (nothing d has)
 copied_listed row (Some rd) (Some source) s d e f has = elim (Contains-append_cases (register_drawn 18 After rd (known_at s Before source)) (register_drawn 18 Before source (known_at s After rd)) d has) [
@@ -56,7 +56,7 @@ copied_listed row (Some rd) (Some source) s d e f has = elim (Contains-append_ca
   | inr h ↦ let i = in_register 18 Before source (known_at s After rd) d h in rules.copy_back rd source i.0 e f (flat_some (s.register After rd) i.0 i.1) i.2
 ]
 
-operation_listed : (row : StepRow) (s : Seen) (d : Drawn) → Contains (operation_drawn row.instr s) d → Concludes row s d
+operation_listed : (row : StepRow) (s : Seen) (d : Drawn) → Contains (operation_drawn row.instr s) d → ConcludesByRow row s d
 operation_listed row s d has = elim (Contains-append_cases (solved_drawn row.instr First s ++ solved_drawn row.instr Second s) (copy_drawn row.instr s) d has) [
   | inl h ↦ elim (Contains-append_cases (solved_drawn row.instr First s) (solved_drawn row.instr Second s) d h) [
     | inl g ↦ solved_listed row First s d g
@@ -65,13 +65,13 @@ operation_listed row s d has = elim (Contains-append_cases (solved_drawn row.ins
   | inr h ↦ copied_listed row (written_by row.instr) (copied row.instr) s d refl refl h
 ]
 
-load_listed : (row : StepRow) (op : LoadOp) (rd rs1 : ℕ) (imm : ℤ) (s : Seen) (d : Drawn) → row.instr ≡ Load op rd rs1 imm → Contains (load_drawn op rd rs1 imm s) d → Concludes row s d
+load_listed : (row : StepRow) (op : LoadOp) (rd rs1 : ℕ) (imm : ℤ) (s : Seen) (d : Drawn) → row.instr ≡ Load op rd rs1 imm → Contains (load_drawn op rd rs1 imm s) d → ConcludesByRow row s d
 load_listed row op rd rs1 imm s d is has = elim (Contains-append_cases (register_drawn 8 After rd (at_known (known_at s Before rs1) imm (loaded_from op (s.byte Before)))) (known_bytes_drawn 15 Before (known_at s Before rs1) imm (known_after s (unless_zero rd)) (load_width op)) d has) [
   | inl h ↦
       let i = in_register 8 After rd _ d h in
       let a = at_known_is (known_at s Before rs1) imm (loaded_from op (s.byte Before)) i.0 i.1 in
       let l = loaded_is op (s.byte Before) (plus a.0 imm) i.0 a.2 in
-      rules.load op rd rs1 imm a.0 (memory_of (s.byte Before)) is (flat_some (s.register Before rs1) a.0 a.1) l.0 (subst (λ (v : ℕ). Says d 8 After rd v) l.1 i.2)
+      rules.load op rd rs1 imm a.0 (memory_of (s.byte Before)) is (flat_some (s.register Before rs1) a.0 a.1) l.0 (subst (λ (v : ℕ). IsOnRegister d 8 After rd v) l.1 i.2)
   | inr h ↦
       let i = in_known_bytes 15 Before (known_at s Before rs1) imm (known_after s (unless_zero rd)) (load_width op) d h in
       let a = known_after_is s (unless_zero rd) i.1 i.4 in
@@ -79,16 +79,16 @@ load_listed row op rd rs1 imm s d is has = elim (Contains-append_cases (register
       rules.load_back op rd rs1 imm i.0 i.1 i.2 is (ap written_by is ∙ a.1 ∙ ap Some (sym same)) (flat_some (s.register Before rs1) i.0 i.3) (ap (s.register After) same ∙ a.2) i.5 i.6
 ]
 
-store_back_listed : (row : StepRow) (op : StoreOp) (rs1 rs2 : ℕ) (imm : ℤ) (s : Seen) (d : Drawn) → row.instr ≡ Store op rs1 rs2 imm → Contains (store_back_drawn op (known_at s Before rs1) rs2 imm s) d → Concludes row s d
+store_back_listed : (row : StepRow) (op : StoreOp) (rs1 rs2 : ℕ) (imm : ℤ) (s : Seen) (d : Drawn) → row.instr ≡ Store op rs1 rs2 imm → Contains (store_back_drawn op (known_at s Before rs1) rs2 imm s) d → ConcludesByRow row s d
 store_back_listed row Sb rs1 rs2 imm s d is has = absurd (nothing d has)
 store_back_listed row Sh rs1 rs2 imm s d is has = absurd (nothing d has)
 store_back_listed row Sw rs1 rs2 imm s d is has =
     let i = in_register 16 Before rs2 _ d has in
     let a = at_known_is (known_at s Before rs1) imm (word_from (s.byte After)) i.0 i.1 in
     let w = word_is (s.byte After) (plus a.0 imm) i.0 a.2 in
-    rules.store_back rs1 rs2 imm a.0 (memory_of (s.byte After)) is (flat_some (s.register Before rs1) a.0 a.1) w.0 (subst (λ (v : ℕ). Says d 16 Before rs2 v) w.1 i.2)
+    rules.store_back rs1 rs2 imm a.0 (memory_of (s.byte After)) is (flat_some (s.register Before rs1) a.0 a.1) w.0 (subst (λ (v : ℕ). IsOnRegister d 16 Before rs2 v) w.1 i.2)
 
-store_listed : (row : StepRow) (op : StoreOp) (rs1 rs2 : ℕ) (imm : ℤ) (s : Seen) (d : Drawn) → row.instr ≡ Store op rs1 rs2 imm → Contains (store_drawn op rs1 rs2 imm s) d → Concludes row s d
+store_listed : (row : StepRow) (op : StoreOp) (rs1 rs2 : ℕ) (imm : ℤ) (s : Seen) (d : Drawn) → row.instr ≡ Store op rs1 rs2 imm → Contains (store_drawn op rs1 rs2 imm s) d → ConcludesByRow row s d
 store_listed row op rs1 rs2 imm s d is has = elim (Contains-append_cases (known_bytes_drawn 9 After (known_at s Before rs1) imm (known_at s Before rs2) (store_width op)) (store_back_drawn op (known_at s Before rs1) rs2 imm s) d has) [
   | inl h ↦
       let i = in_known_bytes 9 After (known_at s Before rs1) imm (known_at s Before rs2) (store_width op) d h in
@@ -99,14 +99,14 @@ store_listed row op rs1 rs2 imm s d is has = elim (Contains-append_cases (known_
 abbrev if_equal : Bool → ℕ → ℕ → Seen → List Drawn
 if_equal b rs1 rs2 s = if b then register_drawn 14 Before rs2 (known_at s Before rs1) ++ register_drawn 14 Before rs1 (known_at s Before rs2) else []
 
-branch_listed : (row : StepRow) (op : BranchOp) (rs1 rs2 : ℕ) (imm : ℤ) (s : Seen) (d : Drawn) (b : Bool) → row.instr ≡ Branch op rs1 rs2 imm → equates op (turn_of row) ≡ b → Contains (if_equal b rs1 rs2 s) d → Concludes row s d
+branch_listed : (row : StepRow) (op : BranchOp) (rs1 rs2 : ℕ) (imm : ℤ) (s : Seen) (d : Drawn) (b : Bool) → row.instr ≡ Branch op rs1 rs2 imm → equates op (turn_of row) ≡ b → Contains (if_equal b rs1 rs2 s) d → ConcludesByRow row s d
 branch_listed row op rs1 rs2 imm s d false is way has = absurd (nothing d has)
 branch_listed row op rs1 rs2 imm s d true is way has = elim (Contains-append_cases (register_drawn 14 Before rs2 (known_at s Before rs1)) (register_drawn 14 Before rs1 (known_at s Before rs2)) d has) [
   | inl h ↦ let i = in_register 14 Before rs2 (known_at s Before rs1) d h in rules.equal_second op rs1 rs2 imm i.0 is way (flat_some (s.register Before rs1) i.0 i.1) i.2
   | inr h ↦ let i = in_register 14 Before rs1 (known_at s Before rs2) d h in rules.equal_first op rs1 rs2 imm i.0 is way (flat_some (s.register Before rs2) i.0 i.1) i.2
 ]
 
-others_listed : (instr : Instr) (row : StepRow) (s : Seen) (d : Drawn) → row.instr ≡ instr → Contains (others_drawn instr (turn_of row) s) d → Concludes row s d
+others_listed : (instr : Instr) (row : StepRow) (s : Seen) (d : Drawn) → row.instr ≡ instr → Contains (others_drawn instr (turn_of row) s) d → ConcludesByRow row s d
 others_listed (Load op rd rs1 imm) row s d is has = load_listed row op rd rs1 imm s d is has
 others_listed (Store op rs1 rs2 imm) row s d is has = store_listed row op rs1 rs2 imm s d is has
 others_listed (Imm op rd rs1 imm) row s d is has = operation_listed row s d (subst (λ (i : Instr). Contains (operation_drawn i s) d) (sym is) has)
@@ -123,7 +123,7 @@ others_listed Ebreak row s d is has = absurd (nothing d has)
 others_listed (Counter rd csr) row s d is has = absurd (nothing d has)
 
 -- each listed conclusion is one
-pub listed : (row : StepRow) (s : Seen) (d : Drawn) → Contains (conclusions row s) d → Concludes row s d
+pub listed : (row : StepRow) (s : Seen) (d : Drawn) → Contains (conclusions row s) d → ConcludesByRow row s d
 listed row s d has = elim (Contains-append_cases (result_drawn row s) (others_drawn row.instr (turn_of row) s) d has) [
   | inl h ↦ result_listed row s d h
   | inr h ↦ others_listed row.instr row s d refl h
@@ -158,7 +158,7 @@ copied_in row rd source s d e f has =
     (subst (λ (o : Option ℕ). Contains (copied_between o (copied row.instr) s) d) (sym e) (subst (λ (o : Option ℕ). Contains (copied_between (Some rd) o s) d) (sym f) has))
 
 -- each conclusion is listed
-pub concluded : (row : StepRow) (s : Seen) (d : Drawn) → Concludes row s d → Contains (conclusions row s) d
+pub concluded : (row : StepRow) (s : Seen) (d : Drawn) → ConcludesByRow row s d → Contains (conclusions row s) d
 concluded row s d (rules.result rd v named value says) = Contains-append_left (result_drawn row s) (others_drawn row.instr (turn_of row) s) d (some_in 7 After rd v (written_by row.instr) _ d named value says)
 concluded row s d (rules.load op rd rs1 imm b memory is base bytes says) =
     others_in row (Load op rd rs1 imm) s d is (Contains-append_left (register_drawn 8 After rd (at_known (known_at s Before rs1) imm (loaded_from op (s.byte Before)))) (known_bytes_drawn 15 Before (known_at s Before rs1) imm (known_after s (unless_zero rd)) (load_width op)) d

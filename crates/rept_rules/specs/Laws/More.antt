@@ -10,7 +10,7 @@ use Rattle.rept_view.specs.declared.drawn.When.TheVariants.{Before, After}
 use Rattle.rept_view.specs.declared.drawn.Drawn.{Drawn}
 use Rattle.rept_view.specs.Seen.{Seen, IsLawful, KnowsMore, seen_cell}
 use Rattle.rept_view.specs.Rules.{Fits}
-use Rattle.rept_rules.specs.Conclusions.{Concludes, on_byte, Says}
+use Rattle.rept_rules.specs.Conclusions.{ConcludesByRow, on_byte, IsOnRegister}
 use Rattle.rept_rules.specs.Conclusions as rules
 use Rattle.rept_rules.specs.Listing.{conclusions}
 use Rattle.rept_rules.specs.Laws.Listed.{listed, concluded}
@@ -33,7 +33,7 @@ byte_small v k = omega arith
 byte_value : (d : Drawn) (rule : ℕ) (when : When) (base v k : ℕ) → d ≡ on_byte rule when base v k → d.value < 2 ^ 8
 byte_value d rule when base v k e = subst (λ (x : Drawn). x.value < 2 ^ 8) (sym e) (byte_small v k)
 
-small_by : (row : StepRow) (s : Seen) (d : Drawn) (a : ℕ) → d.cell ≡ Byte a → Concludes row s d → d.value < 2 ^ 8
+small_by : (row : StepRow) (s : Seen) (d : Drawn) (a : ℕ) → d.cell ≡ Byte a → ConcludesByRow row s d → d.value < 2 ^ 8
 small_by row s d a e (rules.result rd v named value says) = absurd (not_byte d 7 After rd v a says e)
 small_by row s d a e (rules.load op rd rs1 imm b memory is base bytes says) = absurd (not_byte d 8 After rd _ a says e)
 small_by row s d a e (rules.store op rs1 rs2 imm b v k is base value below f) = byte_value d 9 After _ v k f

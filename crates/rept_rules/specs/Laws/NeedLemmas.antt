@@ -32,7 +32,7 @@ use Rattle.rept_rules.specs.declared.operand.Side.{Side}
 use Rattle.rept_rules.specs.declared.operand.Side.TheVariants.{First, Second}
 use Rattle.rept_rules.specs.Results.{operand, absorbs, cancels, result_of, forward_of}
 use Rattle.rept_rules.specs.Operands.{solved, solved_by, copied, copied_register, operand_of, opposite, on, solve_of, registers_solved, is_neutral}
-use Rattle.rept_rules.specs.Conclusions.{Concludes, Says, IsKnown, AreKnown, on_register, on_byte, seen_operand, load_width, operation_rule, solving_rule, equates}
+use Rattle.rept_rules.specs.Conclusions.{ConcludesByRow, IsOnRegister, IsKnown, AreKnown, on_register, on_byte, seen_operand, load_width, operation_rule, solving_rule, equates}
 use Rattle.rept_rules.specs.Conclusions as rules
 use Rattle.rept_rules.specs.Listing.{known_at}
 use Rattle.rept_rules.specs.Needs.{register_need, both_needs, byte_needs, known_byte_needs, decides, result_needs, other_register, source_need, immediate_needs, copy_needs, operation_needs, load_needs, store_needs, needs_of}
@@ -401,7 +401,7 @@ good_solving row s d side rd v w named value e (with_other q is read other) =
     (good_register row s Before q (read_side row.instr (opposite side) q read) (λ n. let k = other v w (known_at s Before q) f n in (k.0, flat_some (s.register Before q) k.0 k.1))))
 
 -- what a conclusion rests on is the row's, and known
-pub good_by : (row : StepRow) (s : Seen) (d : Drawn) → Concludes row s d → AreGood row s (needs_of row.instr s d)
+pub good_by : (row : StepRow) (s : Seen) (d : Drawn) → ConcludesByRow row s d → AreGood row s (needs_of row.instr s d)
 good_by row s d (rules.result rd v named value says) = subst (λ (x : Drawn). AreGood row s (needs_of row.instr s x)) (sym says.is) (good_result row.instr row s rd v refl value)
 good_by row s d (rules.load op rd rs1 imm b memory is base bytes says) =
     good_list row s d _ (load_list row s d op rd rs1 b _ imm is base says.is) (good_both row s (register_need Before rs1) (byte_needs Before (plus b imm) (load_width op))
@@ -432,7 +432,7 @@ good_by row s d (rules.copy_back rd source v named from value says) =
 agree_list : (row : StepRow) (s t : Seen) (d : Drawn) (ns : List Need) → needs_of row.instr s d ≡ ns → Agree s t (needs_of row.instr s d) → Agree s t ns
 agree_list row s t d ns e h = subst (λ (x : List Need). Agree s t x) e h
 
-again_solving : (row : StepRow) (s t : Seen) (d : Drawn) (rule rd r v w : ℕ) (side : Side) → IsLawful s → IsLawful t → solving_rule row.instr ≡ Some rule → written_by row.instr ≡ Some rd → operand_of row.instr side ≡ Some r → s.register After rd ≡ Some v → solve_of row.instr side v (seen_operand s (operand_of row.instr (opposite side))) ≡ Known w → Says d rule Before r w → Agree s t (needs_of row.instr s d) → Solving row.instr side rd s d → Concludes row t d
+again_solving : (row : StepRow) (s t : Seen) (d : Drawn) (rule rd r v w : ℕ) (side : Side) → IsLawful s → IsLawful t → solving_rule row.instr ≡ Some rule → written_by row.instr ≡ Some rd → operand_of row.instr side ≡ Some r → s.register After rd ≡ Some v → solve_of row.instr side v (seen_operand s (operand_of row.instr (opposite side))) ≡ Known w → IsOnRegister d rule Before r w → Agree s t (needs_of row.instr s d) → Solving row.instr side rd s d → ConcludesByRow row t d
 again_solving row s t d rule rd r v w side ls lt by named read value e says h (alone is same) =
     let a = agree_register s t After rd ls lt (agree_list row s t d _ is h) in
     rules.solved rule rd r v w side by named read (a ∙ value) (same v _ _ ∙ e) says
@@ -445,7 +445,7 @@ again_solving row s t d rule rd r v w side ls lt by named read value e says h (w
     rules.solved rule rd r v w side by named read (a ∙ value) (subst (λ (o : Option ℕ). solve_of row.instr side v (seen_operand t o) ≡ Known w) (sym other_read) k) says
 
 -- and it is enough
-pub again_by : (row : StepRow) (s t : Seen) (d : Drawn) → IsLawful s → IsLawful t → Agree s t (needs_of row.instr s d) → Concludes row s d → Concludes row t d
+pub again_by : (row : StepRow) (s t : Seen) (d : Drawn) → IsLawful s → IsLawful t → Agree s t (needs_of row.instr s d) → ConcludesByRow row s d → ConcludesByRow row t d
 again_by row s t d ls lt h (rules.result rd v named value says) = rules.result rd v named (again_result row.instr row s t rd v ls lt value (subst (λ (x : Drawn). Agree s t (needs_of row.instr s x)) says.is h)) says
 again_by row s t d ls lt h (rules.load op rd rs1 imm b memory is base bytes says) =
     let g = agree_list row s t d _ (load_list row s d op rd rs1 b _ imm is base says.is) h in

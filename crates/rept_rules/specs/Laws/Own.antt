@@ -23,7 +23,7 @@ use Rattle.rept_view.specs.Rules.{IsRowCell, IsRowByte, offset_of}
 use Rattle.rept_rules.specs.declared.operand.Side.{Side}
 use Rattle.rept_rules.specs.declared.operand.Side.TheVariants.{First, Second}
 use Rattle.rept_rules.specs.Operands.{copied, operand_of, is_neutral, copied_register}
-use Rattle.rept_rules.specs.Conclusions.{Concludes, Says, on_register, on_byte, load_width}
+use Rattle.rept_rules.specs.Conclusions.{ConcludesByRow, IsOnRegister, on_register, on_byte, load_width}
 use Rattle.rept_rules.specs.Conclusions as rules
 use Rattle.rept_rules.specs.MayWrite.{places_of}
 use Rattle.rept_rules.specs.Base.{base_rules}
@@ -90,10 +90,10 @@ load_byte row s d op rd rs1 imm b v k is base below e = record {
 register_byte : (r a : ℕ) → Register r ≡ Byte a → ⊥
 register_byte r a e = cc
 
-pub not_byte : (d : Drawn) (rule : ℕ) (when : When) (r v a : ℕ) → Says d rule when r v → d.cell ≡ Byte a → ⊥
+pub not_byte : (d : Drawn) (rule : ℕ) (when : When) (r v a : ℕ) → IsOnRegister d rule when r v → d.cell ≡ Byte a → ⊥
 not_byte d rule when r v a says e = register_byte r a (sym (ap (λ (x : Drawn). x.cell) says.is) ∙ e)
 
-on_bytes : (row : StepRow) (s : Seen) (d : Drawn) (a : ℕ) → d.cell ≡ Byte a → Concludes row s d → IsOnByte row s d
+on_bytes : (row : StepRow) (s : Seen) (d : Drawn) (a : ℕ) → d.cell ≡ Byte a → ConcludesByRow row s d → IsOnByte row s d
 on_bytes row s d a e (rules.result rd v named value says) = absurd (not_byte d 7 After rd v a says e)
 on_bytes row s d a e (rules.load op rd rs1 imm b memory is base bytes says) = absurd (not_byte d 8 After rd _ a says e)
 on_bytes row s d a e (rules.store op rs1 rs2 imm b v k is base value below f) = store_byte row s d op rs1 rs2 imm b v k is base below f
@@ -109,7 +109,7 @@ on_bytes row s d a e (rules.copy_back rd source v named from value says) = absur
 abbrev Own : StepRow → Seen → When → Cell → Type 0
 Own row s when cell = IsRowCell base_rules row s when cell × IsCell cell
 
-own_register : (row : StepRow) (s : Seen) (d : Drawn) (rule : ℕ) (when : When) (r v : ℕ) → Says d rule when r v → IsRowCell base_rules row s when (Register r) → Own row s d.when d.cell
+own_register : (row : StepRow) (s : Seen) (d : Drawn) (rule : ℕ) (when : When) (r v : ℕ) → IsOnRegister d rule when r v → IsRowCell base_rules row s when (Register r) → Own row s d.when d.cell
 own_register row s d rule when r v says h = subst (λ (x : Drawn). Own row s x.when x.cell) (sym says.is) (h, (says.named, says.in_file))
 
 row_byte : (row : StepRow) (s : Seen) (d : Drawn) (h : IsOnByte row s d) → IsRowByte base_rules row s (beside (plus h.b (offset_of row.instr)) h.k)
@@ -156,7 +156,7 @@ pub read_on : (instr : Instr) (side : Side) (r : ℕ) → operand_of instr side 
 read_on instr First r e = inl e
 read_on instr Second r e = inr e
 
-pub own_by : (row : StepRow) (s : Seen) (d : Drawn) → Concludes row s d → Own row s d.when d.cell
+pub own_by : (row : StepRow) (s : Seen) (d : Drawn) → ConcludesByRow row s d → Own row s d.when d.cell
 own_by row s d (rules.result rd v named value says) = own_register row s d 7 After rd v says named
 own_by row s d (rules.load op rd rs1 imm b memory is base bytes says) = own_register row s d 8 After rd _ says (ap written_by is ∙ destination_is rd says.named)
 own_by row s d (rules.store op rs1 rs2 imm b v k is base value below f) = own_byte row s d (store_byte row s d op rs1 rs2 imm b v k is base below f)
@@ -169,14 +169,14 @@ own_by row s d (rules.copy rd source v named from value says) = own_register row
 own_by row s d (rules.copy_back rd source v named from value says) = own_register row s d 18 Before source v says (copied_read row.instr source from)
 
 -- a slot is one of the row's places
-pub slot_inside_by : (row : StepRow) (s : Seen) (d : Drawn) (a : ℕ) → Concludes row s d → d.cell ≡ Byte a → d.slot < places_of row.instr
+pub slot_inside_by : (row : StepRow) (s : Seen) (d : Drawn) (a : ℕ) → ConcludesByRow row s d → d.cell ≡ Byte a → d.slot < places_of row.instr
 slot_inside_by row s d a c e = let h = on_bytes row s d a e c in let below = h.below in let slot = h.slot in omega (arith, below, slot)
 
 same_byte : (a b : ℕ) → Byte a ≡ Byte b → a ≡ b
 same_byte a b e = cc
 
 -- and stands for one moment and address
-pub slot_once_by : (row : StepRow) (s t : Seen) (d e : Drawn) (a b r : ℕ) → Concludes row s d → Concludes row t e → d.cell ≡ Byte a → e.cell ≡ Byte b → first_read row.instr ≡ Some r → s.register Before r ≡ t.register Before r → d.slot ≡ e.slot → (d.when ≡ e.when) × (a ≡ b)
+pub slot_once_by : (row : StepRow) (s t : Seen) (d e : Drawn) (a b r : ℕ) → ConcludesByRow row s d → ConcludesByRow row t e → d.cell ≡ Byte a → e.cell ≡ Byte b → first_read row.instr ≡ Some r → s.register Before r ≡ t.register Before r → d.slot ≡ e.slot → (d.when ≡ e.when) × (a ≡ b)
 slot_once_by row s t d e a b r c f on_a on_b read same slots =
     let h = on_bytes row s d a on_a c in
     let g = on_bytes row t e b on_b f in

@@ -26,8 +26,8 @@ use Rattle.rept_view.specs.declared.drawn.When.TheVariants.{Before, After}
 use Rattle.rept_view.specs.declared.drawn.RegisterAt.{RegisterAt}
 use Rattle.rept_view.specs.Seen.{Seen, IsLawful, KnowsMore, Meets, state_at}
 use Rattle.rept_view.specs.Written.{WritesBy}
-use Rattle.rept_machine.specs.Writes.{WritesAtomic, IsBeside}
-use Rattle.rept_rules.specs.MayWrite.{IsKnownCall, is_register, range_of, only_value, is_failure, has_failed, writes_word, may_write, register_at, tells_atomic, tells_writes, is_sure}
+use Rattle.rept_machine.specs.Writes.{WritesAtomic, IsOneOfBytes}
+use Rattle.rept_rules.specs.MayWrite.{IsKnownCall, is_register, range_of, only_value, is_failure, has_failed, writes_word, instr_may_write, register_at, tells_atomic, tells_writes, instr_is_sure}
 use Rattle.rept_rules.specs.Laws.ValueLemmas.{either_way, true≢false, equal}
 
 some_store : (op : StoreOp) → 0 < store_width op
@@ -76,7 +76,7 @@ pub beside_plain : (base k : ℕ) → beside (plus base (pos 0)) k ≡ beside ba
 unfolding word
 beside_plain base k = omega arith
 
-atomic_beside : (op : AmoOp) (rd base : ℕ) (after : ℕ → ℕ) (a : ℕ) → WritesAtomic op rd base after a → IsBeside base 4 a
+atomic_beside : (op : AmoOp) (rd base : ℕ) (after : ℕ → ℕ) (a : ℕ) → WritesAtomic op rd base after a → IsOneOfBytes base 4 a
 atomic_beside atomic.Lr rd base after a w = absurd w
 atomic_beside atomic.Sc rd base after a w = w.1
 atomic_beside atomic.Swap rd base after a w = w
@@ -119,7 +119,7 @@ atomic_covers atomic.Maxu rd base view after a h w = refl
 pub two_true : (p q : Bool) → p ≡ true → q ≡ true → (p && q) ≡ true
 two_true p q t u = rw (t, u) refl
 
-pub covers_by : (instr : Instr) (image_end : ℕ) (view : Seen) (before after : State) (a : ℕ) → Meets view before after → IsState before → IsState after → WritesBy instr image_end before after a → may_write instr view image_end a ≡ true
+pub covers_by : (instr : Instr) (image_end : ℕ) (view : Seen) (before after : State) (a : ℕ) → Meets view before after → IsState before → IsState after → WritesBy instr image_end before after a → instr_may_write instr view image_end a ≡ true
 covers_by (Store op rs1 rs2 imm) image_end view before after a meets is also w =
     let l = lies view before after Before rs1 meets is also in
     subst (λ (x : ℕ). hits (access_of (range_of view Before rs1) imm (store_width op)) x ≡ true) (sym w.2) (access.covers (range_of view Before rs1) imm (store_width op) (before.register rs1) w.0 (few_store op) l.0 l.1 w.1)
@@ -144,7 +144,7 @@ is_there (Some v) t = (v, refl)
 pub known_base : (view : Seen) (r b : ℕ) → IsLawful view → is_register r ≡ true → view.register Before r ≡ Some b → ((range_of view Before r).lo ≡ b) × ((range_of view Before r).hi ≡ b)
 known_base view r b lawful t e = rw t (lawful.known Before r b e)
 
-pub certain_by : (instr : Instr) (image_end : ℕ) (view : Seen) (before after : State) (a : ℕ) → IsLawful view → Meets view before after → a < 2 ^ 32 → is_sure instr view ≡ true → may_write instr view image_end a ≡ true → WritesBy instr image_end before after a
+pub certain_by : (instr : Instr) (image_end : ℕ) (view : Seen) (before after : State) (a : ℕ) → IsLawful view → Meets view before after → a < 2 ^ 32 → instr_is_sure instr view ≡ true → instr_may_write instr view image_end a ≡ true → WritesBy instr image_end before after a
 certain_by (Store op rs1 rs2 imm) image_end view before after a lawful meets fits sure may =
     let t = both (is_register rs1) (is_some (view.register Before rs1)) sure in
     let v = is_there (view.register Before rs1) t.1 in
@@ -202,7 +202,7 @@ less_word atomic.Max rd s t more w = refl
 less_word atomic.Minu rd s t more w = refl
 less_word atomic.Maxu rd s t more w = refl
 
-pub touched_less_by : (instr : Instr) (image_end : ℕ) (s t : Seen) (a : ℕ) → KnowsMore s t → may_write instr t image_end a ≡ true → may_write instr s image_end a ≡ true
+pub touched_less_by : (instr : Instr) (image_end : ℕ) (s t : Seen) (a : ℕ) → KnowsMore s t → instr_may_write instr t image_end a ≡ true → instr_may_write instr s image_end a ≡ true
 touched_less_by (Store op rs1 rs2 imm) image_end s t a more may = access.narrower (range_of t Before rs1) (range_of s Before rs1) imm (store_width op) a (some_store op) (few_store op) (range_within s t Before rs1 more) may
 touched_less_by (Amo op rd rs1 rs2) image_end s t a more may =
     let parts = both (writes_word op rd t) (hits (access_of (range_of t Before rs1) (pos 0) 4) a) may in
@@ -217,7 +217,7 @@ still_sure true None y h t = absurd (true≢false (sym t))
 still_sure true (Some v) y h t = ap is_some (h v refl)
 still_sure false x y h t = t
 
-pub sure_more_by : (instr : Instr) (s t : Seen) → KnowsMore s t → is_sure instr s ≡ true → is_sure instr t ≡ true
+pub sure_more_by : (instr : Instr) (s t : Seen) → KnowsMore s t → instr_is_sure instr s ≡ true → instr_is_sure instr t ≡ true
 sure_more_by (Store op rs1 rs2 imm) s t more sure = still_sure (is_register rs1) (s.register Before rs1) (t.register Before rs1) (more.register Before rs1) sure
 sure_more_by _ s t more sure = absurd (true≢false (sym sure))
 
@@ -230,7 +230,7 @@ known_number range v e =
     let t : (range.lo == range.hi) ≡ true = grind (arith, same) in
     rw t (ap Known low)
 
-pub exact_by : (s : Seen) (image_end : ℕ) (register : ℕ → ℕ) (answer a : ℕ) → IsKnownCall s register answer → a < 2 ^ 32 → may_write Ecall s image_end a ≡ may_change image_end register answer a
+pub exact_by : (s : Seen) (image_end : ℕ) (register : ℕ → ℕ) (answer a : ℕ) → IsKnownCall s register answer → a < 2 ^ 32 → instr_may_write Ecall s image_end a ≡ may_change image_end register answer a
 exact_by s image_end register answer a known fits =
     ap (λ (n : Flat). call_hits (changed n (s.range Before) (s.range After 10) image_end) a) (known_number (s.range Before 17) (register 17) known.number)
     ∙ changed_exact (register 17) (s.range Before) (s.range After 10) image_end register answer a refl known.arguments known.answered fits
@@ -266,7 +266,7 @@ module _ (s t : Seen) where
     ]
   ]
 
-call_told : (s t : Seen) (image_end a : ℕ) → AgreeAt s t Before 17 → ((r : ℕ) → 10 ≤ r → r ≤ 15 → AgreeAt s t Before r) → AgreeAt s t After 10 → may_write Ecall s image_end a ≡ true → may_write Ecall t image_end a ≡ true
+call_told : (s t : Seen) (image_end a : ℕ) → AgreeAt s t Before 17 → ((r : ℕ) → 10 ≤ r → r ≤ 15 → AgreeAt s t Before r) → AgreeAt s t After 10 → instr_may_write Ecall s image_end a ≡ true → instr_may_write Ecall t image_end a ≡ true
 call_told s t image_end a number arguments answered may =
     let n = equal_within (s.range Before 17) (t.range Before 17) number in
     changed_within (only_value (s.range Before 17)) (only_value (t.range Before 17)) (s.range Before) (t.range Before) (s.range After 10) (t.range After 10) image_end a (number_within (s.range Before 17) (t.range Before 17) n.0 n.1) (λ r low high. equal_within (s.range Before r) (t.range Before r) (arguments r low high)) (equal_within (s.range After 10) (t.range After 10) answered) may
@@ -303,7 +303,7 @@ atomic_told atomic.Max rd rs1 s t a h = word_told rs1 s t a (h 0 (register_at Be
 atomic_told atomic.Minu rd rs1 s t a h = word_told rs1 s t a (h 0 (register_at Before 0) (omega arith))
 atomic_told atomic.Maxu rd rs1 s t a h = word_told rs1 s t a (h 0 (register_at Before 0) (omega arith))
 
-pub told_by : (instr : Instr) (image_end : ℕ) (s t : Seen) (a : ℕ) → All (λ x. s.range x.when x.register ≡ t.range x.when x.register) (tells_writes instr) → may_write instr s image_end a ≡ may_write instr t image_end a
+pub told_by : (instr : Instr) (image_end : ℕ) (s t : Seen) (a : ℕ) → All (λ x. s.range x.when x.register ≡ t.range x.when x.register) (tells_writes instr) → instr_may_write instr s image_end a ≡ instr_may_write instr t image_end a
 told_by (Store op rs1 rs2 imm) image_end s t a h =
     let base : s.range Before rs1 ≡ t.range Before rs1 = h 0 (register_at Before 0) (omega arith) in
     ap (λ (range : Range). hits (access_of (cond (is_register rs1) range (from_to 0 4294967295)) imm (store_width op)) a) base
@@ -312,6 +312,6 @@ told_by Ecall image_end s t a h =
     let arguments = arguments_agree s t (h 1 (register_at Before 0) (omega arith)) (h 2 (register_at Before 0) (omega arith)) (h 3 (register_at Before 0) (omega arith)) (h 4 (register_at Before 0) (omega arith)) (h 5 (register_at Before 0) (omega arith)) (h 6 (register_at Before 0) (omega arith)) in
     let number : AgreeAt s t Before 17 = h 0 (register_at Before 0) (omega arith) in
     let answered : AgreeAt s t After 10 = h 7 (register_at Before 0) (omega arith) in
-    both_ways (may_write Ecall s image_end a) (may_write Ecall t image_end a) (call_told s t image_end a number arguments answered)
+    both_ways (instr_may_write Ecall s image_end a) (instr_may_write Ecall t image_end a) (call_told s t image_end a number arguments answered)
     (call_told t s image_end a (sym number) (λ r low high. sym (arguments r low high)) (sym answered))
 told_by _ image_end s t a h = refl

@@ -1,7 +1,7 @@
 use Rattle.std.proofs.Common.{◌≡◌, ◌⊎◌, Bool, Ok, sym, subst}
 use Rattle.rept_found.specs.Crash.{Crash}
 use Rattle.rept_ports.specs.Port.{move}
-use Rattle.rept_app.specs.Examine.{Examines, Walks, WalkHolds, IsWalked, TraceExcludes}
+use Rattle.rept_app.specs.Examine.{Examines, WalksTrace, WalkHolds, IsWalked, TraceExcludes}
 use Rattle.rept_runs.specs.Kind.{is_several}
 use Rattle.rept_app.specs.Loading.{crash_bytes}
 use Rattle.rept_app.specs.Reading.{HasNotes, HasNoDump, IsDumpOf}
@@ -48,7 +48,7 @@ returns-in-Ok-clause-text g c =
     let bytes = crash_bytes c.args.exe.now c.args.core.now c.args.trace.now c.args.manner in
     where_told _ _ (λ left told. delivers_as _ (Examines bytes (reading_of left (g.S.Source.port c.walk.new.input).bytes)) _ _
     (λ text status h. walks_examine bytes (reading_of left (g.S.Source.port c.walk.new.input).bytes) text status (sym is.exe_accepted) (sym is.core_accepted) is.notes is.noted
-    (subst (λ (s : Crash). Walks (crash_trace s c.args.trace.now c.args.manner) (reading_of left (g.S.Source.port c.walk.new.input).bytes) text status) is.crash h))
+    (subst (λ (s : Crash). WalksTrace (crash_trace s c.args.trace.now c.args.manner) (reading_of left (g.S.Source.port c.walk.new.input).bytes) text status) is.crash h))
     (at_some (g.S.Source.port c.args.input.now).bytes left _ told (c.walk.ensures.text is.notes is.are)))
 
 pub returns-in-Ok-clause-causes : goal.returns-in-Ok-clause-causes

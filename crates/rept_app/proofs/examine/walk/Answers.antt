@@ -1,5 +1,5 @@
 use Rattle.rept_found.specs.Crash.{crash_of}
-use Rattle.rept_app.specs.Examine.{Walks}
+use Rattle.rept_app.specs.Examine.{WalksTrace}
 use Rattle.rept_app.specs.Told.{crash_trace}
 use Rattle.rept_app.specs.declared.refusal.Refusal.TheVariants as refusal
 use Rattle.rept_app.proofs.DeliveredLemmas.{delivers_as, ends_told, told_ports}
@@ -11,7 +11,7 @@ pub returns-in-Err-clause-text : goal.returns-in-Err-clause-text
 returns-in-Err-clause-text g c = λ notes are.
     let trace = crash_trace (crash_of c.args.dump.now notes) c.args.trace.now c.args.manner in
     let no = c.in-Err.ensures.read notes are in
-    where_told _ _ (λ left told. delivers_as _ (Walks trace (reading_of left (g.S.Source.port c.args.input.now).bytes)) _ _
+    where_told _ _ (λ left told. delivers_as _ (WalksTrace trace (reading_of left (g.S.Source.port c.args.input.now).bytes)) _ _
     (λ text status. refused_walks trace (reading_of left (g.S.Source.port c.args.input.now).bytes) text status c.in-Err.fault no.refusal) c.tell.ensures)
 
 pub returns-in-Err-clause-causes : goal.returns-in-Err-clause-causes
@@ -26,7 +26,7 @@ pub returns-in-Ok-clause-text : goal.returns-in-Ok-clause-text
 returns-in-Ok-clause-text g c = λ notes are.
     let trace = crash_trace (crash_of c.args.dump.now notes) c.args.trace.now c.args.manner in
     let yes = c.in-Ok.ensures.read notes are in
-    where_told _ _ (λ left told. delivers_as _ (Walks trace (reading_of left (g.S.Source.port c.study.new.input).bytes)) _ _
+    where_told _ _ (λ left told. delivers_as _ (WalksTrace trace (reading_of left (g.S.Source.port c.study.new.input).bytes)) _ _
     (λ text status h. studies_walk trace (reading_of left (g.S.Source.port c.study.new.input).bytes) text status c.in-Ok.run' yes.run h)
     (at_some (g.S.Source.port c.args.input.now).bytes left _ told (c.study.ensures.text notes are)))
 

@@ -2,7 +2,7 @@ use Rattle.std.proofs.Common.{◌≡◌, length, map, Ok, Err, inl, inr, refl, s
 use Rattle.std.specs.Option.{option_map}
 use Rattle.rept_elf.specs.Image.{file_of}
 use Rattle.rept_maps.specs.Views.{desc_of}
-use Rattle.rept_mapfiles.specs.Kept.{StopsAt, asked_names, kept_all, loads_after, most_in_all}
+use Rattle.rept_mapfiles.specs.Kept.{StopsAtFile, asked_names, kept_all, loads_after, most_in_all}
 use Rattle.rept_mapfiles.specs.declared.load.LoadStop.TheVariants as stops
 use Rattle.rept_ports.specs.Port.{move}
 use Rattle.rept_app.proofs.MappedLemmas.{count_is, err_at, list_at, list_only_at, named_at, over_files, same_count, within_names}
@@ -41,7 +41,7 @@ returns-in-Err-OutOfMemory-clause-stopped g c =
     let new = g.H.Shelf.port c.load_names.new.shelf in
     let desc = desc_of c.in-Ok-read.maps in
     let count = count_is (λ n. n.now) c.in-Ok-asked_names.names.items (asked_names desc) c.in-Ok-asked_names.ensures in
-    let stop = err_at c.load_names.result c.in-Err-OutOfMemory.field-0 stops.OutOfMemory (λ w. StopsAt (length c.as_slice.result.now) w (move old new)) c.in-Err-OutOfMemory.is c.in-Err-OutOfMemory.field-0-is c.load_names.ensures.failed in
+    let stop = err_at c.load_names.result c.in-Err-OutOfMemory.field-0 stops.OutOfMemory (λ w. StopsAtFile (length c.as_slice.result.now) w (move old new)) c.in-Err-OutOfMemory.is c.in-Err-OutOfMemory.field-0-is c.load_names.ensures.failed in
     inr (
       refl,
       record {
@@ -58,7 +58,7 @@ pub index-requires : goal.index-requires
 index-requires g c =
     let old = g.H.Shelf.port c.args.shelf.now in
     let new = g.H.Shelf.port c.load_names.new.shelf in
-    let stop = err_at c.load_names.result c.in-Err-Failed.field-0 (stops.Failed c.in-Err-Failed.place) (λ w. StopsAt (length c.as_slice.result.now) w (move old new)) c.in-Err-Failed.is c.in-Err-Failed.field-0-is c.load_names.ensures.failed in
+    let stop = err_at c.load_names.result c.in-Err-Failed.field-0 (stops.Failed c.in-Err-Failed.place) (λ w. StopsAtFile (length c.as_slice.result.now) w (move old new)) c.in-Err-Failed.is c.in-Err-Failed.field-0-is c.load_names.ensures.failed in
     omega (arith, stop.0, ap length c.as_slice.ensures.value)
 
 pub returns-in-Err-Failed-clause-stopped : goal.returns-in-Err-Failed-clause-stopped
@@ -69,7 +69,7 @@ returns-in-Err-Failed-clause-stopped g c =
     let place = c.in-Err-Failed.place in
     let names = c.in-Ok-asked_names.names in
     let count = count_is (λ n. n.now) names.items (asked_names desc) c.in-Ok-asked_names.ensures in
-    let stop = err_at c.load_names.result c.in-Err-Failed.field-0 (stops.Failed place) (λ w. StopsAt (length c.as_slice.result.now) w (move old new)) c.in-Err-Failed.is c.in-Err-Failed.field-0-is c.load_names.ensures.failed in
+    let stop = err_at c.load_names.result c.in-Err-Failed.field-0 (stops.Failed place) (λ w. StopsAtFile (length c.as_slice.result.now) w (move old new)) c.in-Err-Failed.is c.in-Err-Failed.field-0-is c.load_names.ensures.failed in
     let named = rw c.in-Err-Failed.field-0-is at c.index.ensures in
     record {
       accepted = sym c.in-Ok.ensures.fault;

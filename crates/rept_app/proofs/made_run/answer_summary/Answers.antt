@@ -1,7 +1,7 @@
 use Rattle.std.proofs.Common.{Some}
 use Rattle.rept_ports.specs.Port.{move}
 use Rattle.rept_found.proofs.Truths.{uses_here, no_execution}
-use Rattle.rept_report.specs.OneThread.{along}
+use Rattle.rept_report.specs.OneThread.{path_setting}
 use Rattle.rept_found.specs.Crash.{path_of}
 use Rattle.rept_words.specs.declared.request.Domain.TheVariants as domain
 use Rattle.rept_app.specs.Delivered.{Delivers}
@@ -39,5 +39,5 @@ returns-clause-yields g c = λ seed steps m.
     at_bytes (λ e k t i. Delivers (Examines (crash_bytes e k t ranges_manner) (reading_of i left)) out c.examine.result) c.bytes-exe.ensures c.bytes-core.ensures c.bytes-trace.ensures c.new-input.ensures c.examine.ensures.text in
     let ends_so : FilesEnd (made_bytes made) c.examine.result =
     at_bytes (λ e k t i. FilesEnd (crash_bytes e k t ranges_manner) c.examine.result) c.bytes-exe.ensures c.bytes-core.ensures c.bytes-trace.ensures c.new-input.ensures c.examine.ensures.causes.yields in
-    let session : EndsSession c.examine.result = session_made seed steps made m (λ kind has. no_execution (path_of (means_of domain.Ranges) (crash_made seed steps made m) m.rows) (c.reports_are_sound.ensures.conflict (along (path_of (means_of domain.Ranges) (crash_made seed steps made m) m.rows)) kind (uses_here (means_of domain.Ranges) (crash_made seed steps made m) m.rows) has)) c.examine.result ends_so in
+    let session : EndsSession c.examine.result = session_made seed steps made m (λ kind has. no_execution (path_of (means_of domain.Ranges) (crash_made seed steps made m) m.rows) (c.reports_are_sound.ensures.conflict (path_setting (path_of (means_of domain.Ranges) (crash_made seed steps made m) m.rows)) kind (uses_here (means_of domain.Ranges) (crash_made seed steps made m) m.rows) has)) c.examine.result ends_so in
     yields_made (made_bytes made) left out c.examine.result session c.examine.ensures.causes.ports.input here

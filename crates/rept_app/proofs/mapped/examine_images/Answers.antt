@@ -4,7 +4,7 @@ use Rattle.rept_maps.specs.Views.{desc_of}
 use Rattle.rept_mapped.specs.Mapped.{mappings}
 use Rattle.rept_found.specs.Crash.{crash_of}
 use Rattle.rept_ports.specs.Port.{move}
-use Rattle.rept_app.specs.Examine.{Examines, IsWalked, TraceExcludes, WalkHolds, Walks}
+use Rattle.rept_app.specs.Examine.{Examines, IsWalked, TraceExcludes, WalkHolds, WalksTrace}
 use Rattle.rept_app.specs.Loading.{core_bytes, parts_bytes}
 use Rattle.rept_app.specs.Reading.{HasNotes}
 use Rattle.rept_app.specs.Told.{CrashTrace}
@@ -57,7 +57,7 @@ returns-in-Ok-clause-text g c =
     let same = parts_trace (crash_of c.in-Ok.dump read.notes) ms b c.as_slice-trace.result.now c.in-Ok.ensures.files c.in-Ok.ensures.core c.as_slice-trace.ensures.value in
     where_told _ _ (λ left told. delivers_as _ (Examines (parts_bytes ms b) (reading_of left (g.S.Source.port c.walk.new.input).bytes)) _ _
     (λ text status h. walks_examine (parts_bytes ms b) (reading_of left (g.S.Source.port c.walk.new.input).bytes) text status refl (sym c.requires.accepted) read.notes read.said.said
-    (subst (λ (t : CrashTrace). Walks t (reading_of left (g.S.Source.port c.walk.new.input).bytes) text status) same h))
+    (subst (λ (t : CrashTrace). WalksTrace t (reading_of left (g.S.Source.port c.walk.new.input).bytes) text status) same h))
     (at_some (g.S.Source.port c.args.input.now).bytes left _ told (c.walk.ensures.text read.notes read.are)))
 
 pub returns-in-Ok-clause-causes : goal.returns-in-Ok-clause-causes

@@ -6,7 +6,7 @@ use Rattle.rept_dump.specs.Program.{contents}
 use Rattle.rept_trace.specs.Stream.{Stream, plain}
 use Rattle.rept_trace.specs.declared.packets.Packets.{Packets}
 use Rattle.rept_trace.specs.Packets.{rest_of, number_of}
-use Rattle.rept_path.specs.Traced.{RawRun, IsTraced, IsUntraced, raw_of}
+use Rattle.rept_path.specs.Traced.{RawRun, IsTracedPath, IsUntraced, raw_of}
 use Rattle.rept_path.specs.declared.fault.PathFault.{PathFault}
 use Rattle.rept_path.specs.declared.fault.PathFault.TheVariants.{OutOfMemory}
 use Rattle.rept_found.specs.Crash.{Crash, crash_of, end_pc}
@@ -40,8 +40,8 @@ pub returns-in-Ok-clause-path : goal.returns-in-Ok-clause-path
 returns-in-Ok-clause-path c =
     let ok = c.in-Ok.ensures.ok in
     let file : TraceFile = record { halves = ok.0; bytes = (rest_of c.in-Ok.packets).bytes } in
-    IfOk-weaker c.rebuild.result (λ path. IsTraced (raw_of c.in-Ok.packets c.args.dump.now c.args.from) path.skipped path.steps) (IsTracePath (crash_alone c.args.dump.now) c.args.trace.now c.args.from)
-    (λ path is. (file, ok.1, subst (λ (s : Stream). IsTraced (run_by c.args.dump.now c.args.from s) path.skipped path.steps) ok.2 is)) c.rebuild.ensures.path
+    IfOk-weaker c.rebuild.result (λ path. IsTracedPath (raw_of c.in-Ok.packets c.args.dump.now c.args.from) path.skipped path.steps) (IsTracePath (crash_alone c.args.dump.now) c.args.trace.now c.args.from)
+    (λ path is. (file, ok.1, subst (λ (s : Stream). IsTracedPath (run_by c.args.dump.now c.args.from s) path.skipped path.steps) ok.2 is)) c.rebuild.ensures.path
 
 pub returns-in-Ok-clause-refusal : goal.returns-in-Ok-clause-refusal
 returns-in-Ok-clause-refusal c =
@@ -55,7 +55,7 @@ returns-in-Ok-clause-only_path c = λ other is.
     let ok = c.in-Ok.ensures.ok in
     let file : TraceFile = record { halves = ok.0; bytes = (rest_of c.in-Ok.packets).bytes } in
     let traced = traced_after (crash_alone c.args.dump.now) c.args.trace.now c.args.from file ok.1 other is in
-    same_path c.rebuild.result other (c.rebuild.ensures.only_path other.skipped other.steps (subst (λ (s : Stream). IsTraced (run_by c.args.dump.now c.args.from s) other.skipped other.steps) (sym ok.2) traced))
+    same_path c.rebuild.result other (c.rebuild.ensures.only_path other.skipped other.steps (subst (λ (s : Stream). IsTracedPath (run_by c.args.dump.now c.args.from s) other.skipped other.steps) (sym ok.2) traced))
 
 pub returns-in-Ok-clause-only_refusal : goal.returns-in-Ok-clause-only_refusal
 returns-in-Ok-clause-only_refusal c = λ fault has.

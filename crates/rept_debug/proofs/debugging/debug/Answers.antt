@@ -11,7 +11,7 @@ use Rattle.rept_app.specs.Loading.{IsAsked, asked_for, core_bytes, crash_bytes, 
 use Rattle.rept_app.specs.Loading.Loading.{Loaded, LoadedCore}
 use Rattle.rept_app.specs.Mapped.{mapped_crash}
 use Rattle.rept_app.specs.declared.load.Asked.TheVariants as asked
-use Rattle.rept_debug.specs.Debugged.{IsDebugged, IsHeldMapped, IsRefused, IsUnheld, streams}
+use Rattle.rept_debug.specs.Debugged.{HasNoTalk, IsDebugged, IsHeldMapped, IsUnheld, streams}
 use Rattle.rept_debug.specs.declared.no_talk.NoTalk.TheVariants as no_talk
 use Rattle.rept_debug.proofs.ListedLemmas.{both_loads, mapped_moves, said_ok}
 use Rattle.rept_debug.proofs.OpenLemmas.{debugged_files, debugged_mapped, refused_core, refused_loaded, refused_words}
@@ -38,7 +38,7 @@ returns-in-Ok-Files-clause-refused g c =
     let b = crash_bytes f.exe.items f.core.items f.trace.items f.manner in
     let old = g.H.Shelf.port c.args.shelf.now in
     let new = g.H.Shelf.port c.load_files.new.shelf in
-    where_told old.files (λ files. IsRefused words files (move old new) (no_talk.Refused c.in-Err-debug_files.refusal)) (λ files told.
+    where_told old.files (λ files. HasNoTalk words files (move old new) (no_talk.Refused c.in-Err-debug_files.refusal)) (λ files told.
     let loaded : loading words files ≡ Loaded b =
     at_some old.files files (λ fs. loading words fs ≡ Loaded b) told
     (ok_at c.load_files.result c.in-Ok-Files.field-0 (asked.Files f) (λ a. IfSome old.files (λ fs. loading words fs ≡ asked_for a)) c.in-Ok-Files.is c.in-Ok-Files.field-0-is c.load_files.ensures.loaded) in
@@ -72,8 +72,8 @@ returns-in-Ok-Maps-clause-refused g c =
     let new = g.H.Shelf.port c.debug_mapped.new.shelf in
     let m = meaning_of words in
     let both = ok_at c.load_files.result c.in-Ok-Maps.field-0 (asked.Maps f) (λ a. IsAsked a m (move old between)) c.in-Ok-Maps.is c.in-Ok-Maps.field-0-is c.load_files.ensures.asked in
-    IfErr-weaker c.debug_mapped.result (λ why. IfSome between.files (λ told. IsUnheld (mapped_crash told b) (move between.loads new.loads) why)) (λ why. IfSome old.files (λ files. IsRefused words files (move old new) why))
-    (λ why unheld. where_told old.files (λ files. IsRefused words files (move old new) why) (λ files told.
+    IfErr-weaker c.debug_mapped.result (λ why. IfSome between.files (λ told. IsUnheld (mapped_crash told b) (move between.loads new.loads) why)) (λ why. IfSome old.files (λ files. HasNoTalk words files (move old new) why))
+    (λ why unheld. where_told old.files (λ files. HasNoTalk words files (move old new) why) (λ files told.
     let loaded : loading words files ≡ LoadedCore b =
     at_some old.files files (λ fs. loading words fs ≡ LoadedCore b) told
     (ok_at c.load_files.result c.in-Ok-Maps.field-0 (asked.Maps f) (λ a. IfSome old.files (λ fs. loading words fs ≡ asked_for a)) c.in-Ok-Maps.is c.in-Ok-Maps.field-0-is c.load_files.ensures.loaded) in
@@ -99,4 +99,4 @@ returns-clause-refused g c =
     let words = map string_bytes c.args.words.now in
     let old = g.H.Shelf.port c.args.shelf.now in
     let new = g.H.Shelf.port c.load_files.new.shelf in
-    where_told old.files (λ files. IsRefused words files (move old new) (no_talk.Refused c.in-Err.refusal)) (λ files told. refused_words words files old new c.in-Err.refusal (stops words files old new c.in-Err.refusal told c.in-Err.ensures.refused))
+    where_told old.files (λ files. HasNoTalk words files (move old new) (no_talk.Refused c.in-Err.refusal)) (λ files told. refused_words words files old new c.in-Err.refusal (stops words files old new c.in-Err.refusal told c.in-Err.ensures.refused))

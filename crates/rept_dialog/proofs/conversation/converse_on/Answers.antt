@@ -4,7 +4,7 @@ use Rattle.rept_ports.specs.Causes.{AppendsPrefix}
 use Rattle.rept_ports.specs.Port.{move}
 use Rattle.rept_remote.specs.Frames.{arrived}
 use Rattle.rept_session.specs.Shown.{session_told}
-use Rattle.rept_stub.specs.Standing.{IsStanding}
+use Rattle.rept_stub.specs.Standing.{IsStandLawful}
 use Rattle.rept_dialog.specs.Converse.{Parties, parties_over}
 use Rattle.rept_dialog.specs.Dialog.{IsTurn}
 use Rattle.rept_dialog.proofs.Course.{starts, opened, some_bytes, on_turn, came, broke}
@@ -40,7 +40,7 @@ dialog-preserved g c =
     record {
       shown_stays = c.take_turn.ensures.same ∙ here.shown_stays;
       reasons_stay = reasons_stay (g.F.Findings.reasons c.args.findings.now) (g.F.Findings.reasons c.dialog.findings) (g.F.Findings.reasons c.take_turn.new.findings) here.reasons_stay c.take_turn.ensures.same_reasons;
-      within = subst (λ shown. IsStanding shown c.take_turn.new.dialog.stand) here.shown_stays c.take_turn.ensures.within;
+      within = subst (λ shown. IsStandLawful shown c.take_turn.new.dialog.stand) here.shown_stays c.take_turn.ensures.within;
       going = taken.3;
       read = here.read ++ taken.0;
       counted = omega (arith, here.counted, taken.1.took.counted, length-append here.read taken.0);

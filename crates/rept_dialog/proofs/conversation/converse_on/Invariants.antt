@@ -2,7 +2,7 @@ use Rattle.std.proofs.Common.{◌≡◌, ◌≤◌, ◌-◌, ℕ, List, length, 
 use Rattle.rept_ports.specs.Port.{move}
 use Rattle.rept_remote.specs.Reading.{most_input}
 use Rattle.rept_session.specs.Shown.{SameReasons, session_told}
-use Rattle.rept_stub.specs.Standing.{IsStanding}
+use Rattle.rept_stub.specs.Standing.{IsStandLawful}
 use Rattle.rept_dialog.specs.Converse.{Progress, parties_over}
 use Rattle.rept_dialog.proofs.conversation.converse_on.Given as goal
 
@@ -15,7 +15,7 @@ invariant-dialog g l =
     record {
       shown_stays : shown l.findings ≡ shown l.fn.findings;
       reasons_stay : SameReasons (reasons l.fn.findings) (reasons l.findings);
-      within : IsStanding (shown l.fn.findings) l.dialog.stand;
+      within : IsStandLawful (shown l.fn.findings) l.dialog.stand;
       going : l.packets.over ≡ None;
       read : List ℕ;
       counted : l.packets.count ≡ length read;

@@ -7,5 +7,5 @@ pub returns : goal.returns
 returns c =
     let is : c.end-count.result ≡ (numbers_of c.args.many.now).end = c.end-count.ensures in
     let few : length c.args.begins.now ≤ (numbers_of c.args.many.now).end = c.requires.few in
-    let less : c.count_past.result ≤ length c.args.begins.now = c.count_past.ensures.few in
-    all_from c.args.many.now c.args.begins.now (numbers_of c.args.many.now).end c.args.time c.count_past.result (c.end-count.result - c.count_past.result) c.requires.times few less c.count_past.ensures.last (omega arith)
+    let less : c.count_to.result ≤ length c.args.begins.now = c.count_to.ensures.few in
+    all_from c.args.many.now c.args.begins.now (numbers_of c.args.many.now).end c.args.time c.count_to.result (c.end-count.result - c.count_to.result) c.requires.times few less c.count_to.ensures.last (omega arith)

@@ -9,7 +9,7 @@ use Rattle.rept_analysis.specs.State.{IsLined}
 use Rattle.rept_trip.specs.Executed.{HasNoHistory}
 use Rattle.rept_trip.specs.Trip.{given_on, setting_on}
 use Rattle.rept_found.specs.Crash.{means}
-use Rattle.rept_found.specs.View.{View, ending_in, read_in, scene_in, trip_in, IsFoundIn, IsOfRun}
+use Rattle.rept_found.specs.View.{CrashView, ending_in, read_in, scene_in, trip_in, IsFoundIn, IsOfRun}
 use Rattle.rept_found.proofs.Settings.{conflict_of, found_in, setting_is, still_of}
 use Rattle.rept_found.proofs.Trips.{no_history}
 use Rattle.rept_found.proofs.found.search.Goals as goal
@@ -17,18 +17,18 @@ use Rattle.rept_found.proofs.found.search.Goals as goal
 pub invariant_of-result : goal.invariant_of-result
 invariant_of-result g c =
     let m = means g.W.Partial.sets g.W.Transfer.moves g.R.RowRules.rules in
-    let here : View g.row.W.Denot g.row.R.Denot = record { analysis = c.prepared.inside.analysis; ends = c.prepared.inside.ends.now; program = exe_of c.prepared.inside.dump.now; core = core_of c.prepared.inside.dump.now } in
-    let new : View g.row.W.Denot g.row.R.Denot = record { analysis = c.refine.new.self; ends = c.prepared.inside.ends.now; program = exe_of c.prepared.inside.dump.now; core = core_of c.prepared.inside.dump.now } in
+    let here : CrashView g.row.W.Denot g.row.R.Denot = record { analysis = c.prepared.inside.analysis; ends = c.prepared.inside.ends.now; program = exe_of c.prepared.inside.dump.now; core = core_of c.prepared.inside.dump.now } in
+    let new : CrashView g.row.W.Denot g.row.R.Denot = record { analysis = c.refine.new.self; ends = c.prepared.inside.ends.now; program = exe_of c.prepared.inside.dump.now; core = core_of c.prepared.inside.dump.now } in
     let of : IsOfRun new = record { some = c.prepared.invariant.0.some; sound = c.prepared.invariant.0.sound; given = still_of m here.analysis new.analysis (given_on here.ends.course (ending_in here)) c.refine.ensures.path c.prepared.invariant.0.given } in
     (c.in-Ok.ensures.complete, of, c.prepared.invariant.1)
 
 pub returns-in-Ok-clause-found : goal.returns-in-Ok-clause-found
 returns-in-Ok-clause-found g c =
     let m = means g.W.Partial.sets g.W.Transfer.moves g.R.RowRules.rules in
-    let here : View g.row.W.Denot g.row.R.Denot = record { analysis = c.prepared.inside.analysis; ends = c.prepared.inside.ends.now; program = exe_of c.prepared.inside.dump.now; core = core_of c.prepared.inside.dump.now } in
-    let new : View g.row.W.Denot g.row.R.Denot = record { analysis = c.refine.new.self; ends = c.prepared.inside.ends.now; program = exe_of c.prepared.inside.dump.now; core = core_of c.prepared.inside.dump.now } in
+    let here : CrashView g.row.W.Denot g.row.R.Denot = record { analysis = c.prepared.inside.analysis; ends = c.prepared.inside.ends.now; program = exe_of c.prepared.inside.dump.now; core = core_of c.prepared.inside.dump.now } in
+    let new : CrashView g.row.W.Denot g.row.R.Denot = record { analysis = c.refine.new.self; ends = c.prepared.inside.ends.now; program = exe_of c.prepared.inside.dump.now; core = core_of c.prepared.inside.dump.now } in
     let of : IsOfRun new = record { some = c.prepared.invariant.0.some; sound = c.prepared.invariant.0.sound; given = still_of m here.analysis new.analysis (given_on here.ends.course (ending_in here)) c.refine.ensures.path c.prepared.invariant.0.given } in
-    subst (λ (v : View g.row.W.Denot g.row.R.Denot). IsFoundIn m (trip_in m v) (scene_in v) new) c.prepared.view_is (found_in m new of c.in-Ok.ensures.report (c.account.ensures.log c.in-Ok.ensures.complete))
+    subst (λ (v : CrashView g.row.W.Denot g.row.R.Denot). IsFoundIn m (trip_in m v) (scene_in v) new) c.prepared.view_is (found_in m new of c.in-Ok.ensures.report (c.account.ensures.log c.in-Ok.ensures.complete))
 
 -- a stop of the analysis is one of the search
 stop_at : {A B : Type 0} (e : Stop) (stop : Stop) (r : Result A Stop) → r ≡ Err e → ◌≡◌ {A = Result B Stop} (Err e) (Err stop) → r ≡ Err stop
@@ -40,25 +40,25 @@ stop_at e stop r is same = is ∙ ap (λ (x : Stop). Err x) (same_err same)
 pub returns-clause-conflict : goal.returns-clause-conflict
 returns-clause-conflict g c = λ kind e.
     let m = means g.W.Partial.sets g.W.Transfer.moves g.R.RowRules.rules in
-    let here : View g.row.W.Denot g.row.R.Denot = record { analysis = c.prepared.inside.analysis; ends = c.prepared.inside.ends.now; program = exe_of c.prepared.inside.dump.now; core = core_of c.prepared.inside.dump.now } in
-    subst (λ (v : View g.row.W.Denot g.row.R.Denot). ClosureHas (setting_on (trip_in m v)) kind) c.prepared.view_is
+    let here : CrashView g.row.W.Denot g.row.R.Denot = record { analysis = c.prepared.inside.analysis; ends = c.prepared.inside.ends.now; program = exe_of c.prepared.inside.dump.now; core = core_of c.prepared.inside.dump.now } in
+    subst (λ (v : CrashView g.row.W.Denot g.row.R.Denot). ClosureHas (setting_on (trip_in m v)) kind) c.prepared.view_is
     (conflict_of _ (setting_on (trip_in m here)) kind (setting_is m here c.prepared.invariant.0) (c.refine.ensures.conflict kind (stop_at c.in-Err.stop (Conflict kind) c.refine.result c.in-Err.is e)))
 
 pub returns-clause-impossible : goal.returns-clause-impossible
 returns-clause-impossible g c = λ kind e.
     let m = means g.W.Partial.sets g.W.Transfer.moves g.R.RowRules.rules in
-    let here : View g.row.W.Denot g.row.R.Denot = record { analysis = c.prepared.inside.analysis; ends = c.prepared.inside.ends.now; program = exe_of c.prepared.inside.dump.now; core = core_of c.prepared.inside.dump.now } in
-    subst (λ (v : View g.row.W.Denot g.row.R.Denot). HasNoHistory (trip_in m v)) c.prepared.view_is
+    let here : CrashView g.row.W.Denot g.row.R.Denot = record { analysis = c.prepared.inside.analysis; ends = c.prepared.inside.ends.now; program = exe_of c.prepared.inside.dump.now; core = core_of c.prepared.inside.dump.now } in
+    subst (λ (v : CrashView g.row.W.Denot g.row.R.Denot). HasNoHistory (trip_in m v)) c.prepared.view_is
     (no_history (trip_in m here) c.prepared.invariant.0.sound c.prepared.invariant.0.some (subst (λ (S : Setting g.row.W.Denot). HasNoExecution S) (setting_is m here c.prepared.invariant.0) (c.refine.ensures.impossible kind (stop_at c.in-Err.stop (Conflict kind) c.refine.result c.in-Err.is e))))
 
 pub returns-clause-whole : goal.returns-clause-whole
 returns-clause-whole g c = λ lined e.
-    c.refine.ensures.joins refl (subst (λ (v : View g.row.W.Denot g.row.R.Denot). IsLined (read_in.timeline v.analysis.paths)) (sym c.prepared.view_is) lined) (stop_at c.in-Err.stop OutOfMemory c.refine.result c.in-Err.is e)
+    c.refine.ensures.joins refl (subst (λ (v : CrashView g.row.W.Denot g.row.R.Denot). IsLined (read_in.timeline v.analysis.paths)) (sym c.prepared.view_is) lined) (stop_at c.in-Err.stop OutOfMemory c.refine.result c.in-Err.is e)
 
 pub returns-clause-exact : goal.returns-clause-exact
 returns-clause-exact g c = λ lined consistent.
     let m = means g.W.Partial.sets g.W.Transfer.moves g.R.RowRules.rules in
-    let here : View g.row.W.Denot g.row.R.Denot = record { analysis = c.prepared.inside.analysis; ends = c.prepared.inside.ends.now; program = exe_of c.prepared.inside.dump.now; core = core_of c.prepared.inside.dump.now } in
+    let here : CrashView g.row.W.Denot g.row.R.Denot = record { analysis = c.prepared.inside.analysis; ends = c.prepared.inside.ends.now; program = exe_of c.prepared.inside.dump.now; core = core_of c.prepared.inside.dump.now } in
     subst (λ (r : Result _ Stop). IsOk r) c.in-Err.is
-    (c.refine.ensures.exact refl (subst (λ (v : View g.row.W.Denot g.row.R.Denot). IsLined (read_in.timeline v.analysis.paths)) (sym c.prepared.view_is) lined)
-    (subst (λ (S : Setting g.row.W.Denot). IsConsistent S) (sym (setting_is m here c.prepared.invariant.0)) (subst (λ (v : View g.row.W.Denot g.row.R.Denot). IsConsistent (setting_on (trip_in m v))) (sym c.prepared.view_is) consistent)))
+    (c.refine.ensures.exact refl (subst (λ (v : CrashView g.row.W.Denot g.row.R.Denot). IsLined (read_in.timeline v.analysis.paths)) (sym c.prepared.view_is) lined)
+    (subst (λ (S : Setting g.row.W.Denot). IsConsistent S) (sym (setting_is m here c.prepared.invariant.0)) (subst (λ (v : CrashView g.row.W.Denot g.row.R.Denot). IsConsistent (setting_on (trip_in m v))) (sym c.prepared.view_is) consistent)))

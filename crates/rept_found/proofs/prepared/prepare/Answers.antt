@@ -1,10 +1,10 @@
 use Rattle.std.proofs.Common.{◌≡◌, ◌≤◌, length, ap, subst, sym, arith, ◌∙◌}
 use Rattle.rept_dump.specs.Dump.{exe_of, core_of}
 use Rattle.rept_moments.specs.Courses.{seen_in}
-use Rattle.rept_moments.specs.Seen.{Seen}
+use Rattle.rept_moments.specs.Seen.{SeenMoments}
 use Rattle.rept_timeline.specs.declared.run_paths.RunPaths.{RunPaths}
 use Rattle.rept_found.specs.Crash.{means}
-use Rattle.rept_found.specs.View.{View}
+use Rattle.rept_found.specs.View.{CrashView}
 use Rattle.rept_extents.specs.declared.run_rows.RunRows.{RunRows}
 use Rattle.rept_found.specs.declared.ends.RunEnds.{RunEnds}
 use Rattle.rept_found.specs.Ends.{Ends, last_values_in}
@@ -15,7 +15,7 @@ pub prepare-requires-clause-few : goal.prepare-requires-clause-few
 prepare-requires-clause-few g c =
     let all = points_are c.args.ends.now.course c.account.ensures.some in
     let few = c.account.ensures.few in
-    let here : (seen_in c.args.paths.now.ways).legs.count ≤ 66560 = subst (λ (x : Seen). x.legs.count ≤ 66560) (sym (seen_same c.args.ends.now.course c.args.paths.now.ways c.requires.course)) (omega arith) in
+    let here : (seen_in c.args.paths.now.ways).legs.count ≤ 66560 = subst (λ (x : SeenMoments). x.legs.count ≤ 66560) (sym (seen_same c.args.ends.now.course c.args.paths.now.ways c.requires.course)) (omega arith) in
     subst (λ (x : RunPaths). (seen_in x.ways).legs.count ≤ 66560) (sym c.in_ok-rows.ensures) here
 
 pub prepare-requires-clause-registers : goal.prepare-requires-clause-registers
@@ -37,7 +37,7 @@ invariant_of-result g c =
 pub returns : goal.returns
 returns g c =
     let m = means g.W.Partial.sets g.W.Transfer.moves g.R.RowRules.rules in
-    let new : View g.row.W.Denot g.row.R.Denot = record { analysis = c.in_ok-analysis.analysis; ends = c.args.ends.now; program = exe_of c.args.dump.now; core = core_of c.args.dump.now } in
+    let new : CrashView g.row.W.Denot g.row.R.Denot = record { analysis = c.in_ok-analysis.analysis; ends = c.args.ends.now; program = exe_of c.args.dump.now; core = core_of c.args.dump.now } in
     record {
       prepared = λ notes noted same. record {
         trip = trip_is m new notes c.account.ensures.ends.whole noted same;

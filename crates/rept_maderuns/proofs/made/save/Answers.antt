@@ -3,14 +3,14 @@ use Rattle.rept_isa.specs.declared.instr.Instr.{Instr}
 use Rattle.rept_steps.specs.declared.threads.ThreadRows.{ThreadRows}
 use Rattle.rept_turns.specs.declared.turn.Turn.{Turn}
 use Rattle.rept_turns.specs.Turns.{rows_in}
-use Rattle.rept_play.specs.Code.{IsCode}
+use Rattle.rept_play.specs.Code.{IsPlayCode}
 use Rattle.rept_maderuns.specs.Harts.{HaveRows}
 use Rattle.rept_maderuns.proofs.Saving.{few_rows, have_rows, harts_count, harts_sendable, made_run}
 use Rattle.rept_maderuns.proofs.Telling.{is_told}
 use Rattle.rept_maderuns.proofs.made.save.Goals as goal
 
 pub words_of-requires : goal.words_of-requires
-words_of-requires c = subst (λ (is : List Instr). IsCode is) (sym c.as_slice.ensures.value) c.requires.made.playable.slots
+words_of-requires c = subst (λ (is : List Instr). IsPlayCode is) (sym c.as_slice.ensures.value) c.requires.made.playable.slots
 
 pub core_file-requires : goal.core_file-requires
 core_file-requires c = λ t. subst (λ (ts : List Turn). rows_in t ts ≤ 65536) (sym c.as_slice-turns.ensures.value) (few_rows c.args.seed c.args.sizes c.args.made c.requires.made t)

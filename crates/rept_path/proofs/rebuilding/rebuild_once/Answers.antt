@@ -7,7 +7,7 @@ use Rattle.rept_trace.specs.Packets.{rest_of, number_of}
 use Rattle.rept_path.specs.declared.program.Program.{Program}
 use Rattle.rept_path.specs.declared.fault.PathFault.TheVariants.{OutOfMemory}
 use Rattle.rept_path.specs.Rows.{CarryCode}
-use Rattle.rept_path.specs.Traced.{RawRun, IsTraced, IsUntraced, raw_of, raw_by}
+use Rattle.rept_path.specs.Traced.{RawRun, IsTracedPath, IsUntraced, raw_of, raw_by}
 use Rattle.rept_path.proofs.rebuilding.rebuild_once.Goals as goal
 
 -- the run of the dump's program
@@ -17,7 +17,7 @@ same_run packets dump program halves from e h = rw (e, h) refl
 pub returns-clause-path : goal.returns-clause-path
 returns-clause-path c =
     let same = same_run c.args.packets c.args.dump.now c.new-program.result c.halves.result c.args.from c.new-program.ensures c.halves.ensures in
-    subst (λ (raw : RawRun). IfOk c.rebuild_program.result (λ path. IsTraced raw path.skipped path.steps)) same c.rebuild_program.ensures.path
+    subst (λ (raw : RawRun). IfOk c.rebuild_program.result (λ path. IsTracedPath raw path.skipped path.steps)) same c.rebuild_program.ensures.path
 
 pub returns-clause-ends : goal.returns-clause-ends
 returns-clause-ends c =

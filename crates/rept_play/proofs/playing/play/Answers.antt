@@ -17,5 +17,5 @@ returns c =
       none_skipped = refl;
       sound = run_sound c.args.code.now c.args.turns.now played c.requires c.in_ok-threads.ensures None;
       left = (c.registers_of.ensures.size, c.in_ok-bytes.ensures.size);
-      execution = λ dark. executed c.args.code.now c.args.turns.now played c.requires c.in_ok-threads.ensures dark c.in_ok-machine.machine ran.0 c.registers_of.ensures.value c.in_ok-bytes.ensures.value c.args.registers ran.1;
+      execution = λ dark. executed c.args.code.now c.args.turns.now played c.requires c.in_ok-threads.ensures dark c.in_ok-machine.machine ran.0 c.registers_of.ensures.value c.in_ok-bytes.ensures.bytes c.args.registers ran.1;
     }

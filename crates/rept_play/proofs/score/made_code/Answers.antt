@@ -2,7 +2,7 @@ use Rattle.std.proofs.Common.{◌≡◌, ℕ, ◌/◌, ◌%◌, [], ◌∷◌, l
 use Rattle.rept_isa.specs.declared.instr.Instr.{Instr}
 use Rattle.rept_isa.specs.declared.instr.Instr.TheVariants.{Fence}
 use Rattle.rept_isa.specs.Range.{InRange}
-use Rattle.rept_play.specs.Shares.{Uses}
+use Rattle.rept_play.specs.Shares.{UsesOwn}
 use Rattle.rept_play.specs.Drawn.{made_instr}
 use Rattle.rept_play.proofs.Drawing.{all_more}
 use Rattle.rept_play.proofs.score.made_code.Goals as goal
@@ -14,6 +14,6 @@ loop-i-preserved c =
     record {
       size = omega (arith, i.size, ap (length {A = Instr}) c.in_default.ensures.items, length-append c.loop-i.code.items (c.made_instr-instr.result ∷ []));
       drawn = all_more (λ (j : ℕ) (x : Instr). x ≡ made_instr c.args.seed (j / 15) (j % 15)) c.loop-i.code.items c.push.new.self.items c.loop-i.i c.made_instr-instr.result Fence c.in_default.ensures.items i.size i.drawn own.value;
-      uses = all_more (λ (j : ℕ) (x : Instr). Uses (j / 15) x) c.loop-i.code.items c.push.new.self.items c.loop-i.i c.made_instr-instr.result Fence c.in_default.ensures.items i.size i.uses own.uses;
+      uses = all_more (λ (j : ℕ) (x : Instr). UsesOwn (j / 15) x) c.loop-i.code.items c.push.new.self.items c.loop-i.i c.made_instr-instr.result Fence c.in_default.ensures.items i.size i.uses own.uses;
       range = all_more (λ (j : ℕ) (x : Instr). InRange x) c.loop-i.code.items c.push.new.self.items c.loop-i.i c.made_instr-instr.result Fence c.in_default.ensures.items i.size i.range own.range;
     }

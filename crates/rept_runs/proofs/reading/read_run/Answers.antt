@@ -4,7 +4,7 @@ use Rattle.rept_trace.specs.Streams.{StreamFile}
 use Rattle.rept_trace.specs.declared.fault.TraceFault.{TraceFault}
 use Rattle.rept_path.specs.declared.fault.PathFault.{PathFault}
 use Rattle.rept_path.specs.declared.fault.PathFault.TheVariants.{Packet, OutOfMemory}
-use Rattle.rept_slices.specs.Raw.{files_of, IsRunOf, HasNoRun}
+use Rattle.rept_slices.specs.Raw.{files_of, IsRunOfFiles, HasNoRun}
 use Rattle.rept_threads.proofs.Fitting.{file_fits}
 use Rattle.rept_runs.specs.Told.{traced, IsTracedRun, HasNoTracedRun}
 use Rattle.rept_runs.proofs.Few.{run_small}
@@ -20,7 +20,7 @@ rebuild_many-requires c =
 
 pub returns-in-Ok-clause-ok : goal.returns-in-Ok-clause-ok
 returns-in-Ok-clause-ok c = λ descs threads count.
-    IfOk-weaker c.rebuild_many.result (IsRunOf (files_of c.args.dump.now c.in-Ok.streams descs c.args.from)) (IsTracedRun (traced c.args.dump.now descs c.args.trace.now c.args.from))
+    IfOk-weaker c.rebuild_many.result (IsRunOfFiles (files_of c.args.dump.now c.in-Ok.streams descs c.args.from)) (IsTracedRun (traced c.args.dump.now descs c.args.trace.now c.args.from))
     (λ run is. (c.in-Ok.streams, c.in-Ok.ensures.opens, is)) (c.rebuild_many.ensures.ok descs threads count)
 
 pub returns-in-Ok-clause-err : goal.returns-in-Ok-clause-err
@@ -36,7 +36,7 @@ pub returns-in-Ok-clause-only_run : goal.returns-in-Ok-clause-only_run
 returns-in-Ok-clause-only_run c = λ descs other threads count is.
     let same : ◌≡◌ {A = Result StreamFile TraceFault} (Ok c.in-Ok.streams) (Ok is.0) = c.in-Ok.ensures.only (Ok is.0) is.1 in
     let file : is.0 ≡ c.in-Ok.streams = cc in
-    c.rebuild_many.ensures.only_run descs other threads count (subst (λ (f : StreamFile). IsRunOf (files_of c.args.dump.now f descs c.args.from) other) file is.2)
+    c.rebuild_many.ensures.only_run descs other threads count (subst (λ (f : StreamFile). IsRunOfFiles (files_of c.args.dump.now f descs c.args.from) other) file is.2)
 
 pub returns-in-Ok-clause-only_refusal : goal.returns-in-Ok-clause-only_refusal
 returns-in-Ok-clause-only_refusal c = λ descs fault threads count why.
@@ -53,7 +53,7 @@ returns-in-Ok-clause-sound c = λ descs threads count. c.rebuild_many.ensures.so
 
 pub returns-in-Ok-clause-small : goal.returns-in-Ok-clause-small
 returns-in-Ok-clause-small c = λ descs threads count apart.
-    IfOk-weaker c.rebuild_many.result (IsRunOf (files_of c.args.dump.now c.in-Ok.streams descs c.args.from)) (λ run. IsSmall (course_of run))
+    IfOk-weaker c.rebuild_many.result (IsRunOfFiles (files_of c.args.dump.now c.in-Ok.streams descs c.args.from)) (λ run. IsSmall (course_of run))
     (λ run is. run_small (traced c.args.dump.now descs c.args.trace.now c.args.from) run (c.in-Ok.streams, c.in-Ok.ensures.opens, is) apart) (c.rebuild_many.ensures.ok descs threads count)
 
 pub returns-in-Err-clause-err : goal.returns-in-Err-clause-err

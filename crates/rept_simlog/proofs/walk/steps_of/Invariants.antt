@@ -3,7 +3,7 @@ use Rattle.std.specs.List.{All}
 use Rattle.rept_simlog.specs.Program.{program_of}
 use Rattle.rept_steps.specs.Linked.{EndBefore}
 use Rattle.rept_encode.specs.Walkable.{IsStepped}
-use Rattle.rept_simlog.specs.declared.log.Entry.{Entry}
+use Rattle.rept_simlog.specs.declared.entry.Entry.{Entry}
 use Rattle.rept_simlog.specs.Walk.{Along, MayGo}
 use Rattle.rept_simlog.proofs.walk.steps_of.Given as goal
 

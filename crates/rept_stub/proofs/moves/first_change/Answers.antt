@@ -1,6 +1,6 @@
 use Rattle.std.proofs.Common.{◌≡◌, ◌+◌, ◌-◌, ◌/◌, arith, refl, sym, ◌∙◌, false}
 use Rattle.rept_session.specs.LastWriters.{writer_at}
-use Rattle.rept_session.specs.Shown.{IsAt}
+use Rattle.rept_session.specs.Shown.{IsThreadPoint}
 use Rattle.rept_session.specs.Texts.{at}
 use Rattle.rept_stub.specs.Halts.{has_changed, is_touched}
 use Rattle.rept_stub.proofs.Forward.{first_found, none_between, none_new, written_here}
@@ -44,7 +44,7 @@ loop-high-preserved g c =
     let within = i.within in
     let top = c.requires.changed.1 in
     let point = c.between-point.result in
-    let there : IsAt s (at c.args.here.thread point) = (c.requires.here.0, omega (arith, over, within, top)) in
+    let there : IsThreadPoint s (at c.args.here.thread point) = (c.requires.here.0, omega (arith, over, within, top)) in
     let same : has_changed s c.args.here c.args.address (writer_at s (at c.args.here.thread point) c.args.address) ≡ false = c.changed_by.ensures.none c.in-None.is in
     record {
       from = omega (arith, under, from);
@@ -64,6 +64,6 @@ returns-clause-value g c bound wide =
     let order = i.order in
     let within = i.within in
     let top = c.requires.changed.1 in
-    let there : IsAt s (at c.args.here.thread c.loop-high.high) = (c.requires.here.0, omega (arith, within, top)) in
+    let there : IsThreadPoint s (at c.args.here.thread c.loop-high.high) = (c.requires.here.0, omega (arith, within, top)) in
     first_found (λ p. is_touched s (at c.args.here.thread p) c.args.address) c.args.here.point c.loop-high.low c.loop-high.high bound from (omega (arith, near, order)) (omega (arith, within, wide)) i.none
     (written_here s c.args.here c.args.address c.requires.last c.loop-high.low c.loop-high.high there order (omega (arith, near, order)) i.old i.new)

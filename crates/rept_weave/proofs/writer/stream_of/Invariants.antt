@@ -1,6 +1,6 @@
 use Rattle.std.proofs.Common.{take}
-use Rattle.rept_weave.specs.Steps.{AreTold}
+use Rattle.rept_weave.specs.Steps.{AreStretchesTold}
 use Rattle.rept_weave.proofs.writer.stream_of.Given as goal
 
 abbrev pub invariant-loop-i : goal.invariant-loop-i
-invariant-loop-i l = AreTold l.halves (take l.i l.stretches) l.stream
+invariant-loop-i l = AreStretchesTold l.halves (take l.i l.stretches) l.stream

@@ -3,7 +3,7 @@ use Rattle.std.specs.Prelude.{MatchResult}
 use Rattle.rept_trace.specs.Streams.{StreamFile}
 use Rattle.rept_trace.specs.declared.fault.TraceFault.{TraceFault}
 use Rattle.rept_path.specs.declared.fault.PathFault.TheVariants.{Packet, OutOfMemory}
-use Rattle.rept_slices.specs.Raw.{files_of, note_in, IsRunOf, HasNoRun}
+use Rattle.rept_slices.specs.Raw.{files_of, note_in, IsRunOfFiles, HasNoRun}
 use Rattle.rept_threads.proofs.Fitting.{file_fits}
 use Rattle.rept_woven.specs.Ordered.{run_of_harts}
 use Rattle.rept_woven.proofs.Whole.{rebuilt, either_way}
@@ -24,8 +24,8 @@ pub returns-in-Ok-clause-read : goal.returns-in-Ok-clause-read
 returns-in-Ok-clause-read c = λ file descs opens threads count.
     let same : ◌≡◌ {A = Result StreamFile TraceFault} (Ok c.in-Ok.streams) (Ok file) = c.in-Ok.ensures.only (Ok file) opens in
     let is : c.in-Ok.streams ≡ file = cc in
-    let found : StreamFile → Type 0 = λ f. MatchResult c.rebuild_many.result (λ run. IsRunOf (files_of c.args.dump.now f descs 0) run) (λ e. (e ≡ OutOfMemory) ⊎ HasNoRun (files_of c.args.dump.now f descs 0) e) in
-    subst found is (either_way (IsRunOf (files_of c.args.dump.now c.in-Ok.streams descs 0)) (λ e. (e ≡ OutOfMemory) ⊎ HasNoRun (files_of c.args.dump.now c.in-Ok.streams descs 0) e) c.rebuild_many.result (c.rebuild_many.ensures.ok descs threads count) (c.rebuild_many.ensures.err descs threads count))
+    let found : StreamFile → Type 0 = λ f. MatchResult c.rebuild_many.result (λ run. IsRunOfFiles (files_of c.args.dump.now f descs 0) run) (λ e. (e ≡ OutOfMemory) ⊎ HasNoRun (files_of c.args.dump.now f descs 0) e) in
+    subst found is (either_way (IsRunOfFiles (files_of c.args.dump.now c.in-Ok.streams descs 0)) (λ e. (e ≡ OutOfMemory) ⊎ HasNoRun (files_of c.args.dump.now c.in-Ok.streams descs 0) e) c.rebuild_many.result (c.rebuild_many.ensures.ok descs threads count) (c.rebuild_many.ensures.err descs threads count))
 
 pub returns-in-Ok-clause-refused : goal.returns-in-Ok-clause-refused
 returns-in-Ok-clause-refused c = λ fault opens.

@@ -1,6 +1,6 @@
 use Rattle.std.proofs.Common.{◌≢◌, ℕ, ◌+◌, ◌<◌, ◌≤◌, Some, arith}
 use Rattle.rept_isa.specs.Operands.{written_by}
-use Rattle.rept_analysis.specs.State.{State, state_of, reader}
+use Rattle.rept_analysis.specs.State.{AnalysisState, state_of, reader}
 use Rattle.rept_analysis.specs.Drawing.{IsKeptAt, KeptBelow}
 use Rattle.rept_analysis.proofs.Drawn.{Drew_both, Drew_as, Grows_trans, one_more}
 use Rattle.rept_analysis.proofs.analysis.Analysis.carry_all.Goals as goal
@@ -11,7 +11,7 @@ returns-in_err-new-clause-grows g c = Grows_trans _ _ _ c.loop-r.invariant.grows
 pub loop-r-preserved : goal.loop-r-preserved
 loop-r-preserved g c =
     let row = c.args.row.now in
-    let C : State g.row.W.Denot → ℕ → Type 0 = λ a r. 0 < r → written_by row.instr ≢ Some r → IsKeptAt c.args.i r a in
+    let C : AnalysisState g.row.W.Denot → ℕ → Type 0 = λ a r. 0 < r → written_by row.instr ≢ Some r → IsKeptAt c.args.i r a in
     let here = rw c.register.ensures at c.in_ok-new.ensures.drew in
     record {
       grows = Grows_trans _ _ _ c.loop-r.invariant.grows c.in_ok-new.ensures.grows;

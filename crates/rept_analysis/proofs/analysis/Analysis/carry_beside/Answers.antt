@@ -1,6 +1,6 @@
 use Rattle.std.proofs.Common.{◌≡◌, ◌+◌, ◌||◌, ℕ, Some, inl, inr, arith}
 use Rattle.rept_report.specs.Spots.{passage}
-use Rattle.rept_analysis.specs.State.{State, state_of, reader}
+use Rattle.rept_analysis.specs.State.{AnalysisState, state_of, reader}
 use Rattle.rept_analysis.specs.Drawing.{IsCarriedFrom, IsCarriedIf, IsCarriedBeside}
 use Rattle.rept_analysis.proofs.Drawn.{Drew_both, Grows_trans}
 use Rattle.rept_analysis.proofs.Listing.{writings_after}
@@ -50,8 +50,8 @@ returns-clause-drew g c =
     let v = (state_of (reader g.P.Paths.timeline g.L.LastValues.values) g.W.Partial.sets g.W.Transfer.moves g.R.RowRules.rules g.B.ByteFacts.store c.carry_end-2.new.self) in
     let a = c.args.a in
     let piece = c.piece-piece.result in
-    let P : State g.row.W.Denot → Type 0 = λ x. (i : ℕ) → piece.before ≡ Some i → IsCarriedIf (passage a i (i + 1)) x in
-    let Q : State g.row.W.Denot → Type 0 = λ x. (i : ℕ) → piece.after ≡ Some i → IsCarriedIf (passage a i (i + 1)) x in
-    let R : State g.row.W.Denot → Type 0 = λ x. IsCarriedFrom a piece.from piece.to x × P x in
+    let P : AnalysisState g.row.W.Denot → Type 0 = λ x. (i : ℕ) → piece.before ≡ Some i → IsCarriedIf (passage a i (i + 1)) x in
+    let Q : AnalysisState g.row.W.Denot → Type 0 = λ x. (i : ℕ) → piece.after ≡ Some i → IsCarriedIf (passage a i (i + 1)) x in
+    let R : AnalysisState g.row.W.Denot → Type 0 = λ x. IsCarriedFrom a piece.from piece.to x × P x in
     let both = Drew_both s t u c.in_ok-inside.inside c.in_ok-before.before (IsCarriedFrom a piece.from piece.to) P R c.in_ok-inside.ensures.grows c.in_ok-before.ensures.grows c.in_ok-inside.ensures.drew c.in_ok-before.ensures.drew (λ p q. (p, q)) in
     Drew_both s u v (c.in_ok-inside.inside || c.in_ok-before.before) c.in_ok-after.after R Q (IsCarriedBeside a c.args.strip c.args.point piece.to) (Grows_trans s t u c.in_ok-inside.ensures.grows c.in_ok-before.ensures.grows) c.in_ok-after.ensures.grows both c.in_ok-after.ensures.drew (λ p q. beside_closed s a c.args.point c.args.strip piece c.piece-piece.ensures p.0 p.1 q)

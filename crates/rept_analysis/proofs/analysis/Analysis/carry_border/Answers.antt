@@ -1,6 +1,6 @@
 use Rattle.std.proofs.Common.{◌+◌, arith}
 use Rattle.rept_report.specs.Spots.{passage}
-use Rattle.rept_analysis.specs.State.{State, state_of, reader}
+use Rattle.rept_analysis.specs.State.{AnalysisState, state_of, reader}
 use Rattle.rept_analysis.specs.Drawing.{IsCarriedIf}
 use Rattle.rept_analysis.proofs.Drawn.{Drew_both, Grows_trans}
 use Rattle.rept_analysis.proofs.Going.{strip_after}
@@ -29,5 +29,5 @@ returns-clause-drew g c =
     let s = (state_of (reader g.P.Paths.timeline g.L.LastValues.values) g.W.Partial.sets g.W.Transfer.moves g.R.RowRules.rules g.B.ByteFacts.store c.args.self.now) in
     let t = (state_of (reader g.P.Paths.timeline g.L.LastValues.values) g.W.Partial.sets g.W.Transfer.moves g.R.RowRules.rules g.B.ByteFacts.store c.carry_step.new.self) in
     let u = (state_of (reader g.P.Paths.timeline g.L.LastValues.values) g.W.Partial.sets g.W.Transfer.moves g.R.RowRules.rules g.B.ByteFacts.store c.carry_down.new.self) in
-    let P : State g.row.W.Denot → Type 0 = IsCarriedIf (passage c.args.a c.args.m (c.args.m + 1)) in
-    Drew_both s t u c.in_ok-new.new c.in_ok-down.down P (λ (x : State g.row.W.Denot). Unit {0}) P c.in_ok-new.ensures.grows c.in_ok-down.ensures.grows c.in_ok-new.ensures.drew c.in_ok-down.ensures.drew (λ p q. p)
+    let P : AnalysisState g.row.W.Denot → Type 0 = IsCarriedIf (passage c.args.a c.args.m (c.args.m + 1)) in
+    Drew_both s t u c.in_ok-new.new c.in_ok-down.down P (λ (x : AnalysisState g.row.W.Denot). Unit {0}) P c.in_ok-new.ensures.grows c.in_ok-down.ensures.grows c.in_ok-new.ensures.drew c.in_ok-down.ensures.drew (λ p q. p)

@@ -1,6 +1,6 @@
 use Rattle.std.proofs.Common.{◌+◌, Some, None, refl, false, arith}
 use Rattle.rept_versions.specs.Facts.{Nexts}
-use Rattle.rept_analysis.specs.State.{State, state_of, reader}
+use Rattle.rept_analysis.specs.State.{AnalysisState, state_of, reader}
 use Rattle.rept_analysis.specs.Drawing.{IsCarriedBeside, IsCarriedBelow, IsCarriedIn}
 use Rattle.rept_analysis.proofs.Drawn.{Drew_as, Drew_both, Drew_first, Drew_same, Grows_itself, Grows_trans}
 use Rattle.rept_analysis.proofs.Listing.{writings_after}
@@ -16,7 +16,7 @@ returns-in_default-clause-drew g c =
     let t = (state_of (reader g.P.Paths.timeline g.L.LastValues.values) g.W.Partial.sets g.W.Transfer.moves g.R.RowRules.rules g.B.ByteFacts.store c.loop-from.self) in
     let a = c.args.a in
     let from = c.loop-from.from in
-    let Q : State g.row.W.Denot → Type 0 = λ x. Nexts x.known.store.fact a from None in
+    let Q : AnalysisState g.row.W.Denot → Type 0 = λ x. Nexts x.known.store.fact a from None in
     Drew_first s t t c.loop-from.learnt false (IsCarriedBelow a c.args.strip from) Q (IsCarriedIn a c.args.strip) (Grows_itself t) refl c.loop-from.invariant.drew (Drew_same t Q (nexts_none t.known.store.fact a from c.stretch.result c.in_default.not-Some c.stretch.ensures)) (λ p q. in_free s a from c.args.strip p q)
 
 pub returns-then-point-strip-clause-drew : goal.returns-then-point-strip-clause-drew
@@ -25,7 +25,7 @@ returns-then-point-strip-clause-drew g c =
     let t = (state_of (reader g.P.Paths.timeline g.L.LastValues.values) g.W.Partial.sets g.W.Transfer.moves g.R.RowRules.rules g.B.ByteFacts.store c.loop-from.self) in
     let a = c.args.a in
     let from = c.loop-from.from in
-    let Q : State g.row.W.Denot → Type 0 = λ x. Nexts x.known.store.fact a from (Some c.in-Some.stretch) in
+    let Q : AnalysisState g.row.W.Denot → Type 0 = λ x. Nexts x.known.store.fact a from (Some c.in-Some.stretch) in
     Drew_first s t t c.loop-from.learnt false (IsCarriedBelow a c.args.strip from) Q (IsCarriedIn a c.args.strip) (Grows_itself t) refl c.loop-from.invariant.drew (Drew_same t Q (rw c.in-Some.is at c.stretch.ensures)) (λ p q. in_edge s a from c.args.strip p c.in-Some.stretch q c.edge-point.result c.edge-point.ensures c.if-point-strip.true)
 
 pub carry_beside-requires-clause-strip : goal.carry_beside-requires-clause-strip
@@ -56,7 +56,7 @@ loop-from-preserved g c =
     let to = c.in_ok-beside.beside.1 in
     let i = c.loop-from.invariant in
     let e = c.in_ok-beside.ensures in
-    let P : State g.row.W.Denot → Type 0 = λ x. Nexts x.known.store.fact a from (Some c.in-Some.stretch) × IsCarriedBeside a c.args.strip point to x in
+    let P : AnalysisState g.row.W.Denot → Type 0 = λ x. Nexts x.known.store.fact a from (Some c.in-Some.stretch) × IsCarriedBeside a c.args.strip point to x in
     let near = e.onward.1 in
     let far = e.onward.0 in
     let least = i.least in

@@ -1,10 +1,10 @@
-use Rattle.std.proofs.Common.{◌+◌, Some, None, refl, false, arith}
+use Rattle.std.proofs.Common.{ℕ, ◌+◌, ◌<◌, ◌≤◌, Some, None, refl, false, sym, subst, arith}
 use Rattle.rept_report.specs.Timeline.{IsNextFrom}
 use Rattle.rept_report.specs.Spots.{passage}
-use Rattle.rept_analysis.specs.State.{State, state_of, reader}
-use Rattle.rept_analysis.specs.Drawing.{IsCarriedIf, AreBlocked, AreLinksBelow, AreLinks}
+use Rattle.rept_analysis.specs.State.{AnalysisState, Whole, state_of, reader}
+use Rattle.rept_analysis.specs.Drawing.{Grows, Drew, IsCarriedIf, AreBlocked, AreLinksBelow, AreLinks}
 use Rattle.rept_analysis.proofs.Drawn.{Drew_as, Drew_both, Drew_first, Drew_same, Grows_itself, Grows_trans}
-use Rattle.rept_analysis.proofs.Going.{next_none, links_first, links_more, links_none, links_end, links_blocked}
+use Rattle.rept_analysis.proofs.Going.{next_none, links_first, links_far, links_none, links_end, links_blocked}
 use Rattle.rept_analysis.proofs.analysis.Analysis.carry_links.Goals as goal
 
 pub loop-least-init : goal.loop-least-init
@@ -15,35 +15,38 @@ returns-in_default-clause-drew g c =
     let s = (state_of (reader g.P.Paths.timeline g.L.LastValues.values) g.W.Partial.sets g.W.Transfer.moves g.R.RowRules.rules g.B.ByteFacts.store c.args.self.now) in
     let t = (state_of (reader g.P.Paths.timeline g.L.LastValues.values) g.W.Partial.sets g.W.Transfer.moves g.R.RowRules.rules g.B.ByteFacts.store c.loop-least.self) in
     let least = c.loop-least.least in
-    let Q : State g.row.W.Denot → Type 0 = λ x. IsNextFrom x.path.given.moments c.args.m least None in
+    let Q : AnalysisState g.row.W.Denot → Type 0 = λ x. IsNextFrom x.path.given.moments c.args.m least None in
     Drew_first s t t c.loop-least.has_news false (AreLinksBelow c.args.a c.args.m least) Q (AreLinks c.args.a c.args.m) (Grows_itself t) refl c.loop-least.invariant.drew (Drew_same t Q (next_none t.path.given.moments c.args.m least c.next_from.result c.in_default.not-Some c.next_from.ensures)) (λ p q. links_none s c.args.a c.args.m least p q)
 
-pub carry_link-requires-clause-next : goal.carry_link-requires-clause-next
-carry_link-requires-clause-next g c = (rw c.in-Some.is at c.next_from.ensures).0
+pub carry_next-requires-clause-next : goal.carry_next-requires-clause-next
+carry_next-requires-clause-next g c = (rw c.in-Some.is at c.next_from.ensures).0
 
-pub carry_link-requires-clause-writings : goal.carry_link-requires-clause-writings
-carry_link-requires-clause-writings g c = c.loop-least.invariant.grows.writing c.requires.writings
+pub carry_next-requires-clause-writings : goal.carry_next-requires-clause-writings
+carry_next-requires-clause-writings g c = c.loop-least.invariant.grows.writing c.requires.writings
 
-pub returns-in_err-link-clause-grows : goal.returns-in_err-link-clause-grows
-returns-in_err-link-clause-grows g c = Grows_trans _ _ _ c.loop-least.invariant.grows c.carry_link.ensures.grows
+pub returns-in_err-done-clause-grows : goal.returns-in_err-done-clause-grows
+returns-in_err-done-clause-grows g c = Grows_trans _ _ _ c.loop-least.invariant.grows c.carry_next.ensures.grows
 
 pub loop-least-preserved : goal.loop-least-preserved
 loop-least-preserved g c =
     let s = (state_of (reader g.P.Paths.timeline g.L.LastValues.values) g.W.Partial.sets g.W.Transfer.moves g.R.RowRules.rules g.B.ByteFacts.store c.args.self.now) in
     let t = (state_of (reader g.P.Paths.timeline g.L.LastValues.values) g.W.Partial.sets g.W.Transfer.moves g.R.RowRules.rules g.B.ByteFacts.store c.loop-least.self) in
-    let u = (state_of (reader g.P.Paths.timeline g.L.LastValues.values) g.W.Partial.sets g.W.Transfer.moves g.R.RowRules.rules g.B.ByteFacts.store c.carry_link.new.self) in
+    let u = (state_of (reader g.P.Paths.timeline g.L.LastValues.values) g.W.Partial.sets g.W.Transfer.moves g.R.RowRules.rules g.B.ByteFacts.store c.carry_next.new.self) in
     let a = c.args.a in
     let m = c.args.m in
     let least = c.loop-least.least in
-    let w = c.in-Some.next in
+    let next = c.in-Some.next in
+    let n = c.in_ok-done.done.1 in
     let i = c.loop-least.invariant in
-    let e = c.in_ok-link.ensures in
-    let P : State g.row.W.Denot → Type 0 = λ x. IsNextFrom x.path.given.moments m least (Some w) × IsCarriedIf (passage a m w) x in
+    let e = c.in_ok-done.ensures in
+    let from = rw c.in-Some.is at c.next_from.ensures in
+    let Q : AnalysisState g.row.W.Denot → Type 0 = λ x. (w : ℕ) → next ≤ w → w < n → IsCarriedIf (passage a m w) x in
+    let P : AnalysisState g.row.W.Denot → Type 0 = λ x. IsNextFrom x.path.given.moments m least (Some next) × Q x in
     record {
       grows = Grows_trans s t u i.grows e.grows;
-      drew = Drew_both s t u c.loop-least.has_news c.in_ok-link.link.has_news (AreLinksBelow a m least) P (AreLinksBelow a m (w + 1)) i.grows e.grows i.drew
-          (Drew_as t u c.in_ok-link.link.has_news (IsCarriedIf (passage a m w)) P e.drew (λ h. (rw c.in-Some.is at c.next_from.ensures, h)))
-          (λ p q. links_more s a m least p w q.0 q.1);
+      drew = Drew_both s t u c.loop-least.has_news c.in_ok-done.done.0.has_news (AreLinksBelow a m least) P (AreLinksBelow a m n) i.grows e.grows i.drew
+          (Drew_as t u c.in_ok-done.done.0.has_news Q P e.drew (λ h. (from, h)))
+          (λ p q. links_far s a m least p next n q.0 q.1);
       end_is = i.end_is;
     }
 
@@ -58,9 +61,16 @@ returns-clause-drew g c =
 pub is_blocked-requires : goal.is_blocked-requires
 is_blocked-requires g c = record { writings = c.loop-least.invariant.grows.writing c.requires.writings }
 
+pub returns-then-is_blocked-clause-grows : goal.returns-then-is_blocked-clause-grows
+returns-then-is_blocked-clause-grows g c =
+    let st = state_of (reader g.P.Paths.timeline g.L.LastValues.values) g.W.Partial.sets g.W.Transfer.moves g.R.RowRules.rules g.B.ByteFacts.store in
+    subst (λ (x : Whole g.row.P.Denot g.row.L.Denot g.row.B.Denot g.row.W.Denot g.row.R.Denot). Grows (st c.args.self.now) (st x)) (sym c.note_wall.ensures) c.loop-least.invariant.grows
+
 pub returns-then-is_blocked-clause-drew : goal.returns-then-is_blocked-clause-drew
 returns-then-is_blocked-clause-drew g c =
-    let s = (state_of (reader g.P.Paths.timeline g.L.LastValues.values) g.W.Partial.sets g.W.Transfer.moves g.R.RowRules.rules g.B.ByteFacts.store c.args.self.now) in
-    let t = (state_of (reader g.P.Paths.timeline g.L.LastValues.values) g.W.Partial.sets g.W.Transfer.moves g.R.RowRules.rules g.B.ByteFacts.store c.loop-least.self) in
-    let Q : State g.row.W.Denot → Type 0 = AreBlocked c.args.a c.args.m in
-    Drew_first s t t c.loop-least.has_news false (AreLinksBelow c.args.a c.args.m c.loop-least.least) Q (AreLinks c.args.a c.args.m) (Grows_itself t) refl c.loop-least.invariant.drew (Drew_same t Q (c.is_blocked.ensures c.if-is_blocked.true)) (λ p q. links_blocked s c.args.a c.args.m q)
+    let st = state_of (reader g.P.Paths.timeline g.L.LastValues.values) g.W.Partial.sets g.W.Transfer.moves g.R.RowRules.rules g.B.ByteFacts.store in
+    let s = st c.args.self.now in
+    let t = st c.loop-least.self in
+    let Q : AnalysisState g.row.W.Denot → Type 0 = AreBlocked c.args.a c.args.m in
+    subst (λ (x : Whole g.row.P.Denot g.row.L.Denot g.row.B.Denot g.row.W.Denot g.row.R.Denot). Drew s (st x) c.loop-least.has_news (AreLinks c.args.a c.args.m)) (sym c.note_wall.ensures)
+    (Drew_first s t t c.loop-least.has_news false (AreLinksBelow c.args.a c.args.m c.loop-least.least) Q (AreLinks c.args.a c.args.m) (Grows_itself t) refl c.loop-least.invariant.drew (Drew_same t Q (c.is_blocked.ensures c.if-is_blocked.true)) (λ p q. links_blocked s c.args.a c.args.m q))

@@ -1,5 +1,5 @@
 use Rattle.std.proofs.Common.{◌+◌, ◌||◌, false, refl, ap, arith}
-use Rattle.rept_analysis.specs.State.{Subject, State, timeline_of, state_of, reader}
+use Rattle.rept_analysis.specs.State.{Subject, AnalysisState, timeline_of, state_of, reader}
 use Rattle.rept_report.specs.Timeline.{IsStrip}
 use Rattle.rept_analysis.specs.Drawing.{IsCarriedIn, AreLinks, IsCarriedUpTo, IsCarriedAlong}
 use Rattle.rept_analysis.proofs.Drawn.{Drew_as, Drew_both, Drew_first, Drew_same, Grows_itself, Grows_trans}
@@ -15,14 +15,14 @@ carry_strip-requires-clause-strip g c = let its = c.strip-strip.ensures in strip
 pub carry_strip-requires-clause-writings : goal.carry_strip-requires-clause-writings
 carry_strip-requires-clause-writings g c = c.loop-from.invariant.grows.writing c.requires.writings
 
-pub leap_up-requires-clause-inside : goal.leap_up-requires-clause-inside
-leap_up-requires-clause-inside g c =
+pub leap_end-requires-clause-inside : goal.leap_end-requires-clause-inside
+leap_end-requires-clause-inside g c =
     let inside = c.strip-strip.ensures.inside in
     let end = ap (λ (P : Subject g.row.W.Denot). P.given.moments.end) c.in_ok-inside.ensures.grows.path in
     omega (arith, inside, end)
 
-pub leap_up-requires-clause-writings : goal.leap_up-requires-clause-writings
-leap_up-requires-clause-writings g c = c.in_ok-inside.ensures.grows.writing (c.loop-from.invariant.grows.writing c.requires.writings)
+pub leap_end-requires-clause-writings : goal.leap_end-requires-clause-writings
+leap_end-requires-clause-writings g c = c.in_ok-inside.ensures.grows.writing (c.loop-from.invariant.grows.writing c.requires.writings)
 
 pub carry_links-requires-clause-inside : goal.carry_links-requires-clause-inside
 carry_links-requires-clause-inside g c =
@@ -37,11 +37,14 @@ carry_links-requires-clause-writings g c = c.in_ok-up.ensures.grows.writing (c.i
 pub carry_links-requires-clause-tracked : goal.carry_links-requires-clause-tracked
 carry_links-requires-clause-tracked g c = c.in_ok-up.ensures.grows.tracked c.args.a (c.in_ok-inside.ensures.grows.tracked c.args.a (c.loop-from.invariant.grows.tracked c.args.a c.requires.tracked))
 
+pub uneven_from-from-requires : goal.uneven_from-from-requires
+uneven_from-from-requires g c = record { writings = c.in_ok-links.ensures.grows.writing (c.in_ok-up.ensures.grows.writing (c.in_ok-inside.ensures.grows.writing (c.loop-from.invariant.grows.writing c.requires.writings))) }
+
 pub returns-in_err-inside-clause-grows : goal.returns-in_err-inside-clause-grows
 returns-in_err-inside-clause-grows g c = Grows_trans _ _ _ c.loop-from.invariant.grows c.carry_strip.ensures.grows
 
 pub returns-in_err-up-clause-grows : goal.returns-in_err-up-clause-grows
-returns-in_err-up-clause-grows g c = Grows_trans _ _ _ (Grows_trans _ _ _ c.loop-from.invariant.grows c.in_ok-inside.ensures.grows) c.leap_up.ensures.grows
+returns-in_err-up-clause-grows g c = Grows_trans _ _ _ (Grows_trans _ _ _ c.loop-from.invariant.grows c.in_ok-inside.ensures.grows) c.leap_end.ensures.grows
 
 pub returns-in_err-links-clause-grows : goal.returns-in_err-links-clause-grows
 returns-in_err-links-clause-grows g c = Grows_trans _ _ _ (Grows_trans _ _ _ (Grows_trans _ _ _ c.loop-from.invariant.grows c.in_ok-inside.ensures.grows) c.in_ok-up.ensures.grows) c.carry_links.ensures.grows
@@ -51,25 +54,25 @@ loop-from-preserved g c =
     let s = (state_of (reader g.P.Paths.timeline g.L.LastValues.values) g.W.Partial.sets g.W.Transfer.moves g.R.RowRules.rules g.B.ByteFacts.store c.args.self.now) in
     let t = (state_of (reader g.P.Paths.timeline g.L.LastValues.values) g.W.Partial.sets g.W.Transfer.moves g.R.RowRules.rules g.B.ByteFacts.store c.loop-from.self) in
     let u = (state_of (reader g.P.Paths.timeline g.L.LastValues.values) g.W.Partial.sets g.W.Transfer.moves g.R.RowRules.rules g.B.ByteFacts.store c.carry_strip.new.self) in
-    let x = (state_of (reader g.P.Paths.timeline g.L.LastValues.values) g.W.Partial.sets g.W.Transfer.moves g.R.RowRules.rules g.B.ByteFacts.store c.leap_up.new.self) in
+    let x = (state_of (reader g.P.Paths.timeline g.L.LastValues.values) g.W.Partial.sets g.W.Transfer.moves g.R.RowRules.rules g.B.ByteFacts.store c.leap_end.new.self) in
     let v = (state_of (reader g.P.Paths.timeline g.L.LastValues.values) g.W.Partial.sets g.W.Transfer.moves g.R.RowRules.rules g.B.ByteFacts.store c.carry_links.new.self) in
     let a = c.args.a in
     let from = c.loop-from.from in
     let strip = c.strip-strip.result in
     let i = c.loop-from.invariant in
-    let P : State g.row.W.Denot → Type 0 = λ y. IsStrip (timeline_of y) from strip × IsCarriedIn a strip y in
-    let R : State g.row.W.Denot → Type 0 = λ y. IsCarriedUpTo a from y × P y in
+    let P : AnalysisState g.row.W.Denot → Type 0 = λ y. IsStrip (timeline_of y) from strip × IsCarriedIn a strip y in
+    let R : AnalysisState g.row.W.Denot → Type 0 = λ y. IsCarriedUpTo a from y × P y in
     let to = Grows_trans s t u i.grows c.in_ok-inside.ensures.grows in
     let further = Grows_trans s u x to c.in_ok-up.ensures.grows in
     let inside = Drew_both s t u c.loop-from.learnt c.in_ok-inside.inside (IsCarriedUpTo a from) P R i.grows c.in_ok-inside.ensures.grows i.drew
     (Drew_as t u c.in_ok-inside.inside (IsCarriedIn a strip) P c.in_ok-inside.ensures.drew (λ h. (c.strip-strip.ensures, h))) (λ p q. (p, q)) in
-    let up = Drew_both s u x (c.loop-from.learnt || c.in_ok-inside.inside) c.in_ok-up.up.0 R (λ (y : State g.row.W.Denot). Unit {0}) R to c.in_ok-up.ensures.grows inside c.in_ok-up.ensures.drew (λ p q. p) in
-    let links = Drew_both s x v (c.loop-from.learnt || c.in_ok-inside.inside || c.in_ok-up.up.0) c.in_ok-links.links.has_news R (AreLinks a strip.last) (IsCarriedUpTo a (strip.last + 1)) further c.in_ok-links.ensures.grows up c.in_ok-links.ensures.drew
+    let up = Drew_both s u x (c.loop-from.learnt || c.in_ok-inside.inside) c.in_ok-up.up R (λ (y : AnalysisState g.row.W.Denot). Unit {0}) R to c.in_ok-up.ensures.grows inside c.in_ok-up.ensures.drew (λ p q. p) in
+    let links = Drew_both s x v (c.loop-from.learnt || c.in_ok-inside.inside || c.in_ok-up.up) c.in_ok-links.links R (AreLinks a strip.last) (IsCarriedUpTo a (strip.last + 1)) further c.in_ok-links.ensures.grows up c.in_ok-links.ensures.drew
     (λ p q. up_to_more s a from from strip p.1.0 (p.1.0).from p.0 p.1.1 q) in
-    let Q : State g.row.W.Denot → Type 0 = λ y. IsCarriedUpTo a (strip.last + 1) y → IsCarriedUpTo a c.uneven_from-from.result y in
+    let Q : AnalysisState g.row.W.Denot → Type 0 = λ y. IsCarriedUpTo a (strip.last + 1) y → IsCarriedUpTo a c.uneven_from-from.result y in
     record {
       grows = Grows_trans s x v further c.in_ok-links.ensures.grows;
-      drew = Drew_first s v v (c.loop-from.learnt || c.in_ok-inside.inside || c.in_ok-up.up.0 || c.in_ok-links.links.has_news) false (IsCarriedUpTo a (strip.last + 1)) Q (IsCarriedUpTo a c.uneven_from-from.result) (Grows_itself v) refl links (Drew_same v Q c.uneven_from-from.ensures.up) (λ p q. q p);
+      drew = Drew_first s v v (c.loop-from.learnt || c.in_ok-inside.inside || c.in_ok-up.up || c.in_ok-links.links) false (IsCarriedUpTo a (strip.last + 1)) Q (IsCarriedUpTo a c.uneven_from-from.result) (Grows_itself v) refl links (Drew_same v Q c.uneven_from-from.ensures.up) (λ p q. q p);
       end_is = i.end_is;
     }
 

@@ -1,4 +1,4 @@
-use Rattle.rept_analysis.specs.State.{State, state_of, reader}
+use Rattle.rept_analysis.specs.State.{AnalysisState, state_of, reader}
 use Rattle.rept_analysis.specs.Drawing.{IsCarriedIn}
 use Rattle.rept_analysis.proofs.Drawn.{Drew_both, Grows_trans}
 use Rattle.rept_analysis.proofs.analysis.Analysis.carry_under.Goals as goal
@@ -14,4 +14,4 @@ returns-clause-drew g c =
     let s = (state_of (reader g.P.Paths.timeline g.L.LastValues.values) g.W.Partial.sets g.W.Transfer.moves g.R.RowRules.rules g.B.ByteFacts.store c.args.self.now) in
     let t = (state_of (reader g.P.Paths.timeline g.L.LastValues.values) g.W.Partial.sets g.W.Transfer.moves g.R.RowRules.rules g.B.ByteFacts.store c.carry_strip.new.self) in
     let u = (state_of (reader g.P.Paths.timeline g.L.LastValues.values) g.W.Partial.sets g.W.Transfer.moves g.R.RowRules.rules g.B.ByteFacts.store c.leap_down.new.self) in
-    Drew_both s t u c.in_ok-inside.inside c.in_ok-down.down.0 (IsCarriedIn c.args.a c.args.strip) (λ (x : State g.row.W.Denot). Unit {0}) (λ (x : State g.row.W.Denot). Unit {0}) c.in_ok-inside.ensures.grows c.in_ok-down.ensures.grows c.in_ok-inside.ensures.drew c.in_ok-down.ensures.drew (λ p q. tt)
+    Drew_both s t u c.in_ok-inside.inside c.in_ok-down.down.0 (IsCarriedIn c.args.a c.args.strip) (λ (x : AnalysisState g.row.W.Denot). Unit {0}) (λ (x : AnalysisState g.row.W.Denot). Unit {0}) c.in_ok-inside.ensures.grows c.in_ok-down.ensures.grows c.in_ok-inside.ensures.drew c.in_ok-down.ensures.drew (λ p q. tt)

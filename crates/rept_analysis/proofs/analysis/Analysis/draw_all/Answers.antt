@@ -1,5 +1,5 @@
 use Rattle.std.proofs.Common.{◌||◌}
-use Rattle.rept_analysis.specs.State.{State, state_of, reader}
+use Rattle.rept_analysis.specs.State.{AnalysisState, state_of, reader}
 use Rattle.rept_analysis.specs.Drawing.{KeptBelow, IsRowTracked, DrawnKnown, IsRowDrawn}
 use Rattle.rept_analysis.proofs.Drawn.{Drew_both, Grows_trans}
 use Rattle.rept_analysis.proofs.Listing.{writings_after}
@@ -36,7 +36,7 @@ pub returns-clause-drew : goal.returns-clause-drew
 returns-clause-drew g c =
     let row = c.args.row.now in
     let i = c.args.i in
-    let P : State g.row.W.Denot → Type 0 = λ x. KeptBelow 32 row i x × IsRowTracked row i x in
+    let P : AnalysisState g.row.W.Denot → Type 0 = λ x. KeptBelow 32 row i x × IsRowTracked row i x in
     let a = (state_of (reader g.P.Paths.timeline g.L.LastValues.values) g.W.Partial.sets g.W.Transfer.moves g.R.RowRules.rules g.B.ByteFacts.store c.args.self.now) in
     let b = (state_of (reader g.P.Paths.timeline g.L.LastValues.values) g.W.Partial.sets g.W.Transfer.moves g.R.RowRules.rules g.B.ByteFacts.store c.carry_all.new.self) in
     let f = (state_of (reader g.P.Paths.timeline g.L.LastValues.values) g.W.Partial.sets g.W.Transfer.moves g.R.RowRules.rules g.B.ByteFacts.store c.fetch.new.self) in
@@ -45,6 +45,6 @@ returns-clause-drew g c =
     let g1 = c.in_ok-registers.ensures.grows in
     let g2 = Grows_trans a b f g1 c.in_ok-fetched.ensures.grows in
     let g3 = Grows_trans a f d g2 c.in_ok-tracked.ensures.grows in
-    let one = Drew_both a b f c.in_ok-registers.registers c.in_ok-fetched.fetched (KeptBelow 32 row i) (λ (x : State g.row.W.Denot). Unit {0}) (KeptBelow 32 row i) g1 c.in_ok-fetched.ensures.grows c.in_ok-registers.ensures.drew c.in_ok-fetched.ensures.drew (λ p q. p) in
+    let one = Drew_both a b f c.in_ok-registers.registers c.in_ok-fetched.fetched (KeptBelow 32 row i) (λ (x : AnalysisState g.row.W.Denot). Unit {0}) (KeptBelow 32 row i) g1 c.in_ok-fetched.ensures.grows c.in_ok-registers.ensures.drew c.in_ok-fetched.ensures.drew (λ p q. p) in
     let two = Drew_both a f d (c.in_ok-registers.registers || c.in_ok-fetched.fetched) c.in_ok-tracked.tracked (KeptBelow 32 row i) (IsRowTracked row i) P g2 c.in_ok-tracked.ensures.grows one c.in_ok-tracked.ensures.drew (λ p q. (p, q)) in
     Drew_both a d e (c.in_ok-registers.registers || c.in_ok-fetched.fetched || c.in_ok-tracked.tracked) c.in_ok-drawn.drawn P (DrawnKnown row i) (IsRowDrawn row i) g3 c.in_ok-drawn.ensures.grows two c.in_ok-drawn.ensures.drew (λ p q. record { registers = p.0; tracked = p.1; drawn = q })

@@ -1,4 +1,4 @@
-use Rattle.rept_analysis.specs.State.{State, state_of, reader}
+use Rattle.rept_analysis.specs.State.{AnalysisState, state_of, reader}
 use Rattle.rept_analysis.specs.Drawing.{LastByteKnown}
 use Rattle.rept_analysis.proofs.Drawn.{Drew_both, Grows_trans}
 use Rattle.rept_analysis.proofs.Listing.{writings_after}
@@ -12,7 +12,7 @@ returns-in_err-carried-clause-grows g c = Grows_trans _ _ _ c.in_ok-told.ensures
 
 pub returns-clause-drew : goal.returns-clause-drew
 returns-clause-drew g c =
-    Drew_both (state_of (reader g.P.Paths.timeline g.L.LastValues.values) g.W.Partial.sets g.W.Transfer.moves g.R.RowRules.rules g.B.ByteFacts.store c.args.self.now) (state_of (reader g.P.Paths.timeline g.L.LastValues.values) g.W.Partial.sets g.W.Transfer.moves g.R.RowRules.rules g.B.ByteFacts.store c.draw_last_byte.new.self) (state_of (reader g.P.Paths.timeline g.L.LastValues.values) g.W.Partial.sets g.W.Transfer.moves g.R.RowRules.rules g.B.ByteFacts.store c.carry_around.new.self) c.in_ok-told.told c.in_ok-carried.carried (LastByteKnown c.args.a) (λ (x : State g.row.W.Denot). Unit {0}) (λ (x : State g.row.W.Denot). Unit {0})
+    Drew_both (state_of (reader g.P.Paths.timeline g.L.LastValues.values) g.W.Partial.sets g.W.Transfer.moves g.R.RowRules.rules g.B.ByteFacts.store c.args.self.now) (state_of (reader g.P.Paths.timeline g.L.LastValues.values) g.W.Partial.sets g.W.Transfer.moves g.R.RowRules.rules g.B.ByteFacts.store c.draw_last_byte.new.self) (state_of (reader g.P.Paths.timeline g.L.LastValues.values) g.W.Partial.sets g.W.Transfer.moves g.R.RowRules.rules g.B.ByteFacts.store c.carry_around.new.self) c.in_ok-told.told c.in_ok-carried.carried (LastByteKnown c.args.a) (λ (x : AnalysisState g.row.W.Denot). Unit {0}) (λ (x : AnalysisState g.row.W.Denot). Unit {0})
     c.in_ok-told.ensures.grows c.in_ok-carried.ensures.grows c.in_ok-told.ensures.drew c.in_ok-carried.ensures.drew (λ p q. tt)
 
 pub returns-clause-grows : goal.returns-clause-grows

@@ -1,4 +1,4 @@
-use Rattle.rept_analysis.specs.State.{State, state_of, reader}
+use Rattle.rept_analysis.specs.State.{AnalysisState, state_of, reader}
 use Rattle.rept_analysis.proofs.Drawn.{Drew_both, Grows_trans}
 use Rattle.rept_analysis.proofs.analysis.Analysis.draw_fresh_back.Goals as goal
 
@@ -13,7 +13,7 @@ draw_at-requires-clause-writings g c = c.loop-number.invariant.grows.writing c.r
 
 pub loop-number-preserved : goal.loop-number-preserved
 loop-number-preserved g c =
-    let P : State g.row.W.Denot → Type 0 = λ x. Unit {0} in
+    let P : AnalysisState g.row.W.Denot → Type 0 = λ x. Unit {0} in
     record {
       grows = Grows_trans _ _ _ c.loop-number.invariant.grows c.in_ok-new.ensures.grows;
       drew = Drew_both (state_of (reader g.P.Paths.timeline g.L.LastValues.values) g.W.Partial.sets g.W.Transfer.moves g.R.RowRules.rules g.B.ByteFacts.store c.args.self.now) (state_of (reader g.P.Paths.timeline g.L.LastValues.values) g.W.Partial.sets g.W.Transfer.moves g.R.RowRules.rules g.B.ByteFacts.store c.loop-number.self) _ c.loop-number.learnt c.in_ok-new.new P P P c.loop-number.invariant.grows c.in_ok-new.ensures.grows c.loop-number.invariant.drew c.in_ok-new.ensures.drew (λ _ _. tt);

@@ -2,7 +2,7 @@ use Rattle.std.proofs.Common.{◌<◌, ◌≡◌, Some, slice_get, refl, sym, su
 use Rattle.rept_reason.specs.declared.fact.Cell.TheVariants.{Register}
 use Rattle.rept_report.specs.Why.{fact_of}
 use Rattle.rept_analysis.specs.State.{Subject, along, state_of, reader}
-use Rattle.rept_analysis.specs.Begun.{AreEnds, HasEndsAlone}
+use Rattle.rept_analysis.specs.Begun.{AreEndFacts, HasEndsAlone}
 use Rattle.rept_analysis.specs.Drawing.{Knows, LastKnownAt}
 use Rattle.rept_analysis.proofs.Begun.{any_err, ends_at, ends_agree, ends_with, last_known_by}
 use Rattle.rept_analysis.proofs.Drawn.{Drew_as}
@@ -30,14 +30,14 @@ returns-clause-ends g c = λ alone.
     let a = (state_of (reader g.P.Paths.timeline g.L.LastValues.values) g.W.Partial.sets g.W.Transfer.moves g.R.RowRules.rules g.B.ByteFacts.store c.args.self.now) in
     let b = (state_of (reader g.P.Paths.timeline g.L.LastValues.values) g.W.Partial.sets g.W.Transfer.moves g.R.RowRules.rules g.B.ByteFacts.store c.learn.new.self) in
     let here = ends_at (along a.path) c.args.point c.args.r c.last_value-value.result c.requires.point c.requires.named c.last_value-value.ensures in
-    subst (λ (P : Subject g.row.W.Denot). AreEnds (along P) b.known.log) (sym c.in_ok-learnt.ensures.grows.path) (ends_with (along a.path) (fact_of c.args.point (Register c.args.r) c.last_value-value.result) a.known.log b.known.log here c.in_ok-learnt.ensures.log alone)
+    subst (λ (P : Subject g.row.W.Denot). AreEndFacts (along P) b.known.log) (sym c.in_ok-learnt.ensures.grows.path) (ends_with (along a.path) (fact_of c.args.point (Register c.args.r) c.last_value-value.result) a.known.log b.known.log here c.in_ok-learnt.ensures.log alone)
 
 pub returns-in_err-learnt-clause-ends : goal.returns-in_err-learnt-clause-ends
 returns-in_err-learnt-clause-ends g c = λ alone.
     let a = (state_of (reader g.P.Paths.timeline g.L.LastValues.values) g.W.Partial.sets g.W.Transfer.moves g.R.RowRules.rules g.B.ByteFacts.store c.args.self.now) in
     let b = (state_of (reader g.P.Paths.timeline g.L.LastValues.values) g.W.Partial.sets g.W.Transfer.moves g.R.RowRules.rules g.B.ByteFacts.store c.learn.new.self) in
     let here = ends_at (along a.path) c.args.point c.args.r c.last_value-value.result c.requires.point c.requires.named c.last_value-value.ensures in
-    subst (λ (P : Subject g.row.W.Denot). AreEnds (along P) b.known.log) (sym c.learn.ensures.grows.path) (ends_with (along a.path) (fact_of c.args.point (Register c.args.r) c.last_value-value.result) a.known.log b.known.log here c.learn.ensures.log alone)
+    subst (λ (P : Subject g.row.W.Denot). AreEndFacts (along P) b.known.log) (sym c.learn.ensures.grows.path) (ends_with (along a.path) (fact_of c.args.point (Register c.args.r) c.last_value-value.result) a.known.log b.known.log here c.learn.ensures.log alone)
 
 pub returns-in_err-learnt-clause-calm : goal.returns-in_err-learnt-clause-calm
 returns-in_err-learnt-clause-calm g c = any_err c.from_residual.result (HasEndsAlone (state_of (reader g.P.Paths.timeline g.L.LastValues.values) g.W.Partial.sets g.W.Transfer.moves g.R.RowRules.rules g.B.ByteFacts.store c.args.self.now) → ⊥) (λ alone.

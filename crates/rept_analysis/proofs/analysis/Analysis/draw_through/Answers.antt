@@ -1,13 +1,13 @@
 use Rattle.std.proofs.Common.{Bool, subst}
 use Rattle.std.proofs.lemmas.Bool.{true≢false}
-use Rattle.rept_analysis.specs.State.{State, state_of, reader}
+use Rattle.rept_analysis.specs.State.{AnalysisState, state_of, reader}
 use Rattle.rept_analysis.specs.Drawing.{Drew}
 use Rattle.rept_analysis.proofs.Drawn.{Grows_trans, news_then}
 use Rattle.rept_analysis.proofs.Listing.{writings_after}
 use Rattle.rept_analysis.proofs.analysis.Analysis.draw_through.Goals as goal
 
 pub returns-then-not-back-clause-drew : goal.returns-then-not-back-clause-drew
-returns-then-not-back-clause-drew g c = subst (λ (x : Bool). Drew (state_of (reader g.P.Paths.timeline g.L.LastValues.values) g.W.Partial.sets g.W.Transfer.moves g.R.RowRules.rules g.B.ByteFacts.store c.args.self.now) (state_of (reader g.P.Paths.timeline g.L.LastValues.values) g.W.Partial.sets g.W.Transfer.moves g.R.RowRules.rules g.B.ByteFacts.store c.draw_fresh_back.new.self) x (λ (y : State g.row.W.Denot). Unit {0})) c.if-not-back.true c.in_ok-back.ensures.drew
+returns-then-not-back-clause-drew g c = subst (λ (x : Bool). Drew (state_of (reader g.P.Paths.timeline g.L.LastValues.values) g.W.Partial.sets g.W.Transfer.moves g.R.RowRules.rules g.B.ByteFacts.store c.args.self.now) (state_of (reader g.P.Paths.timeline g.L.LastValues.values) g.W.Partial.sets g.W.Transfer.moves g.R.RowRules.rules g.B.ByteFacts.store c.draw_fresh_back.new.self) x (λ (y : AnalysisState g.row.W.Denot). Unit {0})) c.if-not-back.true c.in_ok-back.ensures.drew
 
 pub draw_on-requires-clause-writings : goal.draw_on-requires-clause-writings
 draw_on-requires-clause-writings g c = writings_after (state_of (reader g.P.Paths.timeline g.L.LastValues.values) g.W.Partial.sets g.W.Transfer.moves g.R.RowRules.rules g.B.ByteFacts.store c.args.self.now) (state_of (reader g.P.Paths.timeline g.L.LastValues.values) g.W.Partial.sets g.W.Transfer.moves g.R.RowRules.rules g.B.ByteFacts.store c.draw_fresh_back.new.self) c.in_ok-back.ensures.grows c.requires.writings

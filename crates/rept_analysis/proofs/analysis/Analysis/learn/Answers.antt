@@ -1,5 +1,5 @@
 use Rattle.std.proofs.Common.{◌<◌, ◌^◌, inl, ap, arith}
-use Rattle.rept_analysis.specs.State.{State}
+use Rattle.rept_analysis.specs.State.{AnalysisState}
 use Rattle.rept_reason.specs.declared.fact.Cell.TheVariants.{Register}
 use Rattle.rept_analysis.specs.Drawing.{Knows}
 use Rattle.rept_analysis.proofs.Drawn.{Grows_same, Drew_new, clash_found}
@@ -29,7 +29,7 @@ returns-in-Clash-clause-grows g c =
 pub returns-in-Old-clause-log : goal.returns-in-Old-clause-log
 returns-in-Old-clause-log g c =
     let told = rw c.in-Old.is at c.tell.ensures in
-    inl (ap (λ (s : State g.row.W.Denot). s.known.log) told.0)
+    inl (ap (λ (s : AnalysisState g.row.W.Denot). s.known.log) told.0)
 
 pub returns-in-New-clause-log : goal.returns-in-New-clause-log
 returns-in-New-clause-log g c =
@@ -39,7 +39,7 @@ returns-in-New-clause-log g c =
 pub returns-in-Clash-clause-log : goal.returns-in-Clash-clause-log
 returns-in-Clash-clause-log g c =
     let told = rw c.in-Clash.is at c.tell.ensures in
-    inl (ap (λ (s : State g.row.W.Denot). s.known.log) told.0)
+    inl (ap (λ (s : AnalysisState g.row.W.Denot). s.known.log) told.0)
 
 pub returns-in-Clash-clause-loud : goal.returns-in-Clash-clause-loud
 returns-in-Clash-clause-loud g c =

@@ -1,6 +1,6 @@
 use Rattle.std.proofs.Common.{true, sym, subst}
 use Rattle.rept_reason.specs.declared.fact.Cell.TheVariants.{Byte}
-use Rattle.rept_analysis.specs.State.{State, Whole, state_of, reader}
+use Rattle.rept_analysis.specs.State.{AnalysisState, Whole, state_of, reader}
 use Rattle.rept_analysis.specs.Drawing.{Knows, Drew}
 use Rattle.rept_analysis.proofs.Drawn.{Grows_same, Drew_new, clash_found}
 use Rattle.rept_analysis.proofs.analysis.Analysis.learn_byte.Goals as goal
@@ -8,7 +8,7 @@ use Rattle.rept_analysis.proofs.analysis.Analysis.learn_byte.Goals as goal
 pub returns-in-Ok-New-clause-drew : goal.returns-in-Ok-New-clause-drew
 returns-in-Ok-New-clause-drew g c =
     let told = rw c.in-Ok-New.field-0-is at c.in-Ok-New.ensures in
-    let P : State g.row.W.Denot → Type 0 = Knows c.args.point (Byte c.args.a) c.args.value in
+    let P : AnalysisState g.row.W.Denot → Type 0 = Knows c.args.point (Byte c.args.a) c.args.value in
     subst (λ (x : Whole g.row.P.Denot g.row.L.Denot g.row.B.Denot g.row.W.Denot g.row.R.Denot). Drew (state_of (reader g.P.Paths.timeline g.L.LastValues.values) g.W.Partial.sets g.W.Transfer.moves g.R.RowRules.rules g.B.ByteFacts.store c.args.self.now) (state_of (reader g.P.Paths.timeline g.L.LastValues.values) g.W.Partial.sets g.W.Transfer.moves g.R.RowRules.rules g.B.ByteFacts.store x) true P) (sym c.note_byte.ensures)
     (Drew_new (state_of (reader g.P.Paths.timeline g.L.LastValues.values) g.W.Partial.sets g.W.Transfer.moves g.R.RowRules.rules g.B.ByteFacts.store c.args.self.now) (state_of (reader g.P.Paths.timeline g.L.LastValues.values) g.W.Partial.sets g.W.Transfer.moves g.R.RowRules.rules g.B.ByteFacts.store c.tell_byte.new.self) P told.news told.still)
 

@@ -1,5 +1,5 @@
 use Rattle.std.proofs.Common.{◌≡◌, ◌+◌, ap, sym, subst, arith}
-use Rattle.rept_analysis.specs.State.{State, state_of, all_known, reader}
+use Rattle.rept_analysis.specs.State.{AnalysisState, state_of, all_known, reader}
 use Rattle.rept_report.specs.Conclusions.{HasWords}
 use Rattle.rept_analysis.specs.Drawing.{AreWritings, AreExact}
 use Rattle.rept_analysis.proofs.Learning.{known_words}
@@ -21,12 +21,12 @@ pub returns-clause-listed : goal.returns-clause-listed
 returns-clause-listed g c =
     let s = (state_of (reader g.P.Paths.timeline g.L.LastValues.values) g.W.Partial.sets g.W.Transfer.moves g.R.RowRules.rules g.B.ByteFacts.store c.args.self.now) in
     let t = (state_of (reader g.P.Paths.timeline g.L.LastValues.values) g.W.Partial.sets g.W.Transfer.moves g.R.RowRules.rules g.B.ByteFacts.store c.loop-number.self) in
-    let rows = ap (λ (x : State g.row.W.Denot). x.path.given.moments.end) c.loop-number.invariant.same in
+    let rows = ap (λ (x : AnalysisState g.row.W.Denot). x.path.given.moments.end) c.loop-number.invariant.same in
     let count = c.loop-number.invariant.count in
     let all : c.loop-number.number ≡ t.path.given.moments.end + 1 = omega (arith, rows, count) in
-    subst (λ (x : State g.row.W.Denot). AreWritings x) (sym c.index_writing.ensures) (record {
+    subst (λ (x : AnalysisState g.row.W.Denot). AreWritings x) (sym c.index_writing.ensures) (record {
       laws = (record { sets = g.met.W.Partial.lawful; moves = g.met.W.Transfer.covers; rules = g.met.R.RowRules.lawful; legs = (g.met.P.Paths.lawful _).legs; moments = (g.met.P.Paths.lawful _).moments });
-      words = subst (λ (x : State g.row.W.Denot). HasWords (all_known x)) (sym c.loop-number.invariant.same) (known_words s c.held.ensures);
+      words = subst (λ (x : AnalysisState g.row.W.Denot). HasWords (all_known x)) (sym c.loop-number.invariant.same) (known_words s c.held.ensures);
       fitted = fitted_listed s t _ c.loop-number.invariant.same c.requires.fitted;
       barriers = listed_barriers t c.loop-number.number (g.met.P.Paths.lawful _).moments all (writings_listed s t _ c.loop-number.invariant.same c.loop-number.number c.loop-number.self.work.writing c.loop-number.invariant.listed);
     })
@@ -35,4 +35,4 @@ pub returns-clause-exact : goal.returns-clause-exact
 returns-clause-exact g c =
     let s = (state_of (reader g.P.Paths.timeline g.L.LastValues.values) g.W.Partial.sets g.W.Transfer.moves g.R.RowRules.rules g.B.ByteFacts.store c.args.self.now) in
     let t = (state_of (reader g.P.Paths.timeline g.L.LastValues.values) g.W.Partial.sets g.W.Transfer.moves g.R.RowRules.rules g.B.ByteFacts.store c.loop-number.self) in
-    subst (λ (x : State g.row.W.Denot). AreExact x) (sym c.index_writing.ensures) (listed_exact t c.loop-number.number (writings_listed s t _ c.loop-number.invariant.same c.loop-number.number c.loop-number.self.work.writing c.loop-number.invariant.listed))
+    subst (λ (x : AnalysisState g.row.W.Denot). AreExact x) (sym c.index_writing.ensures) (listed_exact t c.loop-number.number (writings_listed s t _ c.loop-number.invariant.same c.loop-number.number c.loop-number.self.work.writing c.loop-number.invariant.listed))

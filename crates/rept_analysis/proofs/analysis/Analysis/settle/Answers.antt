@@ -3,7 +3,7 @@ use Rattle.rept_reason.specs.Facts.{told}
 use Rattle.rept_report.specs.Conflicts.{IsQuiet}
 use Rattle.rept_report.specs.Log.{oldest}
 use Rattle.rept_log.specs.Known.{Known}
-use Rattle.rept_analysis.specs.State.{State, state_of, Subject, along, reader}
+use Rattle.rept_analysis.specs.State.{AnalysisState, state_of, Subject, along, reader}
 use Rattle.rept_analysis.specs.Drawing.{IsSettled}
 use Rattle.rept_analysis.specs.Begun.{HasEndsFirst}
 use Rattle.rept_analysis.specs.Measure.{measure}
@@ -50,7 +50,7 @@ returns-clause-settled g c =
     let long = forth a b same (λ (P : Subject g.row.W.Denot) (k : Known). c.len-len.result ≡ length k.log) c.len-len.ensures.value in
     let quiet = forth a b same (λ (P : Subject g.row.W.Denot) (k : Known). IsQuiet (along P) (told (oldest c.len-len.result k.log))) (c.ready-quiet.ensures.quiet c.if-not-quiet.false) in
     let settled = settled_by b c.len-len.result long quiet (c.ready-quiet.ensures.fitted c.if-not-quiet.false) c.ready-quiet.ensures.limit (drew.closed c.if-not-learnt.true) in
-    subst (λ (x : State g.row.W.Denot). IsSettled x) (sym (drew.unchanged c.if-not-learnt.true)) settled
+    subst (λ (x : AnalysisState g.row.W.Denot). IsSettled x) (sym (drew.unchanged c.if-not-learnt.true)) settled
 
 pub sweep-requires-clause-writings : goal.sweep-requires-clause-writings
 sweep-requires-clause-writings g c = c.ready-quiet.ensures.writings c.if-not-quiet.false

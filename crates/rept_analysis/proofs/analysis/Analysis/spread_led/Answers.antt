@@ -1,5 +1,5 @@
 use Rattle.std.proofs.Common.{true, sym, subst}
-use Rattle.rept_analysis.specs.State.{State, Whole, state_of, reader}
+use Rattle.rept_analysis.specs.State.{AnalysisState, Whole, state_of, reader}
 use Rattle.rept_analysis.specs.Drawing.{Drew, IsSpreadTo}
 use Rattle.rept_analysis.proofs.Drawn.{Grows_same, Drew_new}
 use Rattle.rept_analysis.proofs.analysis.Analysis.spread_led.Goals as goal
@@ -7,7 +7,7 @@ use Rattle.rept_analysis.proofs.analysis.Analysis.spread_led.Goals as goal
 pub returns-in-Ok-More-clause-drew : goal.returns-in-Ok-More-clause-drew
 returns-in-Ok-More-clause-drew g c =
     let sent = rw c.in-Ok-More.field-0-is at c.in-Ok-More.ensures in
-    let P : State g.row.W.Denot → Type 0 = IsSpreadTo (record { address = c.args.a; from = c.args.from; to = c.args.to; value = c.args.value }) in
+    let P : AnalysisState g.row.W.Denot → Type 0 = IsSpreadTo (record { address = c.args.a; from = c.args.from; to = c.args.to; value = c.args.value }) in
     subst (λ (x : Whole g.row.P.Denot g.row.L.Denot g.row.B.Denot g.row.W.Denot g.row.R.Denot). Drew (state_of (reader g.P.Paths.timeline g.L.LastValues.values) g.W.Partial.sets g.W.Transfer.moves g.R.RowRules.rules g.B.ByteFacts.store c.args.self.now) (state_of (reader g.P.Paths.timeline g.L.LastValues.values) g.W.Partial.sets g.W.Transfer.moves g.R.RowRules.rules g.B.ByteFacts.store x) true P) (sym c.note_byte.ensures)
     (Drew_new (state_of (reader g.P.Paths.timeline g.L.LastValues.values) g.W.Partial.sets g.W.Transfer.moves g.R.RowRules.rules g.B.ByteFacts.store c.args.self.now) (state_of (reader g.P.Paths.timeline g.L.LastValues.values) g.W.Partial.sets g.W.Transfer.moves g.R.RowRules.rules g.B.ByteFacts.store c.send.new.self) P sent.1 sent.2)
 

@@ -1,5 +1,5 @@
 use Rattle.std.proofs.Common.{Bool, subst}
-use Rattle.rept_analysis.specs.State.{State, state_of, reader}
+use Rattle.rept_analysis.specs.State.{AnalysisState, state_of, reader}
 use Rattle.rept_analysis.specs.Drawing.{Drew, LastKnownBelow, LastBytesKnown, RowsClosed, AllCarried, SinglesKnown, IsDrawnAll}
 use Rattle.rept_analysis.proofs.Begun.{begun_after}
 use Rattle.rept_analysis.proofs.Drawn.{Drew_second, Drew_loud, Grows_trans}
@@ -10,7 +10,7 @@ pub returns-then-fresh-clause-drew : goal.returns-then-fresh-clause-drew
 returns-then-fresh-clause-drew g c =
     let a = state_of (reader g.P.Paths.timeline g.L.LastValues.values) g.W.Partial.sets g.W.Transfer.moves g.R.RowRules.rules g.B.ByteFacts.store c.args.self.now in
     let b = state_of (reader g.P.Paths.timeline g.L.LastValues.values) g.W.Partial.sets g.W.Transfer.moves g.R.RowRules.rules g.B.ByteFacts.store c.sweep_fresh.new.self in
-    let P : State g.row.W.Denot → Type 0 = λ x. LastKnownBelow 32 x × LastBytesKnown x × SinglesKnown x in
+    let P : AnalysisState g.row.W.Denot → Type 0 = λ x. LastKnownBelow 32 x × LastBytesKnown x × SinglesKnown x in
     subst (λ (x : Bool). Drew a b x IsDrawnAll) c.if-fresh.true (Drew_loud a b c.in_ok-fresh.fresh P IsDrawnAll c.if-fresh.true c.in_ok-fresh.ensures.drew)
 
 pub carry_tracked-requires-clause-writings : goal.carry_tracked-requires-clause-writings
@@ -30,8 +30,8 @@ returns-then-carried-clause-drew g c =
     let a = state_of (reader g.P.Paths.timeline g.L.LastValues.values) g.W.Partial.sets g.W.Transfer.moves g.R.RowRules.rules g.B.ByteFacts.store c.args.self.now in
     let b = state_of (reader g.P.Paths.timeline g.L.LastValues.values) g.W.Partial.sets g.W.Transfer.moves g.R.RowRules.rules g.B.ByteFacts.store c.sweep_fresh.new.self in
     let d = state_of (reader g.P.Paths.timeline g.L.LastValues.values) g.W.Partial.sets g.W.Transfer.moves g.R.RowRules.rules g.B.ByteFacts.store c.carry_tracked.new.self in
-    let P : State g.row.W.Denot → Type 0 = λ x. LastKnownBelow 32 x × LastBytesKnown x × SinglesKnown x in
-    let Q : State g.row.W.Denot → Type 0 = λ x. P x × AllCarried x in
+    let P : AnalysisState g.row.W.Denot → Type 0 = λ x. LastKnownBelow 32 x × LastBytesKnown x × SinglesKnown x in
+    let Q : AnalysisState g.row.W.Denot → Type 0 = λ x. P x × AllCarried x in
     let both = Drew_second a b d c.in_ok-fresh.fresh c.in_ok-carried.carried P AllCarried Q c.if-fresh.false c.in_ok-fresh.ensures.grows c.in_ok-fresh.ensures.drew c.in_ok-carried.ensures.drew (λ p q. (p, q)) in
     subst (λ (x : Bool). Drew a d x IsDrawnAll) c.if-carried.true (Drew_loud a d c.in_ok-carried.carried Q IsDrawnAll c.if-carried.true both)
 
@@ -59,8 +59,8 @@ returns-clause-drew g c =
     let b = state_of (reader g.P.Paths.timeline g.L.LastValues.values) g.W.Partial.sets g.W.Transfer.moves g.R.RowRules.rules g.B.ByteFacts.store c.sweep_fresh.new.self in
     let d = state_of (reader g.P.Paths.timeline g.L.LastValues.values) g.W.Partial.sets g.W.Transfer.moves g.R.RowRules.rules g.B.ByteFacts.store c.carry_tracked.new.self in
     let e = state_of (reader g.P.Paths.timeline g.L.LastValues.values) g.W.Partial.sets g.W.Transfer.moves g.R.RowRules.rules g.B.ByteFacts.store c.draw_back.new.self in
-    let P : State g.row.W.Denot → Type 0 = λ x. LastKnownBelow 32 x × LastBytesKnown x × SinglesKnown x in
-    let Q : State g.row.W.Denot → Type 0 = λ x. P x × AllCarried x in
+    let P : AnalysisState g.row.W.Denot → Type 0 = λ x. LastKnownBelow 32 x × LastBytesKnown x × SinglesKnown x in
+    let Q : AnalysisState g.row.W.Denot → Type 0 = λ x. P x × AllCarried x in
     let both = Drew_second a b d c.in_ok-fresh.fresh c.in_ok-carried.carried P AllCarried Q c.if-fresh.false c.in_ok-fresh.ensures.grows c.in_ok-fresh.ensures.drew c.in_ok-carried.ensures.drew (λ p q. (p, q)) in
     Drew_second a d e c.in_ok-carried.carried c.in_ok-rows.rows Q RowsClosed IsDrawnAll c.if-carried.false (Grows_trans _ _ _ c.in_ok-fresh.ensures.grows c.in_ok-carried.ensures.grows) both c.in_ok-rows.ensures.drew (λ p q. record { last = p.0.0; rows = q; bytes = p.0.1; carried = λ x m w at. p.1 x at c.requires.exact m w; singles = p.0.2 })
 

@@ -1,6 +1,6 @@
 use Rattle.std.proofs.Common.{◌≡◌, ◌||◌, false}
 use Rattle.std.proofs.lemmas.Bool.{or_parts}
-use Rattle.rept_analysis.specs.State.{State, state_of, reader}
+use Rattle.rept_analysis.specs.State.{AnalysisState, state_of, reader}
 use Rattle.rept_analysis.specs.Drawing.{Drew, LastKnownBelow, LastBytesKnown, SinglesKnown}
 use Rattle.rept_analysis.proofs.Begun.{begun_after}
 use Rattle.rept_analysis.proofs.Drawn.{Drew_both, Grows_trans}
@@ -19,6 +19,9 @@ returns-in_err-rows-clause-grows g c = Grows_trans _ _ _ c.in_ok-last.ensures.gr
 
 pub carry_rest-requires-clause-writings : goal.carry_rest-requires-clause-writings
 carry_rest-requires-clause-writings g c = writings_after (state_of (reader g.P.Paths.timeline g.L.LastValues.values) g.W.Partial.sets g.W.Transfer.moves g.R.RowRules.rules g.B.ByteFacts.store c.args.self.now) (state_of (reader g.P.Paths.timeline g.L.LastValues.values) g.W.Partial.sets g.W.Transfer.moves g.R.RowRules.rules g.B.ByteFacts.store c.draw_through.new.self) (Grows_trans _ _ _ c.in_ok-last.ensures.grows c.in_ok-rows.ensures.grows) c.requires.writings
+
+pub carry_rest-requires-clause-uncut : goal.carry_rest-requires-clause-uncut
+carry_rest-requires-clause-uncut g c = c.in_ok-rows.ensures.drew.uncut (c.in_ok-last.ensures.drew.uncut c.requires.uncut)
 
 pub returns-in_err-bytes-clause-grows : goal.returns-in_err-bytes-clause-grows
 returns-in_err-bytes-clause-grows g c = Grows_trans _ _ _ c.in_ok-last.ensures.grows (Grows_trans _ _ _ c.in_ok-rows.ensures.grows c.carry_rest.ensures.grows)
@@ -40,11 +43,11 @@ returns-clause-drew g c =
     let b3 = (state_of (reader g.P.Paths.timeline g.L.LastValues.values) g.W.Partial.sets g.W.Transfer.moves g.R.RowRules.rules g.B.ByteFacts.store c.carry_rest.new.self) in
     let b4 = (state_of (reader g.P.Paths.timeline g.L.LastValues.values) g.W.Partial.sets g.W.Transfer.moves g.R.RowRules.rules g.B.ByteFacts.store c.draw_singles.new.self) in
     let news = c.in_ok-last.last || c.in_ok-rows.rows in
-    let U : State g.row.W.Denot → Type 0 = λ x. Unit {0} in
-    let P : State g.row.W.Denot → Type 0 = LastKnownBelow 32 in
-    let Q : State g.row.W.Denot → Type 0 = λ x. news ≡ false → LastBytesKnown x in
-    let R : State g.row.W.Denot → Type 0 = λ x. LastKnownBelow 32 x × LastBytesKnown x in
-    let F : State g.row.W.Denot → Type 0 = λ x. LastKnownBelow 32 x × LastBytesKnown x × SinglesKnown x in
+    let U : AnalysisState g.row.W.Denot → Type 0 = λ x. Unit {0} in
+    let P : AnalysisState g.row.W.Denot → Type 0 = LastKnownBelow 32 in
+    let Q : AnalysisState g.row.W.Denot → Type 0 = λ x. news ≡ false → LastBytesKnown x in
+    let R : AnalysisState g.row.W.Denot → Type 0 = λ x. LastKnownBelow 32 x × LastBytesKnown x in
+    let F : AnalysisState g.row.W.Denot → Type 0 = λ x. LastKnownBelow 32 x × LastBytesKnown x × SinglesKnown x in
     let g1 = c.in_ok-last.ensures.grows in
     let g2 = Grows_trans a b1 b2 g1 c.in_ok-rows.ensures.grows in
     let g3 = Grows_trans a b2 b3 g2 c.in_ok-bytes.ensures.grows in

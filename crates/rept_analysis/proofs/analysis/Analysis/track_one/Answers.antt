@@ -1,5 +1,5 @@
 use Rattle.std.proofs.Common.{true}
-use Rattle.rept_analysis.specs.State.{State, state_of, reader}
+use Rattle.rept_analysis.specs.State.{AnalysisState, state_of, reader}
 use Rattle.rept_analysis.specs.Drawing.{IsTracked}
 use Rattle.rept_analysis.proofs.Drawn.{Drew_new, Drew_both, Grows_same, Grows_trans}
 use Rattle.rept_analysis.proofs.Listing.{writings_after}
@@ -22,7 +22,7 @@ returns-in_ok-_told-in-Ok-true-clause-drew g c =
     let told = rw c.in-Ok-true.field-0-test at c.in-Ok-true.ensures in
     let a = (state_of (reader g.P.Paths.timeline g.L.LastValues.values) g.W.Partial.sets g.W.Transfer.moves g.R.RowRules.rules g.B.ByteFacts.store c.args.self.now) in
     let b = (state_of (reader g.P.Paths.timeline g.L.LastValues.values) g.W.Partial.sets g.W.Transfer.moves g.R.RowRules.rules g.B.ByteFacts.store c.track.new.self) in
-    Drew_both a b (state_of (reader g.P.Paths.timeline g.L.LastValues.values) g.W.Partial.sets g.W.Transfer.moves g.R.RowRules.rules g.B.ByteFacts.store c.draw_dump.new.self) true c.in_ok-_told-in-Ok-true._told (IsTracked c.args.a) (λ (x : State g.row.W.Denot). Unit {0}) (IsTracked c.args.a) told.0 c.in_ok-_told-in-Ok-true.ensures.grows (Drew_new a b (IsTracked c.args.a) told.1 told.5) c.in_ok-_told-in-Ok-true.ensures.drew (λ p q. p)
+    Drew_both a b (state_of (reader g.P.Paths.timeline g.L.LastValues.values) g.W.Partial.sets g.W.Transfer.moves g.R.RowRules.rules g.B.ByteFacts.store c.draw_dump.new.self) true c.in_ok-_told-in-Ok-true._told (IsTracked c.args.a) (λ (x : AnalysisState g.row.W.Denot). Unit {0}) (IsTracked c.args.a) told.0 c.in_ok-_told-in-Ok-true.ensures.grows (Drew_new a b (IsTracked c.args.a) told.1 told.5) c.in_ok-_told-in-Ok-true.ensures.drew (λ p q. p)
 
 pub returns-in_ok-_told-in-Ok-true-clause-tracked : goal.returns-in_ok-_told-in-Ok-true-clause-tracked
 returns-in_ok-_told-in-Ok-true-clause-tracked g c = let told = rw c.in-Ok-true.field-0-test at c.in-Ok-true.ensures in c.in_ok-_told-in-Ok-true.ensures.grows.tracked c.args.a told.2

@@ -1,8 +1,8 @@
-use Rattle.rept_analysis.specs.State.{State, state_of, reader}
+use Rattle.rept_analysis.specs.State.{AnalysisState, state_of, reader}
 use Rattle.rept_analysis.proofs.Answering.{writer_answers}
 use Rattle.rept_analysis.proofs.analysis.Analysis.writer.Goals as goal
 
 pub returns-then-ended-clause-ended : goal.returns-then-ended-clause-ended
 returns-then-ended-clause-ended g c = λ complete.
-    let s : State g.row.W.Denot = state_of (reader g.P.Paths.timeline g.L.LastValues.values) g.W.Partial.sets g.W.Transfer.moves g.R.RowRules.rules g.B.ByteFacts.store c.args.self.now in
+    let s : AnalysisState g.row.W.Denot = state_of (reader g.P.Paths.timeline g.L.LastValues.values) g.W.Partial.sets g.W.Transfer.moves g.R.RowRules.rules g.B.ByteFacts.store c.args.self.now in
     writer_answers s ((c.ended.ensures.kept).finished complete).settled c.args.moment c.args.a c.last_writer.result c.last_writer.ensures

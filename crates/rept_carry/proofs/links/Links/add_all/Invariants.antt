@@ -1,5 +1,5 @@
 use Rattle.std.proofs.Common.{◌≡◌, length}
-use Rattle.rept_carry.specs.Links.{Adds}
+use Rattle.rept_carry.specs.Links.{AddsPairs}
 use Rattle.rept_carry.proofs.Linking.{IsPairTo}
 use Rattle.rept_carry.proofs.links.Links.add_all.Given as goal
 
@@ -7,5 +7,5 @@ abbrev pub invariant-loop-to : goal.invariant-loop-to
 invariant-loop-to l = record {
   onward : length l.self.onward.items ≡ length l.fn.self.onward.items;
   back : length l.self.back.items ≡ length l.fn.self.back.items;
-  adds : Adds (IsPairTo l.from l.list l.to-index) l.fn.self l.self;
+  adds : AddsPairs (IsPairTo l.from l.list l.to-index) l.fn.self l.self;
 }

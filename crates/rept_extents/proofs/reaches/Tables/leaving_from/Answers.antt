@@ -7,7 +7,7 @@ use Rattle.rept_extents.proofs.reaches.Tables.leaving_from.Goals as goal
 pub returns-in-Many : goal.returns-in-Many
 returns-in-Many c = λ M tables.
     let its = subst (λ (t : Tables). AreTables M t) c.in-Many.is (are_tables M c.args.self.now tables) in
-    leaving M c.in-Many.nexts c.args.least c.args.most c.up_to.result its.next c.up_to.ensures.from c.up_to.ensures.to c.up_to.ensures.all
+    leaving M c.in-Many.nexts c.args.known c.args.least c.up_to.result its.next c.requires.order c.up_to.ensures.from c.up_to.ensures.to c.up_to.ensures.all
 
 pub returns-in-One : goal.returns-in-One
-returns-in-One c = λ M tables. leaving_one M c.args.least c.args.most c.requires (subst (λ (t : Tables). AreTables M t) c.in-One.is (are_tables M c.args.self.now tables))
+returns-in-One c = λ M tables. leaving_one M c.args.known c.args.least c.requires.since c.requires.order (subst (λ (t : Tables). AreTables M t) c.in-One.is (are_tables M c.args.self.now tables))

@@ -1,7 +1,7 @@
 use Rattle.std.proofs.Common.{◌≡◌, Some, true}
 use Rattle.rept_nearest.specs.Nets.{IsNearest}
 use Rattle.rept_report.specs.Timeline.{Timeline}
-use Rattle.rept_origin.specs.Bridges.{ByteAlong, links_over, carries_by, IsBeside}
+use Rattle.rept_origin.specs.Bridges.{ByteAlong, links_over, carries_by, IsLinkBeside}
 use Rattle.rept_origin.proofs.Reached.{beside_is_nearer}
 use Rattle.rept_log.specs.Fronts.{basis_of, front_of, setting_in}
 use Rattle.rept_log.proofs.Fronts.{moved, moved_back, both_ok}
@@ -14,6 +14,6 @@ pub returns : goal.returns
 returns g c = both_ok c.nearer.result _ _ _
     (λ step carries beside. record {
       carries = moved g.W.Partial.sets g.W.Transfer.moves g.R.RowRules.rules g.P.Paths.timeline g.L.LastValues.values _ c.args.self.now c.args.byte.now.front.now c.self.view_is c.requires.same c.args.byte.now.address (λ (t : Timeline) (b : ByteAlong). carries_by t b c.args.number step ≡ true) carries;
-      nearer = beside_is_nearer (setting_in (front_of g.W.Partial.sets g.W.Transfer.moves g.R.RowRules.rules (basis_of g.P.Paths.timeline g.L.LastValues.values c.args.self.now))) c.count-count.ensures.laws c.args.self.now.facts c.args.byte.now.address c.args.number step.from c.args.found c.requires.nearest (moved g.W.Partial.sets g.W.Transfer.moves g.R.RowRules.rules g.P.Paths.timeline g.L.LastValues.values _ c.args.self.now c.args.byte.now.front.now c.self.view_is c.requires.same c.args.byte.now.address (λ (t : Timeline) (b : ByteAlong). IsBeside (links_over t b) c.args.number c.args.found.links step.from) beside);
+      nearer = beside_is_nearer (setting_in (front_of g.W.Partial.sets g.W.Transfer.moves g.R.RowRules.rules (basis_of g.P.Paths.timeline g.L.LastValues.values c.args.self.now))) c.count-count.ensures.laws c.args.self.now.facts c.args.byte.now.address c.args.number step.from c.args.found c.requires.nearest (moved g.W.Partial.sets g.W.Transfer.moves g.R.RowRules.rules g.P.Paths.timeline g.L.LastValues.values _ c.args.self.now c.args.byte.now.front.now c.self.view_is c.requires.same c.args.byte.now.address (λ (t : Timeline) (b : ByteAlong). IsLinkBeside (links_over t b) c.args.number c.args.found.links step.from) beside);
     })
     c.nearer.ensures.carries c.nearer.ensures.nearer

@@ -1,31 +1,27 @@
-use Rattle.std.proofs.Common.{◌≡◌, ◌+◌, ◌-◌, ◌/◌, List, get_or, subst, arith}
+use Rattle.std.proofs.Common.{◌≡◌, List, Some, leb, slice_get, sym, ap, ◌∙◌, subst, rules, arith}
 use Rattle.std.specs.List.Sorted.{IsNonDecreasingBy}
+use Rattle.std.proofs.lemmas.Bool.Decides.{nat_tests}
+use Rattle.std.proofs.lemmas.List.Sorted.{IsPartitionPoint-from_clause, IsPartitionedBy-leb}
+use Rattle.std.proofs.lemmas.Option.{slice_get_within, get_or_from_slice_get}
 use Rattle.rept_moments.specs.declared.begins.Begun.{Begun}
-use Rattle.rept_moments.proofs.Beginning.{halves_after, halves_before}
 use Rattle.rept_moments.proofs.begins.Begins.begun_by.Goals as goal
 
-pub loop-low-preserved-then-index-time : goal.loop-low-preserved-then-index-time
-loop-low-preserved-then-index-time c =
-    let i = c.loop-low.invariant in
-    let less = c.loop-low-test.true in
-    let up : IsNonDecreasingBy (λ (w : Begun). w.begin) c.args.self.now = subst (λ (ws : List Begun). IsNonDecreasingBy (λ (w : Begun). w.begin) ws) c.self.view_is c.self.invariant in
-    let read : c.index.result.now ≡ get_or c.args.self.now (c.loop-low.low + (c.loop-low.high - c.loop-low.low) / 2) c.index.result.now = subst (λ (ws : List Begun). c.index.result.now ≡ get_or ws (c.loop-low.low + (c.loop-low.high - c.loop-low.low) / 2) c.index.result.now) c.self.view_is c.index.ensures in
-    record {
-      order = omega arith;
-      within = omega arith;
-      before = i.before;
-      after = λ k b order there. halves_after c.args.self.now up (c.loop-low.low + (c.loop-low.high - c.loop-low.low) / 2) k c.args.time c.index.result.now b read (let most = i.within in omega arith) order c.if-index-time.true there;
-    }
+pub returns-clause-before : goal.returns-clause-before
+returns-clause-before c = λ k b less there.
+    let same : c.as_slice-list.result.now ≡ c.args.self.now = c.as_slice-list.ensures.value ∙ c.self.view_is in
+    let up : IsNonDecreasingBy (λ (x : Begun). x.begin) c.as_slice-list.result.now = subst (λ (xs : List Begun). IsNonDecreasingBy (λ (x : Begun). x.begin) xs) (sym c.as_slice-list.ensures.value) c.self.invariant in
+    let parts = IsPartitionPoint-from_clause (λ (x : Begun). leb x.begin c.args.time) c.as_slice-list.result.now c.partition_point.result c.partition_point.ensures.partitioned (IsPartitionedBy-leb (λ (x : Begun). x.begin) c.as_slice-list.result.now c.args.time up) (λ a r f h. search rules) in
+    let here = subst (λ (xs : List Begun). slice_get xs k ≡ Some b) (sym same) there in
+    let read = ap (λ (x : Begun). x.begin) (get_or_from_slice_get c.as_slice-list.result.now k b b here) in
+    let e = parts.0 k b (omega arith) less in
+    grind (arith, nat_tests, e, read)
 
-pub loop-low-preserved : goal.loop-low-preserved
-loop-low-preserved c =
-    let i = c.loop-low.invariant in
-    let less = c.loop-low-test.true in
-    let up : IsNonDecreasingBy (λ (w : Begun). w.begin) c.args.self.now = subst (λ (ws : List Begun). IsNonDecreasingBy (λ (w : Begun). w.begin) ws) c.self.view_is c.self.invariant in
-    let read : c.index.result.now ≡ get_or c.args.self.now (c.loop-low.low + (c.loop-low.high - c.loop-low.low) / 2) c.index.result.now = subst (λ (ws : List Begun). c.index.result.now ≡ get_or ws (c.loop-low.low + (c.loop-low.high - c.loop-low.low) / 2) c.index.result.now) c.self.view_is c.index.ensures in
-    record {
-      order = omega arith;
-      within = i.within;
-      before = λ k b below there. halves_before c.args.self.now up (c.loop-low.low + (c.loop-low.high - c.loop-low.low) / 2) k c.args.time c.index.result.now b read (let most = i.within in omega arith) (omega arith) c.if-index-time.false there;
-      after = i.after;
-    }
+pub returns-clause-after : goal.returns-clause-after
+returns-clause-after c = λ k b order there.
+    let same : c.as_slice-list.result.now ≡ c.args.self.now = c.as_slice-list.ensures.value ∙ c.self.view_is in
+    let up : IsNonDecreasingBy (λ (x : Begun). x.begin) c.as_slice-list.result.now = subst (λ (xs : List Begun). IsNonDecreasingBy (λ (x : Begun). x.begin) xs) (sym c.as_slice-list.ensures.value) c.self.invariant in
+    let parts = IsPartitionPoint-from_clause (λ (x : Begun). leb x.begin c.args.time) c.as_slice-list.result.now c.partition_point.result c.partition_point.ensures.partitioned (IsPartitionedBy-leb (λ (x : Begun). x.begin) c.as_slice-list.result.now c.args.time up) (λ a r f h. search rules) in
+    let here = subst (λ (xs : List Begun). slice_get xs k ≡ Some b) (sym same) there in
+    let read = ap (λ (x : Begun). x.begin) (get_or_from_slice_get c.as_slice-list.result.now k b b here) in
+    let e = parts.1 k b order (slice_get_within c.as_slice-list.result.now k b here) in
+    grind (arith, nat_tests, e, read)

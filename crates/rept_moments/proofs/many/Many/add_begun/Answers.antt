@@ -1,5 +1,5 @@
 use Rattle.std.proofs.Common.{◌≡◌, ℕ, true, false, Option, ap, subst, ◌∙◌, arith}
-use Rattle.rept_steps.specs.Course.{Course, IsSound}
+use Rattle.rept_steps.specs.Course.{Course, IsSoundCourse}
 use Rattle.rept_moments.specs.Edges.{end_at}
 use Rattle.rept_moments.specs.Writers.{not_past}
 use Rattle.rept_moments.proofs.Places.{below_in}
@@ -20,7 +20,7 @@ add_later-requires-clause-first c =
 
 pub loop-place-preserved : goal.loop-place-preserved
 loop-place-preserved c =
-    let sound : IsSound c.args.self.now = subst IsSound c.self.view_is c.self.invariant.sound in
+    let sound : IsSoundCourse c.args.self.now = subst IsSoundCourse c.self.view_is c.self.invariant.sound in
     let end : c.end.result ≡ end_at c.args.self.now c.args.side = c.end.ensures ∙ ap (λ (D : Course). end_at D c.args.side) c.self.view_is in
     taken_more c.args.self.now sound c.args.side c.args.last c.args.begins.now c.requires.begins c.after-start.result c.after-end.result
     (λ k b order there. subst (λ (o : Option ℕ). not_past o b.begin ≡ false) end (c.after-start.ensures.after k b order there))
@@ -29,7 +29,7 @@ loop-place-preserved c =
 
 pub returns : goal.returns
 returns c =
-    let sound : IsSound c.args.self.now = subst IsSound c.self.view_is c.self.invariant.sound in
+    let sound : IsSoundCourse c.args.self.now = subst IsSoundCourse c.self.view_is c.self.invariant.sound in
     let end : c.end.result ≡ end_at c.args.self.now c.args.side = c.end.ensures ∙ ap (λ (D : Course). end_at D c.args.side) c.self.view_is in
     taken_all c.args.self.now sound c.args.side c.args.last c.args.begins.now c.requires.begins c.after-start.result c.after-end.result
     (λ k b order there. subst (λ (o : Option ℕ). not_past o b.begin ≡ false) end (c.after-start.ensures.after k b order there))

@@ -1,5 +1,5 @@
-use Rattle.rept_moments.specs.Nexts.{ends_to, Adds, Member}
+use Rattle.rept_moments.specs.Nexts.{ends_to, AddsOthers, Member}
 use Rattle.rept_moments.proofs.many.Many.add_ends.Given as goal
 
 abbrev pub invariant-loop-thread : goal.invariant-loop-thread
-invariant-loop-thread l = Adds l.own (Member (ends_to l.self l.thread)) l.fn.list.items l.list.items
+invariant-loop-thread l = AddsOthers l.own (Member (ends_to l.self l.thread)) l.fn.list.items l.list.items

@@ -1,7 +1,7 @@
 use Rattle.std.proofs.Common.{◌≡◌, Bool, true, false, not, Option, ℕ, sym, subst, ◌∙◌}
 use Rattle.std.proofs.lemmas.Bool.{false≢true}
 use Rattle.rept_steps.specs.Course.{Course}
-use Rattle.rept_moments.specs.Between.{IsBetween}
+use Rattle.rept_moments.specs.Between.{IsOwnBetween}
 use Rattle.rept_moments.specs.Tables.{AreTables}
 use Rattle.rept_moments.proofs.Falls.{leads_placed, between_own, between_after, between_end}
 use Rattle.rept_moments.proofs.many.Many.row_between.Goals as goal
@@ -22,7 +22,7 @@ own_between-requires c =
 pub returns-in-Some : goal.returns-in-Some
 returns-in-Some c =
     let t : AreTables c.args.self.now c.self.inside.begins c.self.inside.numbers c.self.inside.merged.items = subst (λ (D : Course). AreTables D c.self.inside.begins c.self.inside.numbers c.self.inside.merged.items) c.self.view_is c.self.invariant in
-    subst (λ (o : Option ℕ). IsBetween c.args.self.now c.args.m c.args.w o) (sym c.own_between.ensures) (between_own c.args.self.now t.sound c.self.inside.numbers t.kept c.args.m c.in-Some.side (sym c.at.ensures.is ∙ c.in-Some.is) c.args.w (is_off c.in-Some.side.is_after c.if-not-side.true))
+    subst (λ (o : Option ℕ). IsOwnBetween c.args.self.now c.args.m c.args.w o) (sym c.own_between.ensures) (between_own c.args.self.now t.sound c.self.inside.numbers t.kept c.args.m c.in-Some.side (sym c.at.ensures.is ∙ c.in-Some.is) c.args.w (is_off c.in-Some.side.is_after c.if-not-side.true))
 
 pub returns-in_default : goal.returns-in_default
 returns-in_default c =

@@ -1,5 +1,5 @@
 use Rattle.std.proofs.Common.{nat_lt, ℕ, ap, sym, subst, ◌∙◌, arith}
-use Rattle.rept_steps.specs.Course.{IsSound}
+use Rattle.rept_steps.specs.Course.{IsSoundCourse}
 use Rattle.rept_order.specs.Events.{event_slice}
 use Rattle.rept_order.specs.Times.{begin_of}
 use Rattle.rept_course.specs.Numbered.{row_on}
@@ -23,7 +23,7 @@ begin-requires c = let less = leg_below c.args.self.now c.args.other.point c.req
 
 pub returns-then-thread : goal.returns-then-thread
 returns-then-thread c =
-    let sound : IsSound c.args.self.now = subst IsSound c.self.view_is c.self.invariant.sound in
+    let sound : IsSoundCourse c.args.self.now = subst IsSoundCourse c.self.view_is c.self.invariant.sound in
     c.stands_by.ensures ∙ own_decided c.args.self.now sound c.args.one c.args.other (there_row c.args.self.now (row_on c.args.self.now c.args.one.point) c.requires.one) (there_row c.args.self.now (row_on c.args.self.now c.args.other.point) c.requires.other) (sym c.thread.ensures ∙ c.if-thread.true ∙ c.thread-2.ensures)
 
 pub returns-in-Some : goal.returns-in-Some

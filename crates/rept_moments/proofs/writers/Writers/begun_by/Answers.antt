@@ -1,31 +1,25 @@
-use Rattle.std.proofs.Common.{◌≡◌, ◌+◌, ◌-◌, ◌/◌, List, get_or, subst, arith}
+use Rattle.std.proofs.Common.{◌≡◌, ◌<◌, ◌≤◌, List, leb, get_or, length, sym, ◌∙◌, subst, rules, arith}
 use Rattle.std.specs.List.Sorted.{IsNonDecreasingBy}
+use Rattle.std.proofs.lemmas.Bool.Decides.{nat_tests}
+use Rattle.std.proofs.lemmas.List.Sorted.{IsPartitionPoint-from_clause, IsPartitionedBy-leb}
 use Rattle.rept_moments.specs.declared.writers.Writer.{Writer}
-use Rattle.rept_moments.proofs.Latest.{begun_after, begun_before}
+use Rattle.rept_moments.specs.Writers.{no_writer}
 use Rattle.rept_moments.proofs.writers.Writers.begun_by.Goals as goal
 
-pub loop-low-preserved-then-index-time : goal.loop-low-preserved-then-index-time
-loop-low-preserved-then-index-time c =
-    let i = c.loop-low.invariant in
-    let less = c.loop-low-test.true in
-    let up : IsNonDecreasingBy (λ (w : Writer). w.begin) c.args.self.now = subst (λ (ws : List Writer). IsNonDecreasingBy (λ (w : Writer). w.begin) ws) c.self.view_is c.self.invariant.0 in
-    let read : c.index.result.now ≡ get_or c.args.self.now (c.loop-low.low + (c.loop-low.high - c.loop-low.low) / 2) c.index.result.now = subst (λ (ws : List Writer). c.index.result.now ≡ get_or ws (c.loop-low.low + (c.loop-low.high - c.loop-low.low) / 2) c.index.result.now) c.self.view_is c.index.ensures in
-    record {
-      order = omega arith;
-      within = omega arith;
-      before = i.before;
-      after = λ k least below. begun_after c.args.self.now (c.loop-low.low + (c.loop-low.high - c.loop-low.low) / 2) k c.args.time c.index.result.now up read least below c.if-index-time.true;
-    }
+pub returns-clause-before : goal.returns-clause-before
+returns-clause-before c = λ k less.
+    let same : c.as_slice-list.result.now ≡ c.args.self.now = c.as_slice-list.ensures.value ∙ c.self.view_is in
+    let up : IsNonDecreasingBy (λ (x : Writer). x.begin) c.as_slice-list.result.now = subst (λ (xs : List Writer). IsNonDecreasingBy (λ (x : Writer). x.begin) xs) (sym c.as_slice-list.ensures.value) c.self.invariant.0 in
+    let parts = IsPartitionPoint-from_clause (λ (x : Writer). leb x.begin c.args.time) c.as_slice-list.result.now c.partition_point.result c.partition_point.ensures.partitioned (IsPartitionedBy-leb (λ (x : Writer). x.begin) c.as_slice-list.result.now c.args.time up) (λ a r f h. search rules) in
+    let e = parts.0 k no_writer (omega arith) less in
+    let at : (get_or c.as_slice-list.result.now k no_writer).begin ≤ c.args.time = grind (arith, nat_tests, e) in
+    subst (λ (xs : List Writer). (get_or xs k no_writer).begin ≤ c.args.time) same at
 
-pub loop-low-preserved : goal.loop-low-preserved
-loop-low-preserved c =
-    let i = c.loop-low.invariant in
-    let less = c.loop-low-test.true in
-    let up : IsNonDecreasingBy (λ (w : Writer). w.begin) c.args.self.now = subst (λ (ws : List Writer). IsNonDecreasingBy (λ (w : Writer). w.begin) ws) c.self.view_is c.self.invariant.0 in
-    let read : c.index.result.now ≡ get_or c.args.self.now (c.loop-low.low + (c.loop-low.high - c.loop-low.low) / 2) c.index.result.now = subst (λ (ws : List Writer). c.index.result.now ≡ get_or ws (c.loop-low.low + (c.loop-low.high - c.loop-low.low) / 2) c.index.result.now) c.self.view_is c.index.ensures in
-    record {
-      order = omega arith;
-      within = i.within;
-      before = λ k below. begun_before c.args.self.now (c.loop-low.low + (c.loop-low.high - c.loop-low.low) / 2) k c.args.time c.index.result.now up read (omega arith) (let most = i.within in omega arith) c.if-index-time.false;
-      after = i.after;
-    }
+pub returns-clause-after : goal.returns-clause-after
+returns-clause-after c = λ k order less.
+    let same : c.as_slice-list.result.now ≡ c.args.self.now = c.as_slice-list.ensures.value ∙ c.self.view_is in
+    let up : IsNonDecreasingBy (λ (x : Writer). x.begin) c.as_slice-list.result.now = subst (λ (xs : List Writer). IsNonDecreasingBy (λ (x : Writer). x.begin) xs) (sym c.as_slice-list.ensures.value) c.self.invariant.0 in
+    let parts = IsPartitionPoint-from_clause (λ (x : Writer). leb x.begin c.args.time) c.as_slice-list.result.now c.partition_point.result c.partition_point.ensures.partitioned (IsPartitionedBy-leb (λ (x : Writer). x.begin) c.as_slice-list.result.now c.args.time up) (λ a r f h. search rules) in
+    let e = parts.1 k no_writer order (subst (λ (xs : List Writer). k < length xs) (sym same) less) in
+    let at : c.args.time < (get_or c.as_slice-list.result.now k no_writer).begin = grind (arith, nat_tests, e) in
+    subst (λ (xs : List Writer). c.args.time < (get_or xs k no_writer).begin) same at

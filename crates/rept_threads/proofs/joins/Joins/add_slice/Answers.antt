@@ -9,7 +9,7 @@ use Rattle.rept_threads.specs.declared.walks.Kept.{Kept}
 use Rattle.rept_threads.proofs.Joinery.{first_walked, next_ran, next_clock, there_within, there_is, slice_added, goes_to}
 use Rattle.rept_steps.specs.Linked.{EndBefore}
 use Rattle.rept_slices.specs.Stamps.{address_of}
-use Rattle.rept_threads.specs.Linking.{Goes, onward_to}
+use Rattle.rept_threads.specs.Linking.{GoesFromTo, onward_to}
 use Rattle.rept_threads.specs.Joining.{ending_of}
 use Rattle.rept_threads.proofs.Leading.{ends_on}
 use Rattle.rept_threads.proofs.Bridging.{target, bridge_goes, ready_of}
@@ -65,7 +65,7 @@ add_rows-requires c =
     let i = first_walked all c.args.walked.now slice q.0 q.1 q.2 c.in-Some.ensures.value in
     let kept_is : c.index.result.now ≡ i.stretch = c.index.ensures ∙ there_is all slice.stretch i.stretch _ i.there in
     let own : c.part-rows.result.now ≡ (q.0).rows = c.part-rows.ensures ∙ ap (λ (xs : List StepRow). take slice.count (drop slice.first xs)) (c.rows-rows.ensures.list ∙ ap (λ (k : Kept). k.rows) kept_is) ∙ i.rows in
-    (address_of (q.0).told.start, onward_to q.0 (head_of q.1), q.3, subst (λ (xs : List StepRow). Goes xs (address_of (q.0).told.start) (onward_to q.0 (head_of q.1))) (sym own) q.4)
+    (address_of (q.0).told.start, onward_to q.0 (head_of q.1), q.3, subst (λ (xs : List StepRow). GoesFromTo xs (address_of (q.0).told.start) (onward_to q.0 (head_of q.1))) (sym own) q.4)
 
 pub add_rows-requires-2 : goal.add_rows-requires-2
 add_rows-requires-2 c =
@@ -78,7 +78,7 @@ add_rows-requires-2 c =
     let steps : c.add_rows.new.steps ≡ c.args.thread.now.steps ++ (q.0).rows = c.in_ok-add_rows.ensures.ok ∙ ap (λ (xs : List StepRow). c.args.thread.now.steps ++ xs) own in
     let e = ending_of c.args.self.now c.args.pc in
     let goes = bridge_goes e c.args.self.now.count q.0 (head_of q.1) (reverse c.in-Ok.more) (c.in-Ok.ensures.ok q.0 q.1 q.2) in
-    let more : Goes c.rows.result.now (onward_to q.0 (head_of q.1)) (target e (head_of q.1)) = subst (λ (xs : List StepRow). Goes xs (onward_to q.0 (head_of q.1)) (target e (head_of q.1))) (reverse-reverse c.in-Ok.more ∙ sym c.rows.ensures.list) goes in
+    let more : GoesFromTo c.rows.result.now (onward_to q.0 (head_of q.1)) (target e (head_of q.1)) = subst (λ (xs : List StepRow). GoesFromTo xs (onward_to q.0 (head_of q.1)) (target e (head_of q.1))) (reverse-reverse c.in-Ok.more ∙ sym c.rows.ensures.list) goes in
     let ends = ends_on c.args.thread.now.steps (q.0).rows (address_of (q.0).told.start) (onward_to q.0 (head_of q.1)) q.3 q.4 in
     (onward_to q.0 (head_of q.1), target e (head_of q.1), subst (λ (xs : List StepRow). EndBefore xs (onward_to q.0 (head_of q.1))) (sym steps) ends, more)
 
@@ -93,6 +93,6 @@ returns-clause-ready c = λ r rs a end goes_own.
     c.in_ok-add_rows-2.ensures.ok ∙ ap (λ (xs : List StepRow). c.add_rows.new.steps ++ xs) c.rows.ensures.list ∙ ap (λ (xs : List StepRow). xs ++ c.in-Ok.more) (c.in_ok-add_rows.ensures.ok ∙ ap (λ (xs : List StepRow). c.args.thread.now.steps ++ xs) own) in
     let e = ending_of c.args.self.now c.args.pc in
     let goes = bridge_goes e c.args.self.now.count r (head_of rs) (reverse c.in-Ok.more) (c.in-Ok.ensures.ok r rs a) in
-    let more : Goes c.in-Ok.more (onward_to r (head_of rs)) (target e (head_of rs)) = subst (λ (xs : List StepRow). Goes xs (onward_to r (head_of rs)) (target e (head_of rs))) (reverse-reverse c.in-Ok.more) goes in
+    let more : GoesFromTo c.in-Ok.more (onward_to r (head_of rs)) (target e (head_of rs)) = subst (λ (xs : List StepRow). GoesFromTo xs (onward_to r (head_of rs)) (target e (head_of rs))) (reverse-reverse c.in-Ok.more) goes in
     let ends = ends_on (c.args.thread.now.steps ++ r.rows) c.in-Ok.more (onward_to r (head_of rs)) (target e (head_of rs)) (ends_on c.args.thread.now.steps r.rows (address_of r.told.start) (onward_to r (head_of rs)) end goes_own) more in
     ready_of e (head_of rs) c.add_rows-2.new.steps (subst (λ (xs : List StepRow). EndBefore xs (target e (head_of rs))) (sym steps) ends)

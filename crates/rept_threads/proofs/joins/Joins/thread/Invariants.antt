@@ -1,11 +1,11 @@
 use Rattle.std.proofs.Common.{◌≤◌, List, drop}
-use Rattle.rept_slices.specs.Stretches.{Ran}
+use Rattle.rept_slices.specs.Stretches.{RanSlice}
 use Rattle.rept_threads.specs.Kept.{AreRan}
-use Rattle.rept_threads.specs.Joining.{ending_of, GoesOn}
+use Rattle.rept_threads.specs.Joining.{ending_of, JoinsGoOn}
 use Rattle.rept_threads.proofs.Joinery.{Joining}
 use Rattle.rept_threads.proofs.joins.Joins.thread.Given as goal
 
 abbrev pub invariant-loop-i : goal.invariant-loop-i
 invariant-loop-i l =
-    ((rs : List Ran) → AreRan l.fn.self.stretches.items l.walked rs → Joining (ending_of l.fn.self l.pc) l.fn.self.count rs l.fn.self.stretches.items (drop l.i l.walked) l.self.count l.rows)
-    × GoesOn l.fn.self l.self l.self.count × (l.self.count ≤ 65536)
+    ((rs : List RanSlice) → AreRan l.fn.self.stretches.items l.walked rs → Joining (ending_of l.fn.self l.pc) l.fn.self.count rs l.fn.self.stretches.items (drop l.i l.walked) l.self.count l.rows)
+    × JoinsGoOn l.fn.self l.self l.self.count × (l.self.count ≤ 65536)

@@ -1,7 +1,7 @@
 use Rattle.std.proofs.Common.{◌≡◌, ◌⊎◌, ◌+◌, List, Ok, Err, get_or, map, drop, subst}
 use Rattle.std.proofs.lemmas.List.{at_drop_all, get_or_default}
 use Rattle.rept_path.specs.declared.fault.PathFault.TheVariants.{OutOfMemory}
-use Rattle.rept_slices.specs.Joins.{Note, ThreadGround, join, of_thread, threads}
+use Rattle.rept_slices.specs.Joins.{ThreadGround, ThreadNote, join, of_thread, threads}
 use Rattle.rept_threads.specs.Joining.{ground_of}
 use Rattle.rept_threads.specs.Notes.{known_by}
 use Rattle.rept_threads.specs.declared.notes.Note.{Note as KeptNote}
@@ -22,7 +22,7 @@ returns-in-Err-clause-err c = λ rs a.
     let at = get_or_default c.args.notes.now c.loop-note.note-index (record { process = 0; pc = 0 }) note c.loop-note-test.true in
     let g = c.loop-note.invariant.1 in
     let f = c.in-Err.fault in
-    let left = subst (λ (ns : List Note). Left (ground_of j) rs (threads (ground_of j) j.count (map known_by c.args.notes.now) rs) c.loop-note.threads c.loop-note.self.count ns) (note_left c.args.notes.now c.loop-note.note-index note c.loop-note-test.true at) (c.loop-note.invariant.0 rs a) in
+    let left = subst (λ (ns : List ThreadNote). Left (ground_of j) rs (threads (ground_of j) j.count (map known_by c.args.notes.now) rs) c.loop-note.threads c.loop-note.self.count ns) (note_left c.args.notes.now c.loop-note.note-index note c.loop-note-test.true at) (c.loop-note.invariant.0 rs a) in
     let h = c.in-Err.ensures.err (of_thread note.process rs) (asked_thread j c.loop-note.self c.loop-note.self.count _ _ (of_thread note.process rs) g c.slices_of-own.ensures (a note.process)) in
     one_thread_fails (ground_of j) rs (threads (ground_of j) j.count (map known_by c.args.notes.now) rs) c.loop-note.threads c.loop-note.self.count (known_by note) (map known_by (drop (c.loop-note.note-index + 1) c.args.notes.now)) f left
     (subst (λ (e : ThreadGround). (f ≡ OutOfMemory) ⊎ (join e c.loop-note.self.count (of_thread note.process rs) ≡ Err f)) (same_ending j c.loop-note.self c.loop-note.self.count note.pc g) h)
@@ -36,7 +36,7 @@ loop-note-preserved c =
     let q = c.requires.ran in
     let there = c.in-Ok.ensures.ok (of_thread note.process q.0) (asked_thread j c.loop-note.self c.loop-note.self.count _ _ (of_thread note.process q.0) g c.slices_of-own.ensures (q.1 note.process)) in (
       (λ rs a.
-          let left = subst (λ (ns : List Note). Left (ground_of j) rs (threads (ground_of j) j.count (map known_by c.args.notes.now) rs) c.loop-note.threads c.loop-note.self.count ns) (note_left c.args.notes.now c.loop-note.note-index note c.loop-note-test.true at) (c.loop-note.invariant.0 rs a) in
+          let left = subst (λ (ns : List ThreadNote). Left (ground_of j) rs (threads (ground_of j) j.count (map known_by c.args.notes.now) rs) c.loop-note.threads c.loop-note.self.count ns) (note_left c.args.notes.now c.loop-note.note-index note c.loop-note-test.true at) (c.loop-note.invariant.0 rs a) in
           let h = c.in-Ok.ensures.ok (of_thread note.process rs) (asked_thread j c.loop-note.self c.loop-note.self.count _ _ (of_thread note.process rs) g c.slices_of-own.ensures (a note.process)) in
           let joined = subst (λ (e : ThreadGround). join e c.loop-note.self.count (of_thread note.process rs) ≡ Ok h.0) (same_ending j c.loop-note.self c.loop-note.self.count note.pc g) h.1 in
           let new = one_thread (ground_of j) rs (threads (ground_of j) j.count (map known_by c.args.notes.now) rs) c.loop-note.threads c.loop-note.self.count c.thread.new.self.count (known_by note) (map known_by (drop (c.loop-note.note-index + 1) c.args.notes.now)) h.0 left joined h.3.count in
@@ -50,4 +50,4 @@ returns-clause-ok c = λ rs a.
     let j = c.args.self.now in
     let none = at_drop_all (map known_by) c.args.notes.now c.loop-note.note-index c.loop-note-test.false in
     all_threads (ground_of j) rs (threads (ground_of j) j.count (map known_by c.args.notes.now) rs) c.loop-note.threads c.loop-note.self.count
-    (subst (λ (ns : List Note). Left (ground_of j) rs (threads (ground_of j) j.count (map known_by c.args.notes.now) rs) c.loop-note.threads c.loop-note.self.count ns) none (c.loop-note.invariant.0 rs a))
+    (subst (λ (ns : List ThreadNote). Left (ground_of j) rs (threads (ground_of j) j.count (map known_by c.args.notes.now) rs) c.loop-note.threads c.loop-note.self.count ns) none (c.loop-note.invariant.0 rs a))

@@ -1,13 +1,13 @@
 use Rattle.std.proofs.Common.{◌≡◌, ◌≤◌, ◌++◌, List, Ok, map, drop}
 use Rattle.rept_path.specs.Moves.{◌>>=◌}
-use Rattle.rept_slices.specs.Stretches.{Ran}
+use Rattle.rept_slices.specs.Stretches.{RanSlice}
 use Rattle.rept_slices.specs.Joins.{threads}
-use Rattle.rept_threads.specs.Joining.{ground_of, AreRanInOrder, GoesOn}
+use Rattle.rept_threads.specs.Joining.{ground_of, AreRanInOrder, JoinsGoOn}
 use Rattle.rept_threads.specs.Notes.{known_by}
 use Rattle.rept_threads.proofs.joins.Joins.threads.Given as goal
 
 abbrev pub invariant-loop-note : goal.invariant-loop-note
 invariant-loop-note l =
-    ((rs : List Ran) → AreRanInOrder l.fn.self.stretches.items l.walked rs
+    ((rs : List RanSlice) → AreRanInOrder l.fn.self.stretches.items l.walked rs
     → threads (ground_of l.fn.self) l.fn.self.count (map known_by l.notes) rs ≡ (threads (ground_of l.fn.self) l.self.count (map known_by (drop l.note-index l.notes)) rs >>= (λ others. Ok (l.threads ++ others))))
-    × GoesOn l.fn.self l.self l.self.count × (l.self.count ≤ 65536)
+    × JoinsGoOn l.fn.self l.self l.self.count × (l.self.count ≤ 65536)

@@ -1,12 +1,12 @@
 use Rattle.std.proofs.Common.{ℕ, ◌<◌, length, Option}
-use Rattle.rept_versions.specs.Line.{Line, IsJoined}
+use Rattle.rept_versions.specs.Line.{Line, AreSpansJoined}
 use Rattle.rept_versions.specs.Puts.{Downs}
 use Rattle.rept_versions.proofs.line.SpanLine.down.Given as goal
 
 abbrev pub invariant-loop-stop : goal.invariant-loop-stop
 invariant-loop-stop l = record {
   at : l.at < length l.self.spans;
-  joined : IsJoined l.self.spans;
+  joined : AreSpansJoined l.self.spans;
   on : (later : Line) (r : Option ℕ) → Downs l.self later l.at l.to r → Downs l.initial.self later l.i l.to r;
 }
 

@@ -1,5 +1,5 @@
 use Rattle.std.proofs.Common.{ℕ, ◌+◌, ◌-◌, subst, sym, ap, ◌∙◌, refl, arith, suc, length, ◌<◌, ◌≡◌, ◌≢◌}
-use Rattle.rept_versions.specs.Line.{nth, lowered, IsJoined, StoppedDown}
+use Rattle.rept_versions.specs.Line.{nth, lowered, AreSpansJoined, StoppedDown}
 use Rattle.rept_versions.specs.Puts.{Downs}
 use Rattle.rept_versions.proofs.Carry.{filled_lowered, stopped_lowered, step_down_is, downs_on, on_joined_down, on_length_down, ends_before}
 use Rattle.rept_versions.proofs.line.SpanLine.down_step.Goals as goal
@@ -44,4 +44,4 @@ returns-clause-joined c =
     let same : (nth old.spans (c.args.i - 1)).value ≡ (nth old.spans (suc (c.args.i - 1))).value = subst (λ m. (nth old.spans (c.args.i - 1)).value ≡ (nth old.spans m).value) (sym e) (omega (arith, c.if-t-s.false, ap (λ s. s.value) c.at-s.ensures.span, ap (λ s. s.value) c.at-t.ensures.span)) in
     let is = step_down_is old.spans c.lower-2.new.self.spans c.join.new.self.spans (c.args.i - 1) c.at-t.result c.at-t.ensures.span
     (subst (λ m. c.lower-2.new.self.spans ≡ lowered old.spans m (c.at-t.result.high + 1)) (sym e) c.lower-2.ensures.spans) c.join.ensures.spans in
-    subst IsJoined (sym is) (on_joined_down _ c.at-s.ensures.rising _ at same c.requires.joined)
+    subst AreSpansJoined (sym is) (on_joined_down _ c.at-s.ensures.rising _ at same c.requires.joined)

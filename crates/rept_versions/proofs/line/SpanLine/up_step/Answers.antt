@@ -1,5 +1,5 @@
 use Rattle.std.proofs.Common.{ℕ, subst, ◌+◌, ◌-◌, sym, ap, ◌∙◌, refl, arith, suc, length, ◌<◌, ◌≡◌}
-use Rattle.rept_versions.specs.Line.{nth, IsJoined}
+use Rattle.rept_versions.specs.Line.{nth, AreSpansJoined}
 use Rattle.rept_versions.proofs.Carry.{filled_raised, stopped_raised, step_is, ups_on, on_joined, on_length}
 use Rattle.rept_versions.proofs.line.SpanLine.up_step.Goals as goal
 
@@ -31,4 +31,4 @@ returns-clause-joined c =
     let at : suc c.args.i < length c.args.self.now.spans = omega (arith, c.requires.at, c.if-i-count.false, c.count.ensures) in
     let same : (nth c.args.self.now.spans c.args.i).value ≡ (nth c.args.self.now.spans (suc c.args.i)).value = omega (arith, c.if-t-s.false, ap (λ s. s.value) c.at-s.ensures.span, ap (λ s. s.value) c.next-t.ensures) in
     let is = step_is c.args.self.now.spans c.raise-2.new.self.spans c.join.new.self.spans c.args.i _ c.next-t.ensures c.raise-2.ensures.spans c.join.ensures.spans in
-    subst IsJoined (sym is) (on_joined _ c.at-s.ensures.rising _ at same c.requires.joined)
+    subst AreSpansJoined (sym is) (on_joined _ c.at-s.ensures.rising _ at same c.requires.joined)

@@ -1,5 +1,6 @@
-use Rattle.std.proofs.Common.{List, ◌∙◌, arith, subst, rules}
+use Rattle.std.proofs.Common.{ℕ, List, ◌∙◌, arith, subst, rules}
 use Rattle.rept_writing.specs.declared.list.Writing.{Writing}
+use Rattle.rept_writing.specs.Bounded.{AreBounded}
 use Rattle.rept_writing.specs.Filed.{IsFiled}
 use Rattle.rept_writing.specs.Falling.{AreColumns}
 use Rattle.rept_writing.proofs.Filing.{filed_sorted}
@@ -10,8 +11,9 @@ invariant_of-self c = record {
   filed = filed_sorted _ _ _ _ (subst (λ (xs : List Writing). IsFiled xs c.file_all.new.narrow.items c.file_all.new.wide.items) c.as_slice.ensures.value c.file_all.ensures.filed) c.sort_unstable.ensures.permutation;
   sorted = λ _. c.sort_unstable.ensures.sorted;
   room = search rules;
-  calls = λ _. subst (λ (xs : List Writing). AreColumns xs c.fill.new.self) c.as_slice-2.ensures.value c.fill.ensures.columns;
-  others = λ _. subst (λ (xs : List Writing). AreColumns xs c.fill-2.new.self) c.as_slice-3.ensures.value c.fill-2.ensures.columns;
+  calls = λ _. subst (λ (xs : List Writing). AreColumns xs c.fill.new.self) c.as_slice-4.ensures.value c.fill.ensures.columns;
+  others = λ _. subst (λ (xs : List Writing). AreColumns xs c.fill-2.new.self) c.as_slice-5.ensures.value c.fill-2.ensures.columns;
+  bounded = λ _. subst (λ (xs : List Writing). AreBounded xs c.file_all.new.wide.items c.bound_all.new.blocks.items) c.as_slice-2.ensures.value (subst (λ (js : List ℕ). AreBounded c.as_slice-2.result.now js c.bound_all.new.blocks.items) c.as_slice-3.ensures.value c.bound_all.ensures);
   are_calls = c.fill.ensures.kind ∙ c.self.invariant.are_calls;
   are_others = c.fill-2.ensures.kind ∙ c.self.invariant.are_others;
   calls_room = let a = c.self.invariant.calls_room in omega (arith, a, c.fill.ensures.room);

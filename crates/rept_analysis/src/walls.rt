@@ -1,0 +1,43 @@
+//! Which rows bytes met lately.
+
+use std::alloc::{AllocError as OutOfMemory, Global};
+
+/// At which row of the list of those that may write a byte stopped last at each number, and at which it stopped last of all. It only saves work: no clause says what it keeps.
+#[derive(Drop)]
+pub struct Walls {
+    list: Vec<Option<usize>>,
+    last: Option<usize>,
+}
+
+impl Walls {
+    /// None yet, for so many numbers.
+    pub fn new(alloc: Global, count: usize) -> Result<Walls, OutOfMemory> {
+        let list = vec![in alloc; None; count]?;
+        Ok(Walls { list, last: None })
+    }
+
+    /// The index of the row at which a byte stopped last at a number.
+    pub fn at(&self, number: u32) -> Option<usize> {
+        let list = self.list.as_slice();
+        let number = number as usize;
+        if number < list.len() {
+            list[number]
+        } else {
+            None
+        }
+    }
+
+    /// The index of the row at which a byte stopped last of all.
+    pub fn last(&self) -> Option<usize> {
+        self.last
+    }
+
+    /// Keeps at which row a byte stopped at a number.
+    pub fn note(&mut self, number: u32, index: usize) {
+        self.last = Some(index);
+        let number = number as usize;
+        if number < self.list.len() {
+            self.list[number] = Some(index);
+        }
+    }
+}

@@ -1,0 +1,27 @@
+//! The lines of a log of one hart, each an address.
+
+ghost use Rattle.rept_simlog.specs.Log.{IsAddressEntry};
+
+use crate::address::address_of;
+use crate::lines::LogEntry;
+
+/// A line of a log: its number, from 1 on, and the address that it gives.
+#[derive(Clone, Copy)]
+pub struct Entry {
+    pub line: u32,
+    pub address: u32,
+}
+
+impl LogEntry for Entry {
+    ghost tells = { IsAddressEntry };
+
+    fn of_line(line: &[u8], number: u32) -> Option<Entry> {
+        match address_of(line) {
+            Some(address) => Some(Entry {
+                line: number,
+                address,
+            }),
+            None => None,
+        }
+    }
+}

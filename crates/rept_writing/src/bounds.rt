@@ -1,0 +1,162 @@
+//! The bounds of the addresses that rows of many may write, for each block of these rows.
+
+ghost use Rattle.std.specs.Prelude.{◌≡◌, ◌<◌, ◌≤◌, ◌+◌, ◌*◌, ◌/◌, [], length};
+ghost use Rattle.std.specs.List.{All};
+ghost use Rattle.rept_alias.specs.Accesses.{hits, hits_part, call_hits};
+ghost use Rattle.rept_writing.specs.Bounded.{AreBounded, AreWithin, IsBlockWidened, IsWidened, lies_in, may_write};
+
+use crate::list::Writing;
+use rept_alias::{Access, CallAccess};
+
+/// So many rows of many addresses that stand one after the other are a block.
+const BLOCK: usize = 32;
+
+/// Two addresses between which others lie, both included. Where the least is above the greatest none lies there.
+#[derive(Clone, Copy)]
+pub struct Bounds {
+    /// the least address
+    pub least: u32,
+    /// the greatest one
+    pub most: u32,
+}
+
+impl Bounds {
+    /// Whether an address lies between them.
+    fn has(&self, a: u32) -> bool
+        ensures { result ≡ lies_in self.now a }
+    {
+        self.least <= a && a <= self.most
+    }
+}
+
+/// How many blocks there are at most of so many rows.
+pub fn blocks_of(rows: usize) -> usize
+    ensures { result ≡ rows / 32 + 1 }
+{
+    rows / BLOCK + 1
+}
+
+/// Whether a row of a block may write an address, by the block's bounds.
+fn may_write(blocks: &[Bounds], n: usize, a: u32) -> bool
+    ensures { result ≡ may_write blocks.now n a }
+{
+    match blocks.get(n) {
+        None => true,
+        Some(bounds) => bounds.has(a),
+    }
+}
+
+/// Whether the row at a place may write an address, by the bounds of its block.
+pub fn block_has(blocks: &[Bounds], place: usize, a: u32) -> bool
+    ensures { result ≡ may_write blocks.now (place / 32) a }
+{
+    may_write(blocks, place / BLOCK, a)
+}
+
+/// The first place of a place's block.
+pub fn block_start(place: usize) -> usize
+    ensures { result ≡ place / 32 * 32 }
+{
+    place / BLOCK * BLOCK
+}
+
+/// The place after the last one of a place's block, or the given end where this comes first.
+pub fn block_end(place: usize, end: usize) -> usize
+    requires { place < end }
+    ensures after { place < result }
+    ensures end { result ≤ end }
+    ensures within { result ≤ place / 32 * 32 + 32 }
+{
+    let start = block_start(place);
+    if end - start <= BLOCK {
+        end
+    } else {
+        start + BLOCK
+    }
+}
+
+/// Bounds within which the addresses of an access lie too.
+fn with_access(bounds: Bounds, access: Access) -> Bounds
+    ensures { IsWidened (hits access) bounds result }
+{
+    if access.all || access.hi < access.lo {
+        Bounds {
+            least: 0,
+            most: u32::MAX,
+        }
+    } else {
+        Bounds {
+            least: bounds.least.min(access.lo),
+            most: bounds.most.max(access.hi),
+        }
+    }
+}
+
+/// Bounds within which the addresses of a part lie too.
+fn with_part(bounds: Bounds, part: Option<Access>) -> Bounds
+    ensures { IsWidened (hits_part part) bounds result }
+{
+    match part {
+        None => bounds,
+        Some(access) => with_access(bounds, access),
+    }
+}
+
+/// Bounds within which the addresses of both parts lie too.
+fn with_row(bounds: Bounds, access: &CallAccess) -> Bounds
+    ensures { IsWidened (call_hits access.now) bounds result }
+{
+    with_part(with_part(bounds, access.first), access.second)
+}
+
+/// The bounds of what the rows at some places may write.
+fn bounds_of(list: &[Writing], wide: &[usize], start: usize, end: usize) -> Bounds
+    requires inside { All (λ j. j < length list.now) wide.now }
+    requires end { end ≤ length wide.now }
+    ensures { AreWithin list.now wide.now (λ m. (start ≤ m) × (m < end)) result }
+{
+    let mut bounds = Bounds {
+        least: u32::MAX,
+        most: 0,
+    };
+    for m in start..end {
+        let access = list[wide[m]].access;
+        bounds = with_row(bounds, &access);
+    }
+    bounds
+}
+
+/// The bounds of the block before which there are so many others.
+fn bounds_of_block(list: &[Writing], wide: &[usize], n: usize) -> Bounds
+    requires inside { All (λ j. j < length list.now) wide.now }
+    requires start { n * 32 ≤ length wide.now }
+    ensures { AreWithin list.now wide.now (λ m. (m < length wide.now) × (m / 32 ≡ n)) result }
+{
+    let start = n * BLOCK;
+    let end = start + BLOCK.min(wide.len() - start);
+    bounds_of(list, wide, start, end)
+}
+
+/// Keeps the bounds of so many blocks as there are and room is for, where none are kept yet. A block without them is as one that may
+/// write each address.
+pub fn bound_all(list: &[Writing], wide: &[usize], blocks: &mut Vec<Bounds>)
+    requires inside { All (λ j. j < length list.now) wide.now }
+    requires none { blocks.old.items ≡ [] }
+    ensures { AreBounded list.now wide.now blocks.new.items }
+{
+    let count = blocks_of(wide.len()).min(blocks.capacity());
+    for n in 0..count {
+        let bounds = bounds_of_block(list, wide, n);
+        blocks.push_reserved(bounds);
+    }
+}
+
+/// Makes the bounds of the block of a place such that the addresses of a row lie within them too.
+pub fn widen(blocks: &mut Vec<Bounds>, place: usize, access: &CallAccess)
+    ensures { IsBlockWidened (call_hits access.now) (place / 32) blocks.old.items blocks.new.items }
+{
+    let n = place / BLOCK;
+    if n < blocks.len() {
+        blocks[n] = with_row(blocks[n], access);
+    }
+}
