@@ -1,19 +1,21 @@
 -- What each way to end says.
 use Rattle.std.proofs.lemmas.Bool.{cases_eq}
 use Rattle.rept_reason.specs.declared.fact.Fact.{Fact}
-use Rattle.rept_reason.specs.declared.fact.Cell.TheVariants.{Register}
+use Rattle.rept_reason.specs.declared.fact.Cell.TheVariants.{Register, Byte}
 use Rattle.rept_report.proofs.Told.{same_some}
-use Rattle.rept_analysis.proofs.Stopping.{answered}
+use Rattle.rept_analysis.proofs.Stopping.{answered, byte_from, logged_derived}
 use Rattle.std.proofs.Common.{◌≡◌, ◌≤◌, arith, inl, inr, ℕ, true, Some, None, Result, Ok, Err, refl, sym, subst, ◌∙◌}
 use Rattle.std.specs.Prelude.{⊤, OnOk, IsOk, ◌⊎◌}
 use Rattle.rept_report.specs.declared.conflict.ConflictKind.{ConflictKind}
 use Rattle.rept_report.specs.Setting.{HasLaws}
 use Rattle.rept_report.specs.Closure.{InClosure, ClosureHas, IsConsistent, IsReport}
+use Rattle.rept_report.specs.Why.{fact_of}
 use Rattle.rept_report.specs.Soundness.{AlwaysHolds, IsSound, HasNoExecution}
 use Rattle.rept_report.proofs.Soundness.{closure_sound, conflict_sound, report_sound}
 use Rattle.rept_analysis.specs.declared.stop.Stop.{Stop}
 use Rattle.rept_analysis.specs.declared.stop.Stop.TheVariants.{Conflict, OutOfMemory}
 use Rattle.rept_analysis.specs.State.{AnalysisState, Subject, along}
+use Rattle.rept_analysis.specs.Answers.{byte_answer}
 use Rattle.rept_analysis.specs.Kept.{register_answer, answers, IsKept}
 use Rattle.rept_analysis.specs.Refined.{KeepsAnswers, KeepsKnown, IsEnded, IsStopped, IsPaused, Outcome}
 
@@ -101,4 +103,12 @@ answer_sound s laws kept p r v early e =
           let value : 0 ≡ v = same_some is in
           λ run x. rw z (x.zero p early ∙ value)
       | inr ne ↦ closure_sound (along s.path) laws (record { point = p; cell = Register r; value = v }) (answered s laws kept p r v e (omega (arith, ne)))
+    ]
+
+-- so does what is answered of a byte
+pub byte_sound : {W : Type 0} (s : AnalysisState W) → HasLaws (along s.path) → IsKept s → (p a v : ℕ) → byte_answer s p a ≡ Some v → AlwaysHolds (along s.path) p (Byte a) v
+byte_sound s laws kept p a v e =
+    elim (byte_from s laws kept p a v e) [
+      | inl h ↦ closure_sound (along s.path) laws (fact_of p (Byte a) v) (logged_derived s laws kept p a v h)
+      | inr h ↦ λ run x. rw h.0 (x.bytes_end a v h.1)
     ]

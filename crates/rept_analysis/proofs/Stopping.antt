@@ -1,5 +1,5 @@
 -- What stands when an analysis stops.
-use Rattle.std.proofs.Common.{◌≡◌, ℕ, ◌<◌, ◌≤◌, ◌^◌, Bool, true, false, List, [], ◌∷◌, length, Option, Some, None, inl, inr, refl, sym, subst, ◌∙◌, arith, ltb, eqb, cond}
+use Rattle.std.proofs.Common.{◌≡◌, ◌⊎◌, ℕ, ◌<◌, ◌≤◌, ◌^◌, Bool, true, false, List, [], ◌∷◌, length, Option, Some, None, inl, inr, refl, sym, subst, ◌∙◌, arith, ltb, eqb, cond}
 use Rattle.std.proofs.lemmas.Bool.{cases_eq, cases_lt, false≢true, cond-true, cond-false, lt-ltb, le-ltb, eq-eqb, ne_eqb}
 use Rattle.rept_isa.specs.declared.row.StepRow.{StepRow}
 use Rattle.rept_reason.specs.declared.fact.Fact.{Fact}
@@ -23,8 +23,7 @@ use Rattle.rept_report.proofs.Monotony.{quiet_less}
 use Rattle.rept_report.proofs.Traces.{derived_below, least_conflict, clash_closure, front_closure, next_derivation}
 use Rattle.rept_analysis.specs.State.{AnalysisState, all_known, along}
 use Rattle.rept_analysis.specs.Drawing.{IsClash, IsSettled, IsRowDrawn}
-use Rattle.rept_report.proofs.Search.{source}
-use Rattle.rept_analysis.specs.Answers.{byte_answer}
+use Rattle.rept_analysis.specs.Answers.{HasClosure, byte_answer}
 use Rattle.rept_analysis.specs.Kept.{register_answer, IsKept}
 use Rattle.rept_analysis.specs.Refined.{clash_kind}
 use Rattle.rept_analysis.proofs.Passing.{passes_more}
@@ -79,34 +78,48 @@ module _ {W : Type 0} (s : AnalysisState W) (laws : HasLaws (along s.path)) (kep
             (facts_of d.0, d.1, logged_in d.0 _ (rw (d.2, kept.traced.logged) at))
       ]
 
-  -- a byte of the dump is of the closure, where no conflict needs no fact
-  dump_derived : 0 < s.shown → (a v : ℕ) → a < 2 ^ 32 → s.path.given.dump a ≡ Some v → InClosure (along s.path) (fact_of s.path.given.moments.end (Byte a) v)
-  dump_derived some a v small e =
+  -- a fact that is answered is of the closure
+  pub logged_derived : (p a v : ℕ) → told (oldest s.shown s.known.log) p (Byte a) ≡ Some v → InClosure (along s.path) (fact_of p (Byte a) v)
+  logged_derived p a v e = front_closure (along s.path) laws kept.traced.entries kept.traced.trace s.shown (λ u below. rw kept.traced.logged (kept.calm u below)) (fact_of p (Byte a) v) (rw kept.traced.logged (told_in (oldest s.shown s.known.log) p (Byte a) v e))
+
+  -- so is a byte of the dump, where no conflict needs no fact
+  dump_derived : IsQuiet (along s.path) (told []) → (a v : ℕ) → a < 2 ^ 32 → s.path.given.dump a ≡ Some v → InClosure (along s.path) (fact_of s.path.given.moments.end (Byte a) v)
+  dump_derived quiet a v small e =
       let f = fact_of s.path.given.moments.end (Byte a) v in
-      let quiet : IsQuiet (along s.path) (told []) = subst (λ (fs : List Fact). IsQuiet (along s.path) (told fs)) (oldest_zero s.known.log) (kept.calm 0 some) in
       (f ∷ [], next_derivation (along s.path) laws [] tt quiet f (record { early = omega arith; cell = small; word = tt; by = carried (last_byte a refl refl e) }), inl refl)
 
-  -- so is what is answered of bytes
-  pub byte_answered : (p a v : ℕ) → a < 2 ^ 32 → byte_answer s p a ≡ Some v → InClosure (along s.path) (fact_of p (Byte a) v)
-  byte_answered p a v small e =
+  -- none does where a fact is answered
+  quiet_first : s.complete ≡ false → HasClosure s → IsQuiet (along s.path) (told [])
+  quiet_first open_ has =
       elim (cases_eq s.shown 0) [
-        | inl z ↦ absurd (none_some (sym (cond-true (eqb s.shown 0) None (source (along s.path) (oldest s.shown s.known.log) a p) (eq-eqb s.shown 0 z)) ∙ e))
-        | inr ne ↦ of (omega (arith, ne)) (told (oldest s.shown s.known.log) p (Byte a)) refl (sym (cond-false (eqb s.shown 0) None (source (along s.path) (oldest s.shown s.known.log) a p) (ne_eqb s.shown 0 ne)) ∙ e)
+        | inl z ↦ has open_ z
+        | inr ne ↦ subst (λ (fs : List Fact). IsQuiet (along s.path) (told fs)) (oldest_zero s.known.log) (kept.calm 0 (omega (arith, ne)))
       ]
+
+  -- what is answered of bytes is that of a fact, or the dump's
+  pub byte_from : (p a v : ℕ) → byte_answer s p a ≡ Some v → (told (oldest s.shown s.known.log) p (Byte a) ≡ Some v) ⊎ ((p ≡ s.path.given.moments.end) × (s.path.given.dump a ≡ Some v))
+  byte_from p a v e = of (told (oldest s.shown s.known.log) p (Byte a)) refl e
     where
-      at_end : 0 < s.shown → cond (eqb p s.path.given.moments.end) (s.path.given.dump a) None ≡ Some v → InClosure (along s.path) (fact_of p (Byte a) v)
-      at_end some h =
+      at_end : cond (eqb p s.path.given.moments.end) (s.path.given.dump a) None ≡ Some v → (p ≡ s.path.given.moments.end) × (s.path.given.dump a ≡ Some v)
+      at_end h =
           elim (cases_eq p s.path.given.moments.end) [
-            | inl is ↦ rw is (dump_derived some a v small (sym (cond-true (eqb p s.path.given.moments.end) (s.path.given.dump a) None (eq-eqb p s.path.given.moments.end is)) ∙ h))
+            | inl is ↦ (is, sym (cond-true (eqb p s.path.given.moments.end) (s.path.given.dump a) None (eq-eqb p s.path.given.moments.end is)) ∙ h)
             | inr ne ↦ absurd (none_some (sym (cond-false (eqb p s.path.given.moments.end) (s.path.given.dump a) None (ne_eqb p s.path.given.moments.end ne)) ∙ h))
           ]
 
-      of : 0 < s.shown → (x : Option ℕ) → told (oldest s.shown s.known.log) p (Byte a) ≡ x → source (along s.path) (oldest s.shown s.known.log) a p ≡ Some v → InClosure (along s.path) (fact_of p (Byte a) v)
-      of some (Some w) is h =
+      of : (x : Option ℕ) → told (oldest s.shown s.known.log) p (Byte a) ≡ x → byte_answer s p a ≡ Some v → (told (oldest s.shown s.known.log) p (Byte a) ≡ Some v) ⊎ ((p ≡ s.path.given.moments.end) × (s.path.given.dump a ≡ Some v))
+      of (Some w) is h =
           let value : Some w ≡ Some v = rw is at h in
-          let logged : told (oldest s.shown s.known.log) p (Byte a) ≡ Some v = is ∙ value in
-          front_closure (along s.path) laws kept.traced.entries kept.traced.trace s.shown (λ u below. rw kept.traced.logged (kept.calm u below)) (fact_of p (Byte a) v) (rw kept.traced.logged (told_in (oldest s.shown s.known.log) p (Byte a) v logged))
-      of some None is h = at_end some (rw is at h)
+          inl (is ∙ value)
+      of None is h = inr (at_end (rw is at h))
+
+  -- it is of the closure
+  pub byte_answered : s.complete ≡ false → HasClosure s → (p a v : ℕ) → a < 2 ^ 32 → byte_answer s p a ≡ Some v → InClosure (along s.path) (fact_of p (Byte a) v)
+  byte_answered open_ has p a v small e =
+      elim (byte_from p a v e) [
+        | inl h ↦ logged_derived p a v h
+        | inr h ↦ rw h.0 (dump_derived (quiet_first open_ has) a v small h.1)
+      ]
 
   abbrev pub stopped_at : ℕ → ConflictKind → AnalysisState W
   stopped_at limit kind = record { path = s.path; known = s.known; spans = s.spans; filled = s.filled; shown = limit; complete = s.complete; conflict = Some kind; work = s.work }

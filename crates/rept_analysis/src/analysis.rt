@@ -40,6 +40,7 @@ mod looking;
 mod refining;
 mod stopping;
 mod sweeping;
+mod walling;
 mod why;
 
 use crate::fresh::Fresh;

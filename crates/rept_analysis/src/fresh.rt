@@ -2,18 +2,20 @@
 
 use std::alloc::{AllocError as OutOfMemory, Global};
 
-/// Of each row, whether something that it looks at was learnt since it was looked at last. It only saves work: no clause says what it
+/// Of each row, whether something that it looks at was learnt since it was looked at last, and when that was. It only saves work: no clause says what it
 /// keeps.
 #[derive(Drop)]
 pub struct Fresh {
     list: Vec<bool>,
+    times: Vec<u32>,
 }
 
 impl Fresh {
     /// No row was looked at yet, of so many rows.
     pub fn new(alloc: Global, count: usize) -> Result<Fresh, OutOfMemory> {
         let list = vec![in alloc; true; count]?;
-        Ok(Fresh { list })
+        let times = vec![in alloc; 0; count]?;
+        Ok(Fresh { list, times })
     }
 
     /// Whether a row is to be looked at.
@@ -31,13 +33,29 @@ impl Fresh {
         }
     }
 
-    /// Keeps that a row was looked at, and whether that told something new: then it is to be looked at again, and so are the rows beside
-    /// it.
-    pub fn note(&mut self, i: u32, has_news: bool) {
+    /// Keeps when that was.
+    fn put_time(&mut self, i: u32, time: u32) {
+        let i = i as usize;
+        if i < self.times.len() {
+            self.times[i] = time;
+        }
+    }
+
+    /// Keeps that a row was looked at when something had been learnt of bytes so many times, and whether that told something new: then it is to be looked at
+    /// again, and so are the rows beside it.
+    pub fn note(&mut self, i: u32, has_news: bool, time: u32) {
         self.put(i, has_news);
+        self.put_time(i, time);
         if has_news {
             self.put(i.wrapping_sub(1), true);
             self.put(i.wrapping_add(1), true);
         }
+    }
+
+    /// How many times something had been learnt of bytes when a row was looked at last.
+    pub fn time(&self, i: u32) -> u32 {
+        let times = self.times.as_slice();
+        let i = i as usize;
+        if i < times.len() { times[i] } else { 0 }
     }
 }

@@ -5,37 +5,56 @@ use std::alloc::{AllocError as OutOfMemory, Global};
 /// So many marks there are: bytes whose addresses differ by a multiple of it share one.
 const MARKS: usize = 262_144;
 
-/// In which pass over the tracked bytes something was learnt of each of them last. It only saves work: no clause says what it keeps.
+/// When something was learnt of each of the tracked bytes last: how many times something had been learnt of any by then. It only saves work: no clause says what it keeps.
 #[derive(Drop)]
 pub struct Recent {
     marks: Vec<u32>,
-    pass: u32,
+    now: u32,
+    begun: u32,
+    since: u32,
 }
 
 impl Recent {
     /// Nothing was learnt yet.
     pub fn new(alloc: Global) -> Result<Recent, OutOfMemory> {
         let marks = vec![in alloc; 0; MARKS]?;
-        Ok(Recent { marks, pass: 1 })
+        Ok(Recent {
+            marks,
+            now: 1,
+            begun: 1,
+            since: 1,
+        })
     }
 
     /// Keeps that something was learnt of a byte.
     pub fn note(&mut self, a: u32) {
+        self.now = self.now.saturating_add(1);
         let mark = a as usize % MARKS;
         if mark < self.marks.len() {
-            self.marks[mark] = self.pass;
+            self.marks[mark] = self.now;
         }
     }
 
-    /// Whether something was learnt of a byte in the pass before this one, or since.
-    pub fn has(&self, a: u32) -> bool {
-        let mark = a as usize % MARKS;
-        let marks = self.marks.as_slice();
-        mark < marks.len() && marks[mark].wrapping_add(1) >= self.pass
+    /// How many times something was learnt of bytes.
+    pub fn now(&self) -> u32 {
+        self.now
     }
 
-    /// Keeps that a pass begins.
+    /// Whether something was learnt of a byte since so many times something had been learnt of any.
+    pub fn has_since(&self, a: u32, time: u32) -> bool {
+        let mark = a as usize % MARKS;
+        let marks = self.marks.as_slice();
+        mark < marks.len() && marks[mark] > time
+    }
+
+    /// Whether something was learnt of a byte in the pass over the tracked bytes before this one, or since.
+    pub fn has(&self, a: u32) -> bool {
+        self.has_since(a, self.since)
+    }
+
+    /// Keeps that a pass over the tracked bytes begins.
     pub fn begin(&mut self) {
-        self.pass = self.pass.wrapping_add(1);
+        self.since = self.begun;
+        self.begun = self.now;
     }
 }

@@ -2,19 +2,11 @@
 
 ghost use Rattle.std.specs.Prelude.{◌≡◌};
 ghost use Rattle.rept_isa.specs.Numbers.{plus};
-ghost use Rattle.rept_isa.specs.Operands.{is_call};
 ghost use Rattle.rept_view.specs.Rules.{offset_of};
 
 use rept_isa::Instr;
 use rept_isa::number::plus;
 use rept_view::offset_of;
-
-/// Whether it is an environment call.
-pub fn is_call(instr: &Instr) -> bool
-    ensures { result ≡ is_call instr.now }
-{
-    matches!(*instr, Instr::Ecall)
-}
 
 /// Whether it is a store or an atomic instruction, which may write the bytes that it names. It only saves work: no clause rests on it.
 pub fn is_store(instr: &Instr) -> bool {

@@ -6,6 +6,7 @@ use std::alloc::{AllocError as OutOfMemory, Global};
 #[derive(Drop)]
 pub struct Walls {
     list: Vec<Option<usize>>,
+    stops: Vec<Option<usize>>,
     last: Option<usize>,
 }
 
@@ -13,7 +14,12 @@ impl Walls {
     /// None yet, for so many numbers.
     pub fn new(alloc: Global, count: usize) -> Result<Walls, OutOfMemory> {
         let list = vec![in alloc; None; count]?;
-        Ok(Walls { list, last: None })
+        let stops = vec![in alloc; None; count]?;
+        Ok(Walls {
+            list,
+            stops,
+            last: None,
+        })
     }
 
     /// The index of the row at which a byte stopped last at a number.
@@ -38,6 +44,25 @@ impl Walls {
         let number = number as usize;
         if number < self.list.len() {
             self.list[number] = Some(index);
+        }
+    }
+
+    /// The index of the row that last kept a byte from going on from a number to one that is next to it.
+    pub fn stop(&self, number: u32) -> Option<usize> {
+        let stops = self.stops.as_slice();
+        let number = number as usize;
+        if number < stops.len() {
+            stops[number]
+        } else {
+            None
+        }
+    }
+
+    /// Keeps which row kept a byte from going on from a number.
+    pub fn note_stop(&mut self, number: u32, index: usize) {
+        let number = number as usize;
+        if number < self.stops.len() {
+            self.stops[number] = Some(index);
         }
     }
 }

@@ -1,9 +1,9 @@
 -- Bounds of blocks, one block after the other.
-use Rattle.std.proofs.Common.{◌≡◌, ℕ, inl, inr, List, [], ◌∷◌, ◌++◌, length, Option, None, ◌∙◌, subst, arith, length-append}
+use Rattle.std.proofs.Common.{◌/◌, ◌≡◌, ℕ, inl, inr, List, [], ◌∷◌, ◌++◌, length, Option, None, ◌∙◌, subst, arith, length-append}
 use Rattle.std.proofs.lemmas.Bool.{cases_lt}
 use Rattle.std.proofs.lemmas.List.{get_or_append_left, get_or_push, get_or_past}
 use Rattle.rept_extents.specs.declared.hulls.Hull.{Hull}
-use Rattle.rept_extents.specs.Hulls.{LiesIn, LieIn, block, AreBlocks}
+use Rattle.rept_extents.specs.Hulls.{LiesIn, LieIn, block, wide, AreBlocks}
 
 -- one block more
 module _ (list : List (Option Hull)) (blocks : List (Option Hull)) (h : Option Hull) where
@@ -20,3 +20,8 @@ module _ (list : List (Option Hull)) (blocks : List (Option Hull)) (h : Option H
                   subst (λ (k : ℕ). LieIn list (block k outer)) same (new outer here)
             ]
       ]
+
+-- what the bounds of 64 blocks lie within, those of each of their numbers lie within
+module _ (blocks list : List (Option Hull)) (known : AreBlocks blocks list) (w : ℕ) (outer : Hull) where
+  pub wide_of : LieIn blocks (block w outer) → LieIn list (wide w outer)
+  wide_of all k from to = known (k / 64) outer (all (k / 64) (omega arith) (omega arith)) k (omega arith) (omega arith)

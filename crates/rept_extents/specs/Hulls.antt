@@ -21,6 +21,10 @@ LieIn list s = (k : ℕ) → s.from ≤ k → k < s.to → LiesIn (slice_index_o
 abbrev pub block : ℕ → Hull → HullStretch
 block b outer = record { from = b * 64; to = b * 64 + 64; outer = outer }
 
+-- the numbers of 64 blocks one after the other
+abbrev pub wide : ℕ → Hull → HullStretch
+wide w outer = record { from = w * 4096; to = w * 4096 + 4096; outer = outer }
+
 -- what the bounds of a block lie within, those of each of its numbers lie within
 abbrev pub AreBlocks : List (Option Hull) → List (Option Hull) → Type 0
 AreBlocks blocks list = (b : ℕ) (outer : Hull) → LiesIn (slice_index_or blocks b None) outer → LieIn list (block b outer)

@@ -2,13 +2,16 @@
 
 ghost use Rattle.std.specs.Prelude.{◌≡◌, ◌≤◌, ◌<◌, ◌+◌, true, length, IfOk};
 ghost use Rattle.rept_extents.specs.declared.hulls.Hull.{Hull};
-ghost use Rattle.rept_extents.specs.Hulls.{LiesIn, LieIn, block, AreBlocks};
+ghost use Rattle.rept_extents.specs.Hulls.{LiesIn, LieIn, block, wide, AreBlocks};
 
 use std::alloc::{AllocError as OutOfMemory, Global};
 use std::marker::Model;
 
 /// So many numbers have bounds together.
 const BLOCK: u32 = 64;
+
+/// And so many, which are 64 blocks.
+const WIDE: u32 = 4096;
 
 /// Bounds of numbers.
 #[derive(Clone, Copy)]
@@ -19,11 +22,12 @@ pub struct Hull {
     pub most: u32,
 }
 
-/// The bounds of each number, if it has some, and of each 64 of them one after the other. Contracts see a list.
+/// The bounds of each number, if it has some, of each 64 of them one after the other, and of each 64 such blocks. Contracts see a list.
 #[derive(Drop)]
 pub struct Hulls {
     list: Vec<Option<Hull>>,
     blocks: Vec<Option<Hull>>,
+    wides: Vec<Option<Hull>>,
 }
 
 impl Model for Hulls {
@@ -35,7 +39,7 @@ impl Model for Hulls {
 
     ghost view = { λ h. h.list.items };
 
-    ghost invariant = { λ h. AreBlocks h.blocks.items h.list.items };
+    ghost invariant = { λ h. record { blocks : AreBlocks h.blocks.items h.list.items; wides : AreBlocks h.wides.items h.blocks.items } };
 }
 
 /// Bounds of both, where both have some.
@@ -94,7 +98,12 @@ impl Hulls {
         ensures { IfOk result (λ h. h ≡ list.items) }
     {
         let blocks = blocks_of(alloc, &list)?;
-        Ok(Hulls { list, blocks })
+        let wides = blocks_of(alloc, &blocks)?;
+        Ok(Hulls {
+            list,
+            blocks,
+            wides,
+        })
     }
 
     /// Whether a number has bounds that lie within others.
@@ -117,7 +126,17 @@ impl Hulls {
         }
     }
 
-    /// The number up to which a step leads from one that is below another one: the end of the block that begins there, or the next number. Where the bounds don't lie within others
+    /// Whether all numbers of 64 blocks one after the other have bounds that lie within others.
+    fn has_wide(&self, number: u32, outer: Hull) -> bool
+        ensures { result ≡ true → LieIn self.now (wide number outer) }
+    {
+        match self.wides.get(number as usize) {
+            Some(hull) => lies_in(*hull, outer),
+            None => false,
+        }
+    }
+
+    /// The number up to which a step leads from one that is below another one: the end of the block, or of the 64 blocks, that begin there, or the next number. Where the bounds don't lie within others
     /// it leads nowhere.
     fn after(&self, number: u32, to: u32, outer: Hull) -> u32
         requires { number < to }
@@ -125,6 +144,9 @@ impl Hulls {
         ensures to { result ≤ to }
         ensures all { LieIn self.now (record { from = number; to = result; outer = outer }) }
     {
+        if number % WIDE == 0 && to - number >= WIDE && self.has_wide(number / WIDE, outer) {
+            return number + WIDE;
+        }
         if number % BLOCK == 0 && to - number >= BLOCK && self.has_block(number / BLOCK, outer) {
             return number + BLOCK;
         }
@@ -141,6 +163,9 @@ impl Hulls {
         ensures to { result ≤ number }
         ensures all { LieIn self.now (record { from = result; to = number; outer = outer }) }
     {
+        if number % WIDE == 0 && number - from >= WIDE && self.has_wide(number / WIDE - 1, outer) {
+            return number - WIDE;
+        }
         if number % BLOCK == 0
             && number - from >= BLOCK
             && self.has_block(number / BLOCK - 1, outer)

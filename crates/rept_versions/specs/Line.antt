@@ -1,4 +1,4 @@
--- A line of numbers on which stretches have a value.
+-- A line of numbers on which spans have a value.
 use Rattle.std.specs.Prelude.{◌≡◌, ◌≢◌, ℕ, suc, ◌+◌, ◌-◌, ◌<◌, ◌≤◌, Bool, ◌&&◌, ltb, leb, ◌==◌, if◌then◌else◌, List, [], ◌∷◌, length, set, Option, Some, None, slice_index_or, remove, ◌⊎◌}
 use Rattle.rept_versions.specs.declared.span.Span.{Span}
 

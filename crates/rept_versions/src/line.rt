@@ -1,6 +1,6 @@
-//! Stretches of a line of numbers that have a value each: what is read, put in one place, and carried on.
+//! Spans of a line of numbers that have a value each: what is read, put in one place, and carried on.
 
-ghost use Rattle.std.specs.Prelude.{◌≡◌, ◌≢◌, ℕ, suc, ◌+◌, ◌-◌, ◌<◌, ◌≤◌, length, Some, None, Option, [], insert, IfOk, IfErr, IsSome, MatchBool, MatchResult};
+ghost use Rattle.std.specs.Prelude.{◌≡◌, ◌≢◌, ℕ, suc, ◌+◌, ◌-◌, ◌<◌, ◌≤◌, true, length, Some, None, Option, [], insert, IfOk, IfErr, IsSome, MatchBool, MatchResult};
 ghost use Rattle.rept_versions.specs.Moves.{MovesOnLine};
 ghost use Rattle.rept_versions.specs.Puts.{Puts, Ups, Downs, UpStep, DownStep};
 ghost use Rattle.rept_versions.specs.Line.{IsRising, AreSpansJoined, IsJoinedBut, JoinedAt, Parts, LiesInSpan, Misses, FollowsAt, PrecedesAt, ReadsSame, Added, NextsOn, nth, value_at, raised, lowered, joined, filled, filled_down};
@@ -84,6 +84,22 @@ impl SpanLine {
         ensures parts { Parts self.now.spans k result }
         ensures rising { IsRising self.now.spans }
     {
+        let near = self.near.get();
+        if self.splits(near, k) {
+            return near;
+        }
+        if near < usize::MAX && self.splits(near + 1, k) {
+            self.near.set(near + 1);
+            return near + 1;
+        }
+        self.find_near(k)
+    }
+
+    /// So, by halves: first around the last answer.
+    fn find_near(&self, k: u64) -> usize
+        ensures parts { Parts self.now.spans k result }
+        ensures rising { IsRising self.now.spans }
+    {
         let mut low = self.low_near(k);
         let mut high = self.high_near(k);
         while low < high {
@@ -97,6 +113,20 @@ impl SpanLine {
         }
         self.near.set(low);
         low
+    }
+
+    /// Whether the spans before a place begin at or below k, and the others above it.
+    fn splits(&self, place: usize, k: u64) -> bool
+        ensures { result ≡ true → Parts self.now.spans k place }
+    {
+        let count = self.count();
+        if place > count {
+            return false;
+        }
+        if place > 0 && k < self.at(place - 1).low {
+            return false;
+        }
+        place == count || k < self.at(place).low
     }
 
     /// All spans before this place begin at or below k. It is a little before the last answer, or else the first place.

@@ -20,7 +20,7 @@ ghost use Rattle.rept_analysis.specs.State.{setting_of, state_of, reader};
 ghost use Rattle.rept_report.specs.Why.{fact_of};
 ghost use Rattle.rept_analysis.specs.Drawing.{IsFitted};
 ghost use Rattle.rept_analysis.specs.Kept.{IsKept, answers};
-ghost use Rattle.rept_analysis.specs.Answers.{byte_answer};
+ghost use Rattle.rept_analysis.specs.Answers.{HasClosure, byte_answer};
 ghost use Rattle.rept_analysis.specs.Latest.{IsPossibleWriter};
 
 use super::Analysis;
@@ -221,21 +221,10 @@ impl<'a, P: Reaches + Drop, L: LastValues + Drop, B: ByteFacts, W: Transfer, R: 
         }
     }
 
-    /// How many facts are answered.
-    pub(super) fn shown(&self) -> u32
-        ensures { result ≡ self.now.shown }
-    {
-        let _paths = &self.paths;
-        self.shown
-    }
-
     /// The byte that is answered while not all is learnt.
     fn shown_byte(&self, point: u32, a: u32) -> Option<u8>
         ensures { result ≡ byte_answer (state_of (reader P.timeline L.values) W.sets W.moves R.rules B.store self.now) point a }
     {
-        if self.shown() == 0 {
-            return None;
-        }
         match self.logged_byte(point, a) {
             Some(byte) => Some(byte),
             None => self.end_byte(point, a),
@@ -243,12 +232,13 @@ impl<'a, P: Reaches + Drop, L: LastValues + Drop, B: ByteFacts, W: Transfer, R: 
     }
 
     /// The value of the byte at an address, at a point, where it follows. While not all is learnt, as after a stop, it is that of the facts
-    /// that are answered, and at the last point the dump's too.
+    /// that are answered, and at the last point the dump's too. It stands in the closure, which has no fact where the rows alone show a
+    /// conflict: then the dump's byte alone is answered.
     pub fn byte(&self, point: u32, a: u32) -> Option<u8>
         requires { point ≤ (P.timeline self.now.paths).moments.end }
         ensures ended { self.now.complete ≡ true → result ≡ answers (state_of (reader P.timeline L.values) W.sets W.moves R.rules B.store self.now) point (Byte a) }
         ensures open { self.now.complete ≡ false → result ≡ byte_answer (state_of (reader P.timeline L.values) W.sets W.moves R.rules B.store self.now) point a }
-        ensures derived { (v : ℕ) → result ≡ Some v → InClosure (setting_of (reader P.timeline L.values) W.sets W.moves R.rules self.now) (fact_of point (Byte a) v) }
+        ensures derived { HasClosure (state_of (reader P.timeline L.values) W.sets W.moves R.rules B.store self.now) → (v : ℕ) → result ≡ Some v → InClosure (setting_of (reader P.timeline L.values) W.sets W.moves R.rules self.now) (fact_of point (Byte a) v) }
         ensures sound { (v : ℕ) → result ≡ Some v → AlwaysHolds (setting_of (reader P.timeline L.values) W.sets W.moves R.rules self.now) point (Byte a) v }
     {
         if !self.ended() {

@@ -4,7 +4,7 @@ ghost use Rattle.std.specs.Prelude.{◌≡◌, ◌↔◌, ◌+◌, ◌<◌, ◌�
 ghost use Rattle.rept_reason.specs.declared.fact.Cell.TheVariants.{Byte};
 ghost use Rattle.rept_versions.specs.Facts.{KnownValues, Nexts};
 ghost use Rattle.rept_analysis.specs.State.{IsLined, state_of, reader};
-ghost use Rattle.rept_analysis.specs.Drawing.{Knows, IsTracked, Grows, Drew, IsHalt, AreWritings, AreBlocked, IsBlocker, IsBridged, IsBlocked, IsSparedBetween, IsLed, IsSpreadTo, IsCarriedFrom, IsCalm, IsLooseEnd, IsLooseBefore, IsPiece, IsCarriedIf, IsCarriedBeside, IsCarriedIn, AreLinks, IsBrought, IsHitBy};
+ghost use Rattle.rept_analysis.specs.Drawing.{Knows, IsTracked, Grows, Drew, IsHalt, AreWritings, IsBridged, IsSparedBetween, IsLed, IsSpreadTo, IsCarriedFrom, IsCalm, IsLooseEnd, IsLooseBefore, IsPiece, IsCarriedIf, IsCarriedBeside, IsCarriedIn, AreLinks, AreLinksBelow, IsBrought, IsHitBy};
 ghost use Rattle.rept_analysis.specs.Told.{Sends};
 ghost use Rattle.rept_reach.specs.Reaching.{IsBar};
 ghost use Rattle.rept_report.specs.Timeline.{IsNextFrom, IsStrip};
@@ -206,7 +206,7 @@ impl<'a, P: Reaches + Drop, L: LastValues + Drop, B: ByteFacts, W: Transfer, R: 
     }
 
     /// Whether writers that aren't told fall between a number and one that is next to it.
-    fn is_dark_between(&self, m: u32, w: u32) -> bool
+    pub(super) fn is_dark_between(&self, m: u32, w: u32) -> bool
         requires next { (P.timeline self.now.paths).moments.next m w ≡ true }
         ensures { result ≡ (P.timeline self.now.paths).moments.dark m w }
     {
@@ -222,7 +222,7 @@ impl<'a, P: Reaches + Drop, L: LastValues + Drop, B: ByteFacts, W: Transfer, R: 
     }
 
     /// Whether a row falls between a number and one that is next to it.
-    fn falls(&self, row: u32, m: u32, w: u32) -> bool
+    pub(super) fn falls(&self, row: u32, m: u32, w: u32) -> bool
         requires there { IsSome ((P.timeline self.now.paths).legs.row row) }
         requires next { (P.timeline self.now.paths).moments.next m w ≡ true }
         ensures { result ≡ (P.timeline self.now.paths).moments.falls row m w }
@@ -231,151 +231,11 @@ impl<'a, P: Reaches + Drop, L: LastValues + Drop, B: ByteFacts, W: Transfer, R: 
     }
 
     /// Whether it is sure that a row falls between a number and each one that is next to it.
-    fn bars(&self, row: u32, m: u32) -> bool
+    pub(super) fn bars(&self, row: u32, m: u32) -> bool
         requires there { IsSome ((P.timeline self.now.paths).legs.row row) }
         ensures { result ≡ true → IsBar (P.timeline self.now.paths).moments row m }
     {
         self.paths.bars(row, m)
-    }
-
-    /// The index of the first row of the list that may write a byte and falls between a number and one that is next to it, if there is one.
-    fn blocker(&self, a: u32, m: u32, w: u32) -> Option<usize>
-        requires writings { AreWritings (state_of (reader P.timeline L.values) W.sets W.moves R.rules B.store self.now) }
-        requires next { (P.timeline self.now.paths).moments.next m w ≡ true }
-        ensures { IsBlocker (record { address = a; from = m; to = w }) (state_of (reader P.timeline L.values) W.sets W.moves R.rules B.store self.now) result }
-    {
-        let mut k = 0;
-        loop {
-            let Some(hit) = self.next_meeting(k, m, w, a) else {
-                return None;
-            };
-            let row = self.entry(hit).row;
-            if self.falls(row, m, w) {
-                return Some(hit);
-            }
-            k = hit + 1;
-        }
-    }
-
-    /// Whether a byte is carried from a number to one that is next to it: whether nothing that isn't told falls between, and no row of the list that may write it.
-    fn is_carried(&self, a: u32, m: u32, w: u32) -> bool
-        requires writings { AreWritings (state_of (reader P.timeline L.values) W.sets W.moves R.rules B.store self.now) }
-        requires next { (P.timeline self.now.paths).moments.next m w ≡ true }
-        ensures yes { result ≡ true → IsBridged (record { address = a; from = m; to = w }) (state_of (reader P.timeline L.values) W.sets W.moves R.rules B.store self.now) }
-        ensures no { result ≡ false → IsBlocked (record { address = a; from = m; to = w }) (state_of (reader P.timeline L.values) W.sets W.moves R.rules B.store self.now) }
-    {
-        if self.is_dark_between(m, w) {
-            return false;
-        }
-        self.blocker(a, m, w).is_none()
-    }
-
-    /// The row at an index of the list, if one is named and is there, and may write a byte.
-    fn listed_hit(&self, a: u32, index: Option<usize>) -> Option<u32>
-        requires writings { AreWritings (state_of (reader P.timeline L.values) W.sets W.moves R.rules B.store self.now) }
-        ensures there { IfSome result (λ row. IsSome ((P.timeline self.now.paths).legs.row row)) }
-        ensures hits { IfSome result (λ row. IsHitBy a row (state_of (reader P.timeline L.values) W.sets W.moves R.rules B.store self.now)) }
-    {
-        let Some(k) = index else {
-            return None;
-        };
-        if k >= self.writing_count() {
-            return None;
-        }
-        let entry = self.entry(k);
-        let access = entry.access;
-        if access.may_hit(a) {
-            Some(entry.row)
-        } else {
-            None
-        }
-    }
-
-    /// Whether the row at an index of the list, if one is named, may write a byte and falls between a number and one that is next to it.
-    fn blocks(&self, a: u32, m: u32, w: u32, index: Option<usize>) -> bool
-        requires writings { AreWritings (state_of (reader P.timeline L.values) W.sets W.moves R.rules B.store self.now) }
-        requires next { (P.timeline self.now.paths).moments.next m w ≡ true }
-        ensures { result ≡ true → IsBlocked (record { address = a; from = m; to = w }) (state_of (reader P.timeline L.values) W.sets W.moves R.rules B.store self.now) }
-    {
-        match self.listed_hit(a, index) {
-            None => false,
-            Some(row) => self.falls(row, m, w),
-        }
-    }
-
-    /// Whether it is sure that the row at an index of the list, if one is named, may write a byte and falls between a number and each one that is next to it.
-    fn is_blocked(&self, a: u32, m: u32, index: Option<usize>) -> bool
-        requires writings { AreWritings (state_of (reader P.timeline L.values) W.sets W.moves R.rules B.store self.now) }
-        ensures { result ≡ true → AreBlocked a m (state_of (reader P.timeline L.values) W.sets W.moves R.rules B.store self.now) }
-    {
-        match self.listed_hit(a, index) {
-            None => false,
-            Some(row) => self.bars(row, m),
-        }
-    }
-
-    /// The index of a row of the list that may stop a byte at a number: the one at which a byte stopped there, or else the one at which any stopped last. No clause rests on which it is.
-    fn wall(&self, a: u32, m: u32) -> Option<usize>
-        requires writings { AreWritings (state_of (reader P.timeline L.values) W.sets W.moves R.rules B.store self.now) }
-    {
-        let index = self.walls.at(m);
-        if self.is_blocked(a, m, index) {
-            index
-        } else {
-            self.walls.last()
-        }
-    }
-
-    /// Whether a row at which a byte stopped before may write this one and falls between a number and each one that is next to it.
-    pub(super) fn is_walled(&self, a: u32, m: u32) -> bool
-        requires writings { AreWritings (state_of (reader P.timeline L.values) W.sets W.moves R.rules B.store self.now) }
-        ensures { result ≡ true → AreBlocked a m (state_of (reader P.timeline L.values) W.sets W.moves R.rules B.store self.now) }
-    {
-        if self.is_blocked(a, m, self.walls.at(m)) {
-            return true;
-        }
-        self.is_blocked(a, m, self.walls.last())
-    }
-
-    /// Keeps at which row of the list, if one is named, a byte stopped at a number.
-    fn note_wall(&mut self, m: u32, index: Option<usize>)
-        ensures { self.new ≡ self.old }
-    {
-        if let Some(k) = index {
-            self.walls.note(m, k);
-        }
-    }
-
-    /// Whether a byte is carried from a number to the one after it, which is next to it; where a row of the list keeps it from that, that is kept.
-    fn is_carried_on(&mut self, a: u32, m: u32) -> bool
-        requires writings { AreWritings (state_of (reader P.timeline L.values) W.sets W.moves R.rules B.store self.old) }
-        requires next { (P.timeline self.old.paths).moments.next m (m + 1) ≡ true }
-        ensures yes { result ≡ true → IsBridged (record { address = a; from = m; to = m + 1 }) (state_of (reader P.timeline L.values) W.sets W.moves R.rules B.store self.old) }
-        ensures no { result ≡ false → IsBlocked (record { address = a; from = m; to = m + 1 }) (state_of (reader P.timeline L.values) W.sets W.moves R.rules B.store self.old) }
-        ensures same { self.new ≡ self.old }
-    {
-        let _end = self.end();
-        if self.is_dark_between(m, m + 1) {
-            return false;
-        }
-        let blocker = self.blocker(a, m, m + 1);
-        self.note_wall(m, blocker);
-        blocker.is_none()
-    }
-
-    /// Whether it is seen at once that a byte isn't carried from a number to the one after it, which is next to it: the row that the number is before may write it, or one at which a
-    /// byte stopped before.
-    fn is_stopped(&self, a: u32, m: u32) -> bool
-        requires writings { AreWritings (state_of (reader P.timeline L.values) W.sets W.moves R.rules B.store self.now) }
-        requires next { (P.timeline self.now.paths).moments.next m (m + 1) ≡ true }
-        ensures { result ≡ true → IsBlocked (record { address = a; from = m; to = m + 1 }) (state_of (reader P.timeline L.values) W.sets W.moves R.rules B.store self.now) }
-    {
-        let _end = self.end();
-        let own = self.listed_before(m);
-        if self.blocks(a, m, m + 1, Some(own)) {
-            return true;
-        }
-        self.is_walled(a, m)
     }
 
     /// Whether nothing that may write the byte falls at the pause of a strip, if it has one.
@@ -696,17 +556,6 @@ impl<'a, P: Reaches + Drop, L: LastValues + Drop, B: ByteFacts, W: Transfer, R: 
         Ok(learnt)
     }
 
-    /// Whether the same is known of a byte at two numbers.
-    fn is_alike(&self, a: u32, m: u32, w: u32) -> bool
-        ensures { result ≡ true → (B.store self.now.known.bytes).fact m a ≡ (B.store self.now.known.bytes).fact w a }
-    {
-        match (self.known_byte(m, a), self.known_byte(w, a)) {
-            (None, None) => true,
-            (Some(here), Some(there)) => here == there,
-            _ => false,
-        }
-    }
-
     /// The value of a byte in a strip.
     pub(super) fn carry_strip(&mut self, a: u32, strip: Strip) -> Result<bool, Halt>
         requires strip { IsStrip (P.timeline self.old.paths) strip.first strip }
@@ -790,23 +639,6 @@ impl<'a, P: Reaches + Drop, L: LastValues + Drop, B: ByteFacts, W: Transfer, R: 
         self.tell_either(a, m, w)
     }
 
-    /// Whether it is sure that a byte's value has nowhere to go between a number and one that is next to it: the same is known at both, writers that aren't told fall between, or a
-    /// row of the list, if one is named, does that may write it.
-    fn is_idle(&self, a: u32, m: u32, w: u32, blocker: Option<usize>) -> bool
-        requires writings { AreWritings (state_of (reader P.timeline L.values) W.sets W.moves R.rules B.store self.now) }
-        requires next { (P.timeline self.now.paths).moments.next m w ≡ true }
-        ensures idle { result ≡ true → IsCarriedIf (record { address = a; from = m; to = w }) (state_of (reader P.timeline L.values) W.sets W.moves R.rules B.store self.now) }
-        ensures light { result ≡ false → (P.timeline self.now.paths).moments.dark m w ≡ false }
-    {
-        if self.is_alike(a, m, w) {
-            return true;
-        }
-        if self.is_dark_between(m, w) {
-            return true;
-        }
-        self.blocks(a, m, w, blocker)
-    }
-
     /// The value of a byte from a number to one that is next to it, and back, if it is carried.
     fn carry_link(&mut self, a: u32, m: u32, w: u32, blocker: Option<usize>) -> Result<Link, Halt>
         requires tracked { IsTracked a (state_of (reader P.timeline L.values) W.sets W.moves R.rules B.store self.old) }
@@ -817,7 +649,7 @@ impl<'a, P: Reaches + Drop, L: LastValues + Drop, B: ByteFacts, W: Transfer, R: 
         ensures drew { IfOk result (λ link. Drew (state_of (reader P.timeline L.values) W.sets W.moves R.rules B.store self.old) (state_of (reader P.timeline L.values) W.sets W.moves R.rules B.store self.new) link.has_news (IsCarriedIf (record { address = a; from = m; to = w }))) }
         ensures halt { IfErr result (λ h. IsHalt (state_of (reader P.timeline L.values) W.sets W.moves R.rules B.store self.new) h) }
     {
-        if self.is_idle(a, m, w, blocker) {
+        if self.is_dark_between(m, w) {
             return Ok(Link {
                 has_news: false,
                 blocker,
@@ -825,6 +657,7 @@ impl<'a, P: Reaches + Drop, L: LastValues + Drop, B: ByteFacts, W: Transfer, R: 
         }
         let found = self.blocker(a, m, w);
         if found.is_some() {
+            self.note_stop(m, found);
             return Ok(Link {
                 has_news: false,
                 blocker: found,
@@ -834,18 +667,58 @@ impl<'a, P: Reaches + Drop, L: LastValues + Drop, B: ByteFacts, W: Transfer, R: 
         Ok(Link { has_news, blocker })
     }
 
-    /// A number from one on, before which from there on the same is known of a byte as at another number.
-    fn like_to(&self, a: u32, m: u32, from: u32) -> u32
+    /// A number from one on, before which from there on a value is known of a byte, or none.
+    fn like_to(&self, a: u32, here: Option<u8>, from: u32) -> u32
         requires inside { from ≤ (P.timeline self.now.paths).moments.end }
         ensures order { from ≤ result }
-        ensures alike { (w : ℕ) → from ≤ w → w < result → (B.store self.now.known.bytes).fact w a ≡ (B.store self.now.known.bytes).fact m a }
+        ensures alike { (w : ℕ) → from ≤ w → w < result → (B.store self.now.known.bytes).fact w a ≡ here }
     {
         let end = self.end();
-        let here = self.known_byte(m, a);
         match self.stretch(a, from) {
             None => like_unless(here.is_some(), end + 1, from),
             Some(stretch) => like_along(&stretch, here, from, end),
         }
+    }
+
+    /// A number from one on that is next to another one, before which from there on the byte goes nowhere: the same is known as at that one, or it isn't carried.
+    fn idle_from(&self, a: u32, m: u32, w: u32, here: Option<u8>, row: Option<u32>) -> u32
+        requires inside { w ≤ (P.timeline self.now.paths).moments.end }
+        requires writings { AreWritings (state_of (reader P.timeline L.values) W.sets W.moves R.rules B.store self.now) }
+        requires next { (P.timeline self.now.paths).moments.next m w ≡ true }
+        requires here { here ≡ (B.store self.now.known.bytes).fact m a }
+        requires there { IfSome row (λ i. IsSome ((P.timeline self.now.paths).legs.row i)) }
+        requires hits { IfSome row (λ i. IsHitBy a i (state_of (reader P.timeline L.values) W.sets W.moves R.rules B.store self.now)) }
+        ensures order { w ≤ result }
+        ensures idle { (v : ℕ) → w ≤ v → v < result → IsCarriedIf (record { address = a; from = m; to = v }) (state_of (reader P.timeline L.values) W.sets W.moves R.rules B.store self.now) }
+    {
+        let like = self.like_to(a, here, w);
+        if like > w {
+            return like;
+        }
+        if self.is_shut(a, m, w, row) { w + 1 } else { w }
+    }
+
+    /// A number from one on, before which from there on a byte goes to none that is next to another number: by what is known, and a row of the list, if one is named.
+    fn idle_to(&self, a: u32, m: u32, least: u32, index: Option<usize>) -> u32
+        requires inside { m ≤ (P.timeline self.now.paths).moments.end }
+        requires writings { AreWritings (state_of (reader P.timeline L.values) W.sets W.moves R.rules B.store self.now) }
+        ensures order { least ≤ result }
+        ensures below { AreLinksBelow a m least (state_of (reader P.timeline L.values) W.sets W.moves R.rules B.store self.now) → AreLinksBelow a m result (state_of (reader P.timeline L.values) W.sets W.moves R.rules B.store self.now) }
+    {
+        let end = self.end();
+        let here = self.known_byte(m, a);
+        let row = self.listed_hit(a, index);
+        let mut from = least;
+        while from <= end {
+            let Some(next) = self.next_from(m, from) else {
+                return end + 1;
+            };
+            from = self.idle_from(a, m, next, here, row);
+            if from == next {
+                return next;
+            }
+        }
+        from
     }
 
     /// The value of a byte from a number to one that is next to it, and back, if it is carried. Answers a number up to which, from the next one on, there is none to which it would go.
@@ -866,7 +739,8 @@ impl<'a, P: Reaches + Drop, L: LastValues + Drop, B: ByteFacts, W: Transfer, R: 
         ensures onward { IfOk result (λ done. next < done.1) }
         ensures halt { IfErr result (λ h. IsHalt (state_of (reader P.timeline L.values) W.sets W.moves R.rules B.store self.new) h) }
     {
-        let like = self.like_to(a, m, next);
+        let here = self.known_byte(m, a);
+        let like = self.like_to(a, here, next);
         if like > next {
             let link = Link {
                 has_news: false,
@@ -898,7 +772,8 @@ impl<'a, P: Reaches + Drop, L: LastValues + Drop, B: ByteFacts, W: Transfer, R: 
                 self.note_wall(m, blocker);
                 return Ok(has_news);
             }
-            let Some(next) = self.next_from(m, least) else {
+            let from = self.idle_to(a, m, least, blocker);
+            let Some(next) = self.next_from(m, from) else {
                 return Ok(has_news);
             };
             let done = self.carry_next(a, m, next, blocker)?;

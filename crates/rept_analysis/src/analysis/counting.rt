@@ -9,8 +9,7 @@ ghost use Rattle.rept_isa.specs.Operands.{is_call};
 ghost use Rattle.rept_analysis.specs.Counts.{base_of, is_store, row_is, rows_below, calls_below, stores_below, known_at, known_below, IsCounted};
 
 use super::Analysis;
-use crate::rows::is_call;
-use rept_isa::{Instr, Reg, reads, register};
+use rept_isa::{Instr, Reg, is_call, reads, register};
 use rept_log::LastValues;
 use rept_partial::Flat;
 use rept_reach::Reaches;

@@ -454,12 +454,12 @@ impl<'a, P: Reaches + Drop, L: LastValues + Drop, B: ByteFacts, W: Transfer, R: 
         Ok(registers | fetched | tracked | drawn)
     }
 
-    /// Keeps that row i was looked at, since which the log may have grown.
-    fn note_row(&mut self, i: u32, len: u32)
+    /// Keeps that row i was looked at, since which the log may have grown, and how many times something had been learnt of bytes before.
+    fn note_row(&mut self, i: u32, len: u32, time: u32)
         ensures { self.new ≡ self.old }
     {
         let has_news = self.len() > len;
-        self.fresh.note(i, has_news);
+        self.fresh.note(i, has_news, time);
     }
 
     /// All that row i lets one conclude, and that it was looked at.
@@ -473,12 +473,13 @@ impl<'a, P: Reaches + Drop, L: LastValues + Drop, B: ByteFacts, W: Transfer, R: 
         ensures halt { IfErr result (λ h. IsHalt (state_of (reader P.timeline L.values) W.sets W.moves R.rules B.store self.new) h) }
     {
         let len = self.len();
+        let time = self.recent.now();
         let learnt = self.draw_row(i)?;
-        self.note_row(i, len);
+        self.note_row(i, len, time);
         Ok(learnt)
     }
 
-    /// Whether something was learnt lately of one of the bytes that row i's rules look at.
+    /// Whether something was learnt of one of the bytes that row i's rules look at since it was looked at.
     fn has_recent(&self, i: u32, row: &StepRow) -> bool
         requires { i < (P.timeline self.now.paths).legs.count }
     {
@@ -486,33 +487,47 @@ impl<'a, P: Reaches + Drop, L: LastValues + Drop, B: ByteFacts, W: Transfer, R: 
             return false;
         };
         let start = address(base, &row.instr);
+        let time = self.fresh.time(i);
         for k in 0..R::places(row).min(4) {
-            if self.recent.has(start.wrapping_add(k)) {
+            if self.recent.has_since(start.wrapping_add(k), time) {
                 return true;
             }
         }
         false
     }
 
-    /// Whether row i may tell something new: something was learnt beside it since it was looked at, or it looks at bytes of which not all
-    /// are known, and of which something was learnt lately, along other rows.
-    fn may_tell(&self, i: u32) -> bool
+    /// Whether row i looks at bytes of which not all are known, and of which something was learnt lately, along other rows.
+    fn may_tell(&self, i: u32, row: &StepRow) -> bool
         requires { i < (P.timeline self.now.paths).legs.count }
     {
-        if self.fresh.has(i) {
-            return true;
-        }
-        let Some(row) = self.row(i) else {
-            return false;
-        };
-        let places = R::places(&row).min(4);
+        let places = R::places(row).min(4);
         let (first, second) = reads(&row.instr);
         let operands = one_if(first) + one_if(second) + one_if(writes(&row.instr));
         let pass = self.pass(i);
-        places > 0 && !is_with(pass, operands + 2 * places) && self.has_recent(i, &row)
+        places > 0 && !is_with(pass, operands + 2 * places) && self.has_recent(i, row)
     }
 
-    /// All that row i lets one conclude, where it may tell something new.
+    /// All that row i lets one draw with bytes of which something was learnt lately, and that it was looked at. What its registers keep was carried before.
+    fn draw_bytes(&mut self, i: u32, row: &StepRow) -> Result<bool, Halt>
+        requires inside { i < (P.timeline self.old.paths).legs.count }
+        requires row { (P.timeline self.old.paths).legs.row i ≡ Some row.now }
+        requires writings { AreWritings (state_of (reader P.timeline L.values) W.sets W.moves R.rules B.store self.old) }
+        requires open { self.old.complete ≡ false }
+        requires uncut { IsUncut (state_of (reader P.timeline L.values) W.sets W.moves R.rules B.store self.old) }
+        ensures grows { Grows (state_of (reader P.timeline L.values) W.sets W.moves R.rules B.store self.old) (state_of (reader P.timeline L.values) W.sets W.moves R.rules B.store self.new) }
+        ensures drew { IfOk result (λ learnt. Drew (state_of (reader P.timeline L.values) W.sets W.moves R.rules B.store self.old) (state_of (reader P.timeline L.values) W.sets W.moves R.rules B.store self.new) learnt (λ _. ⊤)) }
+        ensures halt { IfErr result (λ h. IsHalt (state_of (reader P.timeline L.values) W.sets W.moves R.rules B.store self.new) h) }
+    {
+        let len = self.len();
+        let time = self.recent.now();
+        let fetched = self.fetch(i, row)?;
+        let tracked = self.track_row(i, row)?;
+        let drawn = self.draw_around(i, row)?;
+        self.note_row(i, len, time);
+        Ok(fetched | tracked | drawn)
+    }
+
+    /// All that row i lets one conclude, where it may tell something new: something was learnt beside it since it was looked at, or of bytes that it looks at.
     pub(super) fn draw_fresh(&mut self, i: u32) -> Result<bool, Halt>
         requires inside { i < (P.timeline self.old.paths).legs.count }
         requires writings { AreWritings (state_of (reader P.timeline L.values) W.sets W.moves R.rules B.store self.old) }
@@ -522,9 +537,15 @@ impl<'a, P: Reaches + Drop, L: LastValues + Drop, B: ByteFacts, W: Transfer, R: 
         ensures drew { IfOk result (λ learnt. Drew (state_of (reader P.timeline L.values) W.sets W.moves R.rules B.store self.old) (state_of (reader P.timeline L.values) W.sets W.moves R.rules B.store self.new) learnt (λ _. ⊤)) }
         ensures halt { IfErr result (λ h. IsHalt (state_of (reader P.timeline L.values) W.sets W.moves R.rules B.store self.new) h) }
     {
-        if !self.may_tell(i) {
+        if self.fresh.has(i) {
+            return self.draw_noted(i);
+        }
+        let Some(row) = self.row(i) else {
+            return Ok(false);
+        };
+        if !self.may_tell(i, &row) {
             return Ok(false);
         }
-        self.draw_noted(i)
+        self.draw_bytes(i, &row)
     }
 }

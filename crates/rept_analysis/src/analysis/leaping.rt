@@ -291,22 +291,28 @@ impl<'a, P: Reaches + Drop, L: LastValues + Drop, B: ByteFacts, W: Transfer, R: 
         Ok((new, to))
     }
 
-    /// The least number to which one is next, or itself.
+    /// The least number to which one is next, or itself. Where writers that aren't told don't lie before the number, they fall before it on each way to it, and it answers the number.
     fn least_former(&self, number: u32) -> u32
         requires { number ≤ (P.timeline self.now.paths).moments.end }
     {
+        if !self.paths.is_dark_past(number) {
+            return number;
+        }
         match self.paths.former_from(number, 0) {
             None => number,
             Some(former) => former.min(number),
         }
     }
 
-    /// The greatest number that is next to one, or itself.
+    /// The greatest number that is next to one, or itself, likewise.
     fn greatest_next(&self, number: u32) -> u32
         requires { number ≤ (P.timeline self.now.paths).moments.end }
         ensures { result ≤ (P.timeline self.now.paths).moments.end }
     {
         let end = self.end();
+        if !self.paths.is_dark_past(number) {
+            return number;
+        }
         let mut found = number;
         let mut least = 0;
         while least <= end {
@@ -386,7 +392,7 @@ impl<'a, P: Reaches + Drop, L: LastValues + Drop, B: ByteFacts, W: Transfer, R: 
         Ok((true, under.1))
     }
 
-    /// The value of a byte down from the first number of a strip, and back through the strips before it that lead to one where it was new. That this is done at once saves rounds: no
+    /// The value of a byte, if it is known there, down from the first number of a strip, and back through the strips before it that lead to one where it was new. That this is done at once saves rounds: no
     /// clause rests on it.
     pub(super) fn carry_back(&mut self, a: u32, number: u32) -> Result<bool, Halt>
         requires inside { number ≤ (P.timeline self.old.paths).moments.end }
@@ -397,6 +403,9 @@ impl<'a, P: Reaches + Drop, L: LastValues + Drop, B: ByteFacts, W: Transfer, R: 
         ensures drew { IfOk result (λ learnt. Drew (state_of (reader P.timeline L.values) W.sets W.moves R.rules B.store self.old) (state_of (reader P.timeline L.values) W.sets W.moves R.rules B.store self.new) learnt (λ _. ⊤)) }
         ensures halt { IfErr result (λ h. IsHalt (state_of (reader P.timeline L.values) W.sets W.moves R.rules B.store self.new) h) }
     {
+        if self.known_byte(number, a).is_none() {
+            return Ok(false);
+        }
         let down = self.leap_down(a, number)?;
         let to = self.even_to(a, number) + 1;
         let mut learnt = down.0;

@@ -11,9 +11,9 @@ ghost use Rattle.rept_writing.specs.Hits.{AreInOrder, IsNextHitBelow, IsNextMeet
 ghost use Rattle.rept_writing.specs.declared.list.Writing.{Writing};
 
 use super::Analysis;
-use crate::rows::{is_call, is_store};
+use crate::rows::is_store;
 use rept_alias::CallAccess;
-use rept_isa::StepRow;
+use rept_isa::{StepRow, is_call};
 use rept_log::LastValues;
 use rept_reach::Reaches;
 use rept_span::Transfer;

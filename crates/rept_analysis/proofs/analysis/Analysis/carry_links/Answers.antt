@@ -15,8 +15,11 @@ returns-in_default-clause-drew g c =
     let s = (state_of (reader g.P.Paths.timeline g.L.LastValues.values) g.W.Partial.sets g.W.Transfer.moves g.R.RowRules.rules g.B.ByteFacts.store c.args.self.now) in
     let t = (state_of (reader g.P.Paths.timeline g.L.LastValues.values) g.W.Partial.sets g.W.Transfer.moves g.R.RowRules.rules g.B.ByteFacts.store c.loop-least.self) in
     let least = c.loop-least.least in
-    let Q : AnalysisState g.row.W.Denot → Type 0 = λ x. IsNextFrom x.path.given.moments c.args.m least None in
-    Drew_first s t t c.loop-least.has_news false (AreLinksBelow c.args.a c.args.m least) Q (AreLinks c.args.a c.args.m) (Grows_itself t) refl c.loop-least.invariant.drew (Drew_same t Q (next_none t.path.given.moments c.args.m least c.next_from.result c.in_default.not-Some c.next_from.ensures)) (λ p q. links_none s c.args.a c.args.m least p q)
+    let from = c.idle_to-from.result in
+    let a = c.args.a in
+    let m = c.args.m in
+    let Q : AnalysisState g.row.W.Denot → Type 0 = λ x. (AreLinksBelow a m least x → AreLinksBelow a m from x) × IsNextFrom x.path.given.moments m from None in
+    Drew_first s t t c.loop-least.has_news false (AreLinksBelow c.args.a c.args.m least) Q (AreLinks c.args.a c.args.m) (Grows_itself t) refl c.loop-least.invariant.drew (Drew_same t Q (c.idle_to-from.ensures.below, next_none t.path.given.moments m from c.next_from.result c.in_default.not-Some c.next_from.ensures)) (λ p q. links_none s a m from (q.0 p) q.1)
 
 pub carry_next-requires-clause-next : goal.carry_next-requires-clause-next
 carry_next-requires-clause-next g c = (rw c.in-Some.is at c.next_from.ensures).0
@@ -39,14 +42,15 @@ loop-least-preserved g c =
     let n = c.in_ok-done.done.1 in
     let i = c.loop-least.invariant in
     let e = c.in_ok-done.ensures in
-    let from = rw c.in-Some.is at c.next_from.ensures in
+    let from = c.idle_to-from.result in
+    let its = rw c.in-Some.is at c.next_from.ensures in
     let Q : AnalysisState g.row.W.Denot → Type 0 = λ x. (w : ℕ) → next ≤ w → w < n → IsCarriedIf (passage a m w) x in
-    let P : AnalysisState g.row.W.Denot → Type 0 = λ x. IsNextFrom x.path.given.moments m least (Some next) × Q x in
+    let P : AnalysisState g.row.W.Denot → Type 0 = λ x. (AreLinksBelow a m least x → AreLinksBelow a m from x) × IsNextFrom x.path.given.moments m from (Some next) × Q x in
     record {
       grows = Grows_trans s t u i.grows e.grows;
       drew = Drew_both s t u c.loop-least.has_news c.in_ok-done.done.0.has_news (AreLinksBelow a m least) P (AreLinksBelow a m n) i.grows e.grows i.drew
-          (Drew_as t u c.in_ok-done.done.0.has_news Q P e.drew (λ h. (from, h)))
-          (λ p q. links_far s a m least p next n q.0 q.1);
+          (Drew_as t u c.in_ok-done.done.0.has_news Q P e.drew (λ h. (c.idle_to-from.ensures.below, its, h)))
+          (λ p q. links_far s a m from (q.0 p) next n q.1 q.2);
       end_is = i.end_is;
     }
 
@@ -74,3 +78,6 @@ returns-then-is_blocked-clause-drew g c =
     let Q : AnalysisState g.row.W.Denot → Type 0 = AreBlocked c.args.a c.args.m in
     subst (λ (x : Whole g.row.P.Denot g.row.L.Denot g.row.B.Denot g.row.W.Denot g.row.R.Denot). Drew s (st x) c.loop-least.has_news (AreLinks c.args.a c.args.m)) (sym c.note_wall.ensures)
     (Drew_first s t t c.loop-least.has_news false (AreLinksBelow c.args.a c.args.m c.loop-least.least) Q (AreLinks c.args.a c.args.m) (Grows_itself t) refl c.loop-least.invariant.drew (Drew_same t Q (c.is_blocked.ensures c.if-is_blocked.true)) (λ p q. links_blocked s c.args.a c.args.m q))
+
+pub idle_to-from-requires-clause-writings : goal.idle_to-from-requires-clause-writings
+idle_to-from-requires-clause-writings g c = c.loop-least.invariant.grows.writing c.requires.writings

@@ -1,4 +1,4 @@
-use Rattle.std.proofs.Common.{ℕ, ◌+◌, ◌<◌, ◌≤◌, sym}
+use Rattle.std.proofs.Common.{ℕ, ◌∙◌, ◌+◌, ◌<◌, ◌≤◌, sym}
 use Rattle.rept_report.specs.Spots.{passage}
 use Rattle.rept_analysis.specs.State.{AnalysisState, state_of, reader}
 use Rattle.rept_analysis.specs.Drawing.{IsCarriedIf}
@@ -10,7 +10,7 @@ pub returns-then-like-next-clause-drew : goal.returns-then-like-next-clause-drew
 returns-then-like-next-clause-drew g c =
     let s = (state_of (reader g.P.Paths.timeline g.L.LastValues.values) g.W.Partial.sets g.W.Transfer.moves g.R.RowRules.rules g.B.ByteFacts.store c.args.self.now) in
     let P : AnalysisState g.row.W.Denot → Type 0 = λ x. (w : ℕ) → c.args.next ≤ w → w < c.like_to-like.result → IsCarriedIf (passage c.args.a c.args.m w) x in
-    Drew_same s P (λ w low high. alike_if s (passage c.args.a c.args.m w) (sym (c.like_to-like.ensures.alike w low high)))
+    Drew_same s P (λ w low high. alike_if s (passage c.args.a c.args.m w) (sym (c.like_to-like.ensures.alike w low high ∙ c.known_byte-here.ensures)))
 
 pub returns-clause-drew : goal.returns-clause-drew
 returns-clause-drew g c =

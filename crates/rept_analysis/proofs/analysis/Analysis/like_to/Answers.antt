@@ -1,4 +1,4 @@
-use Rattle.std.proofs.Common.{◌+◌, ◌∙◌, arith}
+use Rattle.std.proofs.Common.{◌+◌, arith}
 use Rattle.rept_analysis.specs.State.{state_of, reader}
 use Rattle.rept_analysis.proofs.Going.{like_free, like_order}
 use Rattle.rept_analysis.proofs.analysis.Analysis.like_to.Goals as goal
@@ -7,10 +7,10 @@ pub returns-in-None-clause-order : goal.returns-in-None-clause-order
 returns-in-None-clause-order g c = let inside = c.requires.inside in let end = c.end-end.ensures.value in like_order (c.end-end.result + 1) c.like_unless.result c.args.from c.is_some.result (omega (arith, inside, end)) c.like_unless.ensures
 
 pub returns-in-None-clause-alike : goal.returns-in-None-clause-alike
-returns-in-None-clause-alike g c = λ w low high. like_free (g.B.ByteFacts.store c.args.self.now.known.bytes).fact c.args.a c.args.from (c.end-end.result + 1) c.like_unless.result c.known_byte-here.result c.is_some.result c.is_some.ensures c.like_unless.ensures (λ q from to. (rw c.in-None.is at c.stretch.ensures) q from) w low high ∙ c.known_byte-here.ensures
+returns-in-None-clause-alike g c = λ w low high. like_free (g.B.ByteFacts.store c.args.self.now.known.bytes).fact c.args.a c.args.from (c.end-end.result + 1) c.like_unless.result c.args.here c.is_some.result c.is_some.ensures c.like_unless.ensures (λ q from to. (rw c.in-None.is at c.stretch.ensures) q from) w low high
 
 pub returns-in-Some-clause-alike : goal.returns-in-Some-clause-alike
-returns-in-Some-clause-alike g c = λ w low high. c.like_along.ensures.alike (g.B.ByteFacts.store c.args.self.now.known.bytes).fact c.args.a (rw c.in-Some.is at c.stretch.ensures) w low high ∙ c.known_byte-here.ensures
+returns-in-Some-clause-alike g c = λ w low high. c.like_along.ensures.alike (g.B.ByteFacts.store c.args.self.now.known.bytes).fact c.args.a (rw c.in-Some.is at c.stretch.ensures) w low high
 
 pub like_along-requires-clause-from : goal.like_along-requires-clause-from
 like_along-requires-clause-from g c = let inside = c.requires.inside in let end = c.end-end.ensures.value in omega (arith, inside, end)

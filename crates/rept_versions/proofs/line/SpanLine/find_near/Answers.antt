@@ -1,6 +1,6 @@
 use Rattle.std.proofs.Common.{ap, arith, ◌+◌, ◌-◌, ◌/◌, ◌<◌, length}
 use Rattle.rept_versions.proofs.Lines.{more_below}
-use Rattle.rept_versions.proofs.line.SpanLine.find.Goals as goal
+use Rattle.rept_versions.proofs.line.SpanLine.find_near.Goals as goal
 
 pub loop-low-preserved-then-s-k : goal.loop-low-preserved-then-s-k
 loop-low-preserved-then-s-k c =

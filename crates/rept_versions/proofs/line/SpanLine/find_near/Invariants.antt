@@ -1,6 +1,6 @@
 use Rattle.std.proofs.Common.{◌-◌, ℕ, ◌<◌, ◌≤◌, length}
 use Rattle.rept_versions.specs.Line.{nth}
-use Rattle.rept_versions.proofs.line.SpanLine.find.Given as goal
+use Rattle.rept_versions.proofs.line.SpanLine.find_near.Given as goal
 
 abbrev pub invariant-loop-low : goal.invariant-loop-low
 invariant-loop-low l = record {
