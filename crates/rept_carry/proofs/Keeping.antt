@@ -1,9 +1,7 @@
--- What is kept beside a course: the links of several threads, and no number past the end.
-use Rattle.std.proofs.Common.{◌≡◌, ◌↔◌, ℕ, ◌≤◌, true, Option, Some, None, sym, subst}
+-- What is kept beside a course: the links of several threads.
+use Rattle.std.proofs.Common.{◌≡◌, ◌↔◌, ℕ, true, Option, Some, sym, subst}
 use Rattle.std.specs.List.{Contains}
-use Rattle.std.specs.Option.{IfSome}
-use Rattle.rept_span.specs.Ranges.{Legs}
-use Rattle.rept_report.specs.Moments.{Moments, AreMoments}
+use Rattle.rept_report.specs.Moments.{Moments}
 use Rattle.rept_report.specs.Timeline.{IsLeastFrom, IsGreatestTo}
 use Rattle.rept_moments.specs.declared.course.Course.{Course}
 use Rattle.rept_moments.specs.declared.course.Course as courses
@@ -19,14 +17,6 @@ are_ways (courses.TheVariants.Many many) links known = known
 
 pub are_kept : (course : Course) (many : Rattle.rept_steps.specs.Course.Course) (links : Links) → course ≡ courses.TheVariants.Many many → AreWays course links → AreLinks (seen_in course).moments links
 are_kept course many links same ways = subst (λ (x : Course). AreWays x links → AreLinks (seen_in x).moments links) (sym same) (λ known. known) ways
-
-pub next_few : (L : Legs) (M : Moments) (m from : ℕ) (r : Option ℕ) → AreMoments L M → IsNextFrom M m from r → IfSome r (λ w. w ≤ M.end)
-next_few L M m from None laws its = tt
-next_few L M m from (Some w) laws its = (laws.inside m w its.0).1
-
-pub previous_few : (L : Legs) (M : Moments) (w from : ℕ) (r : Option ℕ) → AreMoments L M → IsPreviousFrom M w from r → IfSome r (λ v. v ≤ M.end)
-previous_few L M w from None laws its = tt
-previous_few L M w from (Some v) laws its = (laws.inside v w its.0).0
 
 -- what is linked is what is next
 module _ (M : Moments) (links : Links) (known : AreLinks M links) (number bound : ℕ) (r : Option ℕ) where

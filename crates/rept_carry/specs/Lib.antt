@@ -1,5 +1,4 @@
 pub mod Rising
 pub mod Links
 pub mod Course
-pub mod Passing
 pub mod Lines

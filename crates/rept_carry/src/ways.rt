@@ -1,7 +1,6 @@
 //! A course whose moments are gone through in both directions.
 
-ghost use Rattle.std.specs.Prelude.{◌≡◌, ◌≤◌, ◌<◌, ◌↔◌, ℕ, Some, true, length, IfOk, IsOk, IsSome, IfSome};
-ghost use Rattle.std.specs.List.{All};
+ghost use Rattle.std.specs.Prelude.{◌≡◌, ◌≤◌, ◌<◌, ◌↔◌, ℕ, Some, true, length, IfOk, IsOk, IsSome};
 ghost use Rattle.rept_steps.specs.Course.{IsSoundCourse};
 ghost use Rattle.rept_steps.specs.Runs.{course_of};
 ghost use Rattle.rept_order.specs.Legs.{points_before};
@@ -11,11 +10,9 @@ ghost use Rattle.rept_moments.specs.Seen.{seen, alone_by};
 ghost use Rattle.rept_moments.specs.Courses.{seen_in, threads_in, first_in, is_one, IsCourseOf};
 ghost use Rattle.rept_report.specs.Timeline.{IsLeastFrom, IsGreatestTo};
 ghost use Rattle.rept_carry.specs.Links.{IsNextFrom, IsNextTo, IsPreviousFrom, IsPreviousTo};
-ghost use Rattle.rept_carry.specs.Passing.{PassesToNext, PassingGround, ground_of};
 ghost use Rattle.rept_carry.specs.Course.{AreWays};
 
 use crate::links::Links;
-use crate::passing::passes;
 use rept_moments::{Course, numbers_are_names};
 use rept_steps::Run;
 use std::alloc::{AllocError as OutOfMemory, Global};
@@ -168,71 +165,6 @@ impl<'a> Ways<'a> {
         match &self.course {
             Course::One { steps } => not_above(one_before(steps.len(), number), most),
             Course::Many(_) => self.links.previous_to(number, most),
-        }
-    }
-
-    /// The least of the numbers next to one, from a number on, which is no later than the end.
-    fn following(&self, number: u32, from: u32) -> Option<u32>
-        ensures next { IsNextFrom (seen_in self.now).moments number from result }
-        ensures few { IfSome result (λ w. w ≤ (seen_in self.now).moments.end) }
-    {
-        let _course = self.course();
-        self.next_from(number, from)
-    }
-
-    /// The least of the numbers to which one is next, from a number on, which is no later than the end.
-    fn preceding(&self, number: u32, from: u32) -> Option<u32>
-        ensures next { IsPreviousFrom (seen_in self.now).moments number from result }
-        ensures few { IfSome result (λ v. v ≤ (seen_in self.now).moments.end) }
-    {
-        let _course = self.course();
-        self.previous_from(number, from)
-    }
-
-    /// The least number from one on that is next to a number and to which a byte is carried from it: between the two none of these rows falls, which are to be those that may
-    /// write the byte, and nothing that isn't told. It takes no memory.
-    pub fn carried_from(&self, rows: &[u32], number: u32, least: u32) -> Option<u32>
-        requires rows { All (λ i. IsSome ((seen_in self.now).legs.row i)) rows.now }
-        ensures { IsLeastFrom (λ w. PassesToNext (ground_of self.now rows.now) number w) least result }
-    {
-        let course = self.course();
-        let end = course.end();
-        let mut from = least;
-        loop {
-            let to = match self.following(number, from) {
-                Some(to) => to,
-                None => return None,
-            };
-            if passes(course, rows, number, to) {
-                return Some(to);
-            }
-            if to >= end {
-                return None;
-            }
-            from = to + 1;
-        }
-    }
-
-    /// The least number from one on to which a number is next and from which a byte is carried to it, likewise.
-    pub fn carried_back_from(&self, rows: &[u32], number: u32, least: u32) -> Option<u32>
-        requires rows { All (λ i. IsSome ((seen_in self.now).legs.row i)) rows.now }
-        ensures { IsLeastFrom (λ v. PassesToNext (ground_of self.now rows.now) v number) least result }
-    {
-        let course = self.course();
-        let end = course.end();
-        let mut from = least;
-        loop {
-            let to = match self.preceding(number, from) {
-                Some(to) => to,
-                None => return None,
-            };
-            if passes(course, rows, to, number) {
-                return Some(to);
-            }
-            if to >= end {
-                return None;
-            }
-            from = to + 1;
         }
     }
 }

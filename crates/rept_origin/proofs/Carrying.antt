@@ -3,9 +3,11 @@ use Rattle.std.proofs.Common.{◌≡◌, ℕ, zero, suc, ◌+◌, ◌<◌, ◌�
 use Rattle.std.proofs.lemmas.Bool.{cases_Bool, cases_eq, cases_lt, and_from, true≢false}
 use Rattle.rept_report.specs.Moments.{Moments}
 use Rattle.rept_report.specs.Spots.{Passage, passage}
-use Rattle.rept_report.specs.Timeline.{Timeline, IsFallingFrom}
+use Rattle.rept_report.specs.Timeline.{Timeline, IsTimeline, IsFallingFrom}
 use Rattle.rept_report.proofs.Search.{spares}
-use Rattle.rept_origin.specs.Bridges.{ByteAlong, IsLeastFrom}
+use Rattle.rept_origin.specs.declared.step.Way.{Way}
+use Rattle.rept_origin.specs.declared.step.Way.TheVariants.{Onward, Back}
+use Rattle.rept_origin.specs.Bridges.{ByteAlong, leads_by, carries_by, carried_next, IsLeastFrom}
 
 neither : (b c : Bool) → (b ≡ true → c ≡ false) → not (b && c) ≡ true
 neither true c h = rw (h refl) refl
@@ -73,15 +75,15 @@ module _ (f next : ℕ → Bool) (only : (n : ℕ) → f n ≡ true → next n �
   pub not_first : AreNot least
   not_first n low below = absurd (omega (arith, low, below))
 
-  pub not_more : (from n : ℕ) → least ≤ from → IsLeastFrom next from (Some n) → f n ≡ false → AreNot from → AreNot (n + 1)
-  not_more from n up (is, low, first) out before k lower below = elim (cases_lt k from) [
+  pub not_more : (from n : ℕ) → least ≤ from → IsLeastFrom next from (Some n) → {told : Bool} → told ≡ f n → told ≡ false → AreNot from → AreNot (n + 1)
+  not_more from n up (is, low, first) of out before k lower below = elim (cases_lt k from) [
     | inl less ↦ before k lower less
-    | inr more ↦ elim (cases_eq k n) [ inl same ↦ rw same out | inr ne ↦ isnt k (first k more (omega (arith, below, ne))) ]
+    | inr more ↦ elim (cases_eq k n) [ inl same ↦ rw same (sym of ∙ out) | inr ne ↦ isnt k (first k more (omega (arith, below, ne))) ]
   ]
 
-  pub least_found : (from n : ℕ) → least ≤ from → IsLeastFrom next from (Some n) → f n ≡ true → AreNot from → IsLeastFrom f least (Some n)
-  least_found from n up (is, low, first) holds before = (
-    holds,
+  pub least_found : (from n : ℕ) → least ≤ from → IsLeastFrom next from (Some n) → {told : Bool} → told ≡ f n → told ≡ true → AreNot from → IsLeastFrom f least (Some n)
+  least_found from n up (is, low, first) of holds before = (
+    sym of ∙ holds,
     omega (arith, up, low),
     λ k lower below. elim (cases_lt k from) [
       | inl less ↦ before k lower less
@@ -100,6 +102,21 @@ module _ (f next : ℕ → Bool) (only : (n : ℕ) → f n ≡ true → next n �
     where
       outside : (k : ℕ) → from ≤ k → next k ≡ false
       outside k more = elim (cases_Bool (next k)) [ inl is ↦ let early = inside k is in absurd (omega (arith, early, past, more)) | inr out ↦ out ]
+
+-- the steps to a moment, one way
+abbrev pub leads : Timeline → ℕ → Way → ℕ → Bool
+leads t m way w = leads_by t m (record { from = w; way = way })
+
+abbrev pub carries : Timeline → ByteAlong → ℕ → Way → ℕ → Bool
+carries t b m way w = carries_by t b m (record { from = w; way = way })
+
+pub carries_leads : (t : Timeline) (b : ByteAlong) (m : ℕ) (way : Way) (w : ℕ) → carries t b m way w ≡ true → leads t m way w ≡ true
+carries_leads t b m Onward w e = carried_next t b w m e
+carries_leads t b m Back w e = carried_next t b m w e
+
+pub leads_inside : (t : Timeline) → IsTimeline t → (m : ℕ) (way : Way) (w : ℕ) → leads t m way w ≡ true → w ≤ t.moments.end
+leads_inside t laws m Onward w e = (laws.moments.inside w m e).0
+leads_inside t laws m Back w e = (laws.moments.inside m w e).1
 
 -- the lesser of two
 both_false : (a b : Bool) → a ≡ false → b ≡ false → (a || b) ≡ false

@@ -29,6 +29,10 @@ abbrev pub by_way : Way → Bool → Bool → Bool
 by_way Onward on back = on
 by_way Back on back = back
 
+-- whether a step leads to a moment
+abbrev pub leads_by : Timeline → ℕ → Step → Bool
+leads_by t m s = by_way s.way (t.moments.next s.from m) (t.moments.next m s.from)
+
 -- whether it is carried to a moment by a step
 abbrev pub carries_by : Timeline → ByteAlong → ℕ → Step → Bool
 carries_by t b m s = by_way s.way (carries_over t b s.from m) (carries_over t b m s.from)

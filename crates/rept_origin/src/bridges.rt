@@ -3,7 +3,7 @@
 ghost use Rattle.std.specs.Prelude.{◌≡◌, ◌<◌, ◌≤◌, true};
 ghost use Rattle.rept_report.specs.Spots.{passage};
 ghost use Rattle.rept_report.proofs.Search.{spares};
-ghost use Rattle.rept_origin.specs.Bridges.{carries_over, carries_by, IsLeastFrom};
+ghost use Rattle.rept_origin.specs.Bridges.{carries_over, leads_by, carries_by, IsLeastFrom};
 
 use crate::lesser::lesser;
 use crate::sources::Sources;
@@ -52,42 +52,26 @@ impl<'f, P: Paths, S: Sources> Bridges<'f, P, S> {
         self.is_spared(number, next)
     }
 
-    /// The least number from `least` on to which the byte is carried from this one, if there is one.
-    fn carried_from(&self, number: u32, least: u32) -> Option<u32>
+    /// The least number from `least` on from which a step this way leads to this one, if there is one.
+    fn step_from(&self, way: Way, number: u32, least: u32) -> Option<u32>
         requires { number ≤ (P.timeline self.now.paths.now).moments.end }
-        ensures { IsLeastFrom (λ w. carries_over (P.timeline self.now.paths.now) (S.byte self.now.sources.now) number w) least result }
+        ensures { IsLeastFrom (λ w. leads_by (P.timeline self.now.paths.now) number (record { from = w; way = way })) least result }
     {
-        let end = self.paths.end();
-        let mut from = least;
-        while from <= end {
-            let Some(next) = self.paths.next_from(number, from) else {
-                return None;
-            };
-            if self.is_carried(number, next) {
-                return Some(next);
-            }
-            from = next + 1;
+        match way {
+            Way::Onward => self.paths.former_from(number, least),
+            Way::Back => self.paths.next_from(number, least),
         }
-        None
     }
 
-    /// The least number from `least` on from which the byte is carried to this one, if there is one.
-    fn carried_to(&self, number: u32, least: u32) -> Option<u32>
-        requires { number ≤ (P.timeline self.now.paths.now).moments.end }
-        ensures { IsLeastFrom (λ w. carries_over (P.timeline self.now.paths.now) (S.byte self.now.sources.now) w number) least result }
+    /// Whether the byte is carried to this moment by the step this way from another one.
+    fn is_carried_by(&self, way: Way, number: u32, from: u32) -> bool
+        requires { leads_by (P.timeline self.now.paths.now) number (record { from = from; way = way }) ≡ true }
+        ensures { result ≡ carries_by (P.timeline self.now.paths.now) (S.byte self.now.sources.now) number (record { from = from; way = way }) }
     {
-        let end = self.paths.end();
-        let mut from = least;
-        while from <= end {
-            let Some(former) = self.paths.former_from(number, from) else {
-                return None;
-            };
-            if self.is_carried(former, number) {
-                return Some(former);
-            }
-            from = former + 1;
+        match way {
+            Way::Onward => self.is_carried(from, number),
+            Way::Back => self.is_carried(number, from),
         }
-        None
     }
 
     /// The least number from `least` on from which the byte is carried this way to this one, if there is one.
@@ -95,10 +79,18 @@ impl<'f, P: Paths, S: Sources> Bridges<'f, P, S> {
         requires { number ≤ (P.timeline self.now.paths.now).moments.end }
         ensures { IsLeastFrom (λ w. carries_by (P.timeline self.now.paths.now) (S.byte self.now.sources.now) number (record { from = w; way = way })) least result }
     {
-        match way {
-            Way::Onward => self.carried_to(number, least),
-            Way::Back => self.carried_from(number, least),
+        let end = self.paths.end();
+        let mut from = least;
+        while from <= end {
+            let Some(beside) = self.step_from(way, number, from) else {
+                return None;
+            };
+            if self.is_carried_by(way, number, beside) {
+                return Some(beside);
+            }
+            from = beside + 1;
         }
+        None
     }
 }
 
@@ -119,8 +111,8 @@ impl<'f, P: Paths, S: Sources> Net for Bridges<'f, P, S> {
 
     fn next_linked(&self, number: u32, least: u32) -> Option<u32> {
         lesser(
-            self.carried_to(number, least),
-            self.carried_from(number, least),
+            self.beside_from(Way::Onward, number, least),
+            self.beside_from(Way::Back, number, least),
         )
     }
 }

@@ -40,6 +40,19 @@ fn rest(alloc: Global, n: &Numbers) -> Result<Vec<u32>, AllocError> {
     Ok(rows)
 }
 
+/// Whether one of the rows falls between two numbers, of which the latter is next to the former.
+fn falls_any(ways: &Ways<'_>, rows: &[u32], m: u32, w: u32) -> bool
+    requires rows { All (λ i. IsSome ((seen_in ways.now).legs.row i)) rows.now }
+    requires next { (seen_in ways.now).moments.next m w ≡ true }
+{
+    for row in rows {
+        if ways.course().falls(*row, m, w) {
+            return true;
+        }
+    }
+    false
+}
+
 /// Whether a byte that these rows may write is carried from a number to another one, and from that one back.
 pub fn carried(alloc: Global, ways: &Ways<'_>, n: &Numbers) -> Result<String, AllocError> {
     let (m, w) = (n.word(0), n.word(1));
@@ -47,7 +60,13 @@ pub fn carried(alloc: Global, ways: &Ways<'_>, n: &Numbers) -> Result<String, Al
     if m > ways.course().end() || !are_rows(ways, rows.as_slice()) {
         return String::from_str(alloc, "no such moment or row");
     }
-    let onward = ways.carried_from(rows.as_slice(), m, w) == Some(w);
-    let back = ways.carried_back_from(rows.as_slice(), w, m) == Some(m);
-    format!(in alloc; "{onward} {back}")
+    match ways.next_from(m, w) {
+        Some(next) if next == w => {
+            let dark = ways.course().is_dark_between(m, w);
+            let onward = !dark && !falls_any(ways, rows.as_slice(), m, w);
+            let back = onward && ways.previous_from(w, m) == Some(m);
+            format!(in alloc; "{onward} {back}")
+        }
+        _ => String::from_str(alloc, "false false"),
+    }
 }

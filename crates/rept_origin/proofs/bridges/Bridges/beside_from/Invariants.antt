@@ -1,11 +1,11 @@
 use Rattle.std.proofs.Common.{◌≡◌, ◌+◌, ◌-◌, ◌<◌, ◌≤◌, ℕ, false}
-use Rattle.rept_origin.specs.Bridges.{carries_over}
-use Rattle.rept_origin.proofs.bridges.Bridges.carried_to.Given as goal
+use Rattle.rept_origin.proofs.Carrying.{carries}
+use Rattle.rept_origin.proofs.bridges.Bridges.beside_from.Given as goal
 
 abbrev pub invariant-loop-from : goal.invariant-loop-from
 invariant-loop-from g l = record {
   up : l.least ≤ l.from;
-  before : (w : ℕ) → l.least ≤ w → w < l.from → carries_over (g.P.Paths.timeline l.self.paths.now) (g.S.Sources.byte l.self.sources.now) w l.number ≡ false;
+  before : (w : ℕ) → l.least ≤ w → w < l.from → carries (g.P.Paths.timeline l.self.paths.now) (g.S.Sources.byte l.self.sources.now) l.number l.way w ≡ false;
   end : l.end ≡ (g.P.Paths.timeline l.self.paths.now).moments.end;
 }
 

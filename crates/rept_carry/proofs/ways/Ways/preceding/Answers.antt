@@ -1,6 +1,0 @@
-use Rattle.rept_moments.specs.Courses.{seen_in}
-use Rattle.rept_carry.proofs.Keeping.{previous_few}
-use Rattle.rept_carry.proofs.ways.Ways.preceding.Goals as goal
-
-pub returns-clause-few : goal.returns-clause-few
-returns-clause-few c = previous_few (seen_in c.args.self.now).legs (seen_in c.args.self.now).moments c.args.number c.args.from c.previous_from.result c.course-course.ensures.laws c.previous_from.ensures
