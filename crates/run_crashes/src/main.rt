@@ -1,60 +1,53 @@
-//! Sessions of the program over two real crashes, one after another, for one stored run: a line of the input that begins with `$` has the words of a session, and the
-//! lines after it are its commands. After each session its status is written.
+//! What comes of crashes through the calls that the programs make: of whole and of damaged files, of real crashes, of each line of a session, of packets that gdb sent, of each
+//! refusal, and of each call of a port that fails. The cases are the lines of `stdin`; `stdout` has the words of each, its status and what was written.
 #![tactic(auto)]
 
-use rept_app::rept;
-use rept_ports::{CalmSource, DiskShelf, StdSink};
-use std::alloc::{AllocError, Global};
+mod crash;
+mod dialog;
+mod fails;
+mod large;
+mod order;
+mod process;
+
+use crash::Crash;
+use rept_ports::DiskShelf;
+use std::alloc::AllocError;
 use std::io;
 
-/// The words of a session, and its commands.
-#[derive(Drop)]
-struct Session {
-    words: Vec<String>,
-    commands: String,
-}
-
-fn words_of(alloc: Global, line: &str) -> Result<Vec<String>, AllocError> {
-    let mut words = Vec::new(alloc);
-    for word in line.split_whitespace() {
-        words.push(String::from_str(alloc, word)?)?;
-    }
-    Ok(words)
-}
-
-/// Holds a session, and writes its status.
-fn hold<R: AllocGlobal + std::fs::Files + Print>(rt: &R, session: &Session) -> io::Result<()> {
-    let mut shelf = DiskShelf::new(rt);
-    let mut source = CalmSource::new(session.commands.as_bytes());
-    let mut sink = StdSink::new(io::writer(rt));
-    let words = session.words.as_slice();
-    let status = rept(rt.alloc(), words, &mut shelf, &mut source, &mut sink);
-    let number = status.number();
-    println!(rt; "status {number}")?;
-    Ok(())
+/// What comes of the files and the input, where the line asks for it.
+fn answer<R: AllocGlobal + std::fs::Files>(
+    rt: &R,
+    crash: &Crash,
+    line: &str,
+) -> Result<Option<String>, AllocError> {
+    let alloc = rt.alloc();
+    let asked = line.split_whitespace().next().unwrap_or("");
+    let words = line.strip_prefix(asked).unwrap_or("");
+    let text = match asked {
+        "run" => crash.run(alloc, words),
+        "disk" => crash.told(alloc, words, &mut DiskShelf::new(rt)),
+        "gdb" => dialog::told(rt, crash, words),
+        "large" => large::told(alloc, crash, words),
+        "order" => order::told(alloc, crash, words),
+        "process" => process::told(alloc, words),
+        _ => return Ok(None),
+    };
+    Ok(Some(text?))
 }
 
 fn main(rt: HostRuntime) -> io::Result<()> {
-    let alloc = rt.alloc();
-    let mut session = Session {
-        words: Vec::new(alloc),
-        commands: String::new(alloc),
-    };
-    for line in rt.lines(alloc) {
+    let mut crash = Crash::new(rt.alloc());
+    for line in rt.lines(rt.alloc()) {
         let line = line?;
-        match line.as_str().strip_prefix("$ ") {
-            None => {
-                session.commands.push_str(line.as_str())?;
-                session.commands.push('\n')?;
+        let line = line.as_str();
+        match answer(&rt, &crash, line)? {
+            Some(text) => {
+                let text = text.as_str().trim_end();
+                println!(rt; "{line}: {text}")?;
+                crash.end(rt.alloc());
             }
-            Some(words) => {
-                if !session.words.is_empty() {
-                    hold(&rt, &session)?;
-                }
-                session.words = words_of(alloc, words)?;
-                session.commands.clear();
-            }
+            None => crash.take(rt.alloc(), line)?,
         }
     }
-    hold(&rt, &session)
+    Ok(())
 }

@@ -67,7 +67,8 @@ fn is_known(word: &str, answer: &str) -> bool {
     (word == "reg" && answer != "Unknown") || (word == "byte" && answer != "None")
 }
 
-/// The answer in the end: whether `refine` finds no conflict and no want of memory, a reason, or what is answered before too.
+/// The answer in the end: whether `refine` finds no conflict and no want of memory, which conflict it finds, a reason, or what is answered before
+/// too.
 fn finally<B: ByteFacts>(
     alloc: Global,
     analysis: &mut Analysis<OnePath<'_>, ThreadEnd, B, Range, Atomic>,
@@ -75,6 +76,10 @@ fn finally<B: ByteFacts>(
 ) -> Result<String, AllocError> {
     match asked.word {
         "first" | "consistent" => format!(in alloc; "{}", analysis.refine().is_ok()),
+        "conflict" => match analysis.refine() {
+            Err(Stop::Conflict(kind)) => format!(in alloc; "{kind:?}"),
+            _ => String::from_str(alloc, "no conflict"),
+        },
         "why-byte" => why(alloc, analysis, Some(Cell::Byte(asked.n.word(1))), asked.n),
         "why-reg" => {
             let cell = Reg::new(asked.n.byte(1)).map(Cell::Register);

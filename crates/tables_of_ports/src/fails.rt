@@ -2,25 +2,24 @@
 
 use std::alloc::Allocator;
 use std::cell::Cell;
-use std::fs::{Metadata, OpenOptions};
+use std::fs::{Metadata, OpenFile, OpenOptions};
 use std::io;
-use std::io::{ErrorKind, Read, Write};
+use std::io::{ErrorKind, Read, Seek, SeekFrom, Write};
 use std::rt::Files;
 
-/// A device, or a file system, of which one call fails that would else succeed; those before it and after it are the device's own.
+/// A device, or a file system with the files that it opens, of which one call fails that would else succeed; those before it and after it are
+/// the device's own.
 #[derive(Drop)]
-pub struct FailsOnce<D> {
+pub struct FailsOnce<'a, D> {
     device: D,
-    left: Cell<u32>,
+    left: &'a Cell<u32>,
 }
 
-impl<D> FailsOnce<D> {
-    /// The call with this number fails, from 1 on; none for 0. What is looked at of a file counts as a call, as opening it does.
-    pub fn new(device: D, number: u32) -> FailsOnce<D> {
-        FailsOnce {
-            device,
-            left: Cell::new(number),
-        }
+impl<'a, D> FailsOnce<'a, D> {
+    /// The call with the number that `left` begins with fails, from 1 on; none for 0. It counts down with each call: an opening of a file or a
+    /// look at it, and a read or a write, of an opened file too.
+    pub fn new(device: D, left: &'a Cell<u32>) -> FailsOnce<'a, D> {
+        FailsOnce { device, left }
     }
 
     fn call(&self) -> io::Result<()> {
@@ -33,14 +32,14 @@ impl<D> FailsOnce<D> {
     }
 }
 
-impl<D: Read> Read for FailsOnce<D> {
+impl<'a, D: Read> Read for FailsOnce<'a, D> {
     fn read(&mut self, buf: &mut [u8]) -> io::Result<usize> {
         self.call()?;
         self.device.read(buf)
     }
 }
 
-impl<D: Write> Write for FailsOnce<D> {
+impl<'a, D: Write> Write for FailsOnce<'a, D> {
     fn write(&mut self, buf: &[u8]) -> io::Result<usize> {
         self.call()?;
         self.device.write(buf)
@@ -51,14 +50,39 @@ impl<D: Write> Write for FailsOnce<D> {
     }
 }
 
-impl<D: Files> Files for FailsOnce<D> {
-    type File = D::File;
+impl<'a, D: Seek> Seek for FailsOnce<'a, D> {
+    fn seek(&mut self, to: SeekFrom) -> io::Result<u64> {
+        self.device.seek(to)
+    }
+}
+
+impl<'a, D: OpenFile> OpenFile for FailsOnce<'a, D> {
+    fn metadata(&self) -> io::Result<Metadata> {
+        self.device.metadata()
+    }
+
+    fn set_len(&self, size: u64) -> io::Result<()> {
+        self.device.set_len(size)
+    }
+
+    fn sync_all(&self) -> io::Result<()> {
+        self.device.sync_all()
+    }
+
+    fn sync_data(&self) -> io::Result<()> {
+        self.device.sync_data()
+    }
+}
+
+impl<'a, D: Files> Files for FailsOnce<'a, D> {
+    type File = FailsOnce<'a, D::File>;
 
     type Dir = D::Dir;
 
-    fn open_file(&self, how: &OpenOptions, path: &str) -> io::Result<D::File> {
+    fn open_file(&self, how: &OpenOptions, path: &str) -> io::Result<FailsOnce<'a, D::File>> {
         self.call()?;
-        self.device.open_file(how, path)
+        let file = self.device.open_file(how, path)?;
+        Ok(FailsOnce::new(file, self.left))
     }
 
     fn open_dir(&self, path: &str) -> io::Result<D::Dir> {

@@ -5,6 +5,7 @@ use crate::ports::{loaded, name};
 use crate::streams::reads;
 use rept_ports::{DiskShelf, Shelf, Sink, StdSink, StdSource, write_all};
 use std::alloc::{AllocError, Global};
+use std::cell::Cell;
 use std::fs;
 use std::io::{self, Read, Write};
 use std::os::fd::AsRawFd;
@@ -33,7 +34,8 @@ pub fn answer<R: Files>(
 
 /// Loads of a file where a call of the system fails.
 fn disk<R: Files>(alloc: Global, rt: &R, n: &Numbers) -> io::Result<String> {
-    let mut shelf = DiskShelf::new(FailsOnce::new(rt, n.word(2)));
+    let left = Cell::new(n.word(2));
+    let mut shelf = DiskShelf::new(FailsOnce::new(rt, &left));
     Ok(loaded(alloc, &mut shelf, n)?)
 }
 
@@ -53,14 +55,16 @@ fn piped<R: Files>(alloc: Global, rt: &R, n: &Numbers) -> io::Result<String> {
 
 /// Five reads of a file, of which one fails.
 fn read<R: Files>(alloc: Global, rt: &R, n: &Numbers) -> io::Result<String> {
-    let mut source = StdSource::new(FailsOnce::new(fs::open(rt, name(n))?, n.word(1)));
+    let left = Cell::new(n.word(1));
+    let mut source = StdSource::new(FailsOnce::new(fs::open(rt, name(n))?, &left));
     Ok(format!(in alloc; "{:?}", reads(&mut source))?)
 }
 
 /// Two bytes that are written to a new file as a whole, and twice one that is, where one write fails; and what a load of at most 9 bytes
 /// has then.
 fn written<R: Files>(alloc: Global, rt: &R, n: &Numbers) -> io::Result<String> {
-    let mut sink = StdSink::new(FailsOnce::new(fs::create(rt, name(n))?, n.word(1)));
+    let left = Cell::new(n.word(1));
+    let mut sink = StdSink::new(FailsOnce::new(fs::create(rt, name(n))?, &left));
     let whole = write_all(&mut sink, b"ab");
     let parts = [sink.write(b"c"), sink.write(b"d")];
     let has = DiskShelf::new(rt).load(alloc, name(n), 9);

@@ -2,7 +2,7 @@
 
 use crate::fails::Fails;
 use rept_app::rept;
-use rept_ports::{MemShelf, MemSink, MemSource};
+use rept_ports::{MemShelf, MemSink, MemSource, Shelf};
 use std::alloc::{AllocError, Global};
 use test_files::{core_file, core_with_word, executable};
 use test_lines::Numbers;
@@ -29,23 +29,29 @@ impl Crash {
 
     /// Takes a line that makes a file, an input or a fault.
     pub fn take(&mut self, alloc: Global, line: &str) -> Result<(), AllocError> {
-        if let Some(text) = line.strip_prefix("> ") {
-            self.input.extend_from_slice(text.as_bytes())?;
-            self.input.push(b'\n')?;
-            return Ok(());
-        }
         let mut words = line.split_whitespace();
-        let Some(asked) = words.next() else {
-            return Ok(());
-        };
-        if asked == "keep" {
-            return self.keep(alloc, words.next().unwrap_or(""));
+        let asked = words.next().unwrap_or("");
+        match asked {
+            ">" => self.take_command(line.strip_prefix("> ").unwrap_or("")),
+            "packets" => self
+                .input
+                .extend_from_slice(words.next().unwrap_or("").as_bytes()),
+            "keep" => self.keep(alloc, words.next().unwrap_or("")),
+            _ => {
+                let mut numbers = Numbers::new();
+                for word in words {
+                    numbers.take(word);
+                }
+                self.make(alloc, asked, &numbers)
+            }
         }
-        let mut numbers = Numbers::new();
-        for word in words {
-            numbers.take(word);
-        }
-        self.make(alloc, asked, &numbers)
+    }
+
+    /// Appends a line to the input.
+    fn take_command(&mut self, text: &str) -> Result<(), AllocError> {
+        self.input.extend_from_slice(text.as_bytes())?;
+        self.input.push(b'\n')?;
+        Ok(())
     }
 
     /// Gives the file that was made a name: a later one of a name stands in the place of an earlier one.
@@ -74,8 +80,13 @@ impl Crash {
         Ok(())
     }
 
+    /// The input.
+    pub fn input(&self) -> &[u8] {
+        self.input.as_slice()
+    }
+
     /// A shelf with the files, of which some loads fail.
-    fn shelf(&self, alloc: Global) -> Result<MemShelf, AllocError> {
+    pub fn shelf(&self, alloc: Global) -> Result<MemShelf, AllocError> {
         let mut shelf = MemShelf::new(alloc, self.fails.loads.as_slice())?;
         for (name, bytes) in &self.files {
             shelf.put(name.as_str(), bytes.as_slice())?;
@@ -83,23 +94,31 @@ impl Crash {
         Ok(shelf)
     }
 
-    /// What [`Crash::told`] tells. After it the input is empty and no call fails.
-    pub fn run(&mut self, alloc: Global, line: &str) -> Result<String, AllocError> {
-        let text = self.told(alloc, line)?;
+    /// Empties the input, and lets no call fail.
+    pub fn end(&mut self, alloc: Global) {
         self.input.clear();
         self.fails = Fails::new(alloc);
-        Ok(text)
     }
 
-    /// The words, the number of the status and what was written, where the program is given these words and the input.
-    fn told(&self, alloc: Global, line: &str) -> Result<String, AllocError> {
-        let words = word_list(alloc, line)?;
+    /// The number of the status and what was written, where the program is given these words, the files and the input.
+    pub fn run(&self, alloc: Global, line: &str) -> Result<String, AllocError> {
         let mut shelf = self.shelf(alloc)?;
+        self.told(alloc, line, &mut shelf)
+    }
+
+    /// The same over another shelf.
+    pub fn told<H: Shelf>(
+        &self,
+        alloc: Global,
+        line: &str,
+        shelf: &mut H,
+    ) -> Result<String, AllocError> {
+        let words = word_list(alloc, line)?;
         let mut source = MemSource::new(alloc, self.input.as_slice(), self.fails.reads.as_slice())?;
         let mut sink = MemSink::new(alloc, 4000, self.fails.writes.as_slice())?;
-        let status = rept(alloc, words.as_slice(), &mut shelf, &mut source, &mut sink);
+        let status = rept(alloc, words.as_slice(), shelf, &mut source, &mut sink);
         let text = String::from_utf8_lossy(alloc, sink.bytes())?;
-        format!(in alloc; "run{line}: {}\n{text}", status.number())
+        format!(in alloc; "{}\n{text}", status.number())
     }
 }
 
@@ -112,7 +131,8 @@ fn program(alloc: Global, n: &Numbers) -> Result<Vec<u8>, AllocError> {
     executable(alloc, n.word(0), code.as_slice())
 }
 
-fn word_list(alloc: Global, line: &str) -> Result<Vec<String>, AllocError> {
+/// The words of a line.
+pub fn word_list(alloc: Global, line: &str) -> Result<Vec<String>, AllocError> {
     let mut list = Vec::new(alloc);
     for word in line.split_whitespace() {
         list.push(String::from_str(alloc, word)?)?;

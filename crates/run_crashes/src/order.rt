@@ -1,10 +1,10 @@
 //! In which order lines are read and answers written.
 
-use super::{OPEN, first_crash, word_list};
-use rept_app::{Status, rept};
+use crate::crash::{Crash, word_list};
+use rept_app::rept;
 use rept_ports::{Failed, Sink, Source};
+use std::alloc::{AllocError, Global};
 use std::cell::Cell;
-use std::test::Fail;
 
 /// A source that gives one line a read, and notes its calls.
 #[derive(Drop)]
@@ -53,21 +53,17 @@ impl<'a> Sink for Noting<'a> {
     }
 }
 
-// Each answer is written before the next line is asked for: 1 is a read, and 2 a write.
-#[test]
-fn answers_before_it_asks(rt: HostRuntime) -> Result<(), Fail> {
-    let alloc = rt.alloc();
-    let words = word_list(alloc, OPEN)?;
-    let mut shelf = first_crash(alloc)?;
+/// The number of the status, and the calls of the ports in their order: 1 is a read, and 2 a write.
+pub fn told(alloc: Global, crash: &Crash, line: &str) -> Result<String, AllocError> {
+    let words = word_list(alloc, line)?;
+    let mut shelf = crash.shelf(alloc)?;
     let notes = Cell::new(0u64);
     let mut source = LineByLine {
-        text: b"goto 0\n\nregs\ngoto 2\n",
+        text: crash.input(),
         notes: &notes,
         faults: 0,
     };
     let mut sink = Noting { notes: &notes };
-    let got = rept(alloc, words.as_slice(), &mut shelf, &mut source, &mut sink);
-    assert_eq!(rt; got, Status::Ok);
-    assert_eq!(rt; notes.get(), 12112121);
-    Ok(())
+    let status = rept(alloc, words.as_slice(), &mut shelf, &mut source, &mut sink);
+    format!(in alloc; "{} {}", status.number(), notes.get())
 }
