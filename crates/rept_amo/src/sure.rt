@@ -1,13 +1,12 @@
 //! Whether an atomic instruction writes its word.
 
-ghost use Rattle.std.specs.Prelude.{◌≡◌, ◌&&◌, is_some, Some};
-ghost use Rattle.rept_view.specs.declared.drawn.When.TheVariants.{Before, After};
-ghost use Rattle.rept_rules.specs.MayWrite.{is_register};
+ghost use Rattle.std.specs.Prelude.{◌≡◌, Some};
 ghost use Rattle.rept_amo.specs.Writes.{form_is_sure, has_succeeded, is_done, places_by};
 
 use crate::form::Form;
 use rept_isa::{AmoOp, Reg, StepRow};
 use rept_partial::Flat;
+use rept_rules::look::is_known;
 use rept_view::{RowView, When};
 
 /// Whether an SC is known to have succeeded: its answer is 0, in another register than x0.
@@ -31,16 +30,6 @@ fn is_done<V: RowView>(op: AmoOp, rd: Reg, view: &V) -> bool
         AmoOp::Lr => false,
         AmoOp::Sc => has_succeeded(rd, view),
         _ => true,
-    }
-}
-
-fn is_known<V: RowView>(view: &V, r: Reg) -> bool
-    ensures { result ≡ is_register r && is_some ((V.seen view.now).register When.Before r) }
-{
-    let _number = r.number();
-    match view.reg(When::Before, r) {
-        Flat::Unknown => false,
-        Flat::Known(_) => true,
     }
 }
 

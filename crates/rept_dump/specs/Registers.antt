@@ -1,6 +1,6 @@
 -- The note in which Linux keeps the registers of a thread: `NT_PRSTATUS`, whose descriptor is `struct elf_prstatus`
 -- (include/linux/elfcore.h, and arch/riscv/include/uapi/asm/ptrace.h for the registers), with words of 32 bits.
-use Rattle.std.specs.Prelude.{◌≡◌, ℕ, ◌⊎◌, List, [], ◌∷◌, length, Bool, ◌==◌, nat_lt, Option, Some, None, Result, Ok, Err, map, if◌then◌else◌}
+use Rattle.std.specs.Prelude.{◌≡◌, ℕ, ◌+◌, ◌*◌, ◌⊎◌, List, [], ◌∷◌, length, Bool, ◌==◌, nat_lt, Option, Some, None, Result, Ok, Err, map, if◌then◌else◌}
 use Rattle.std.specs.List.{filter, list_any}
 use Rattle.rept_elf.specs.Header.{word_at}
 use Rattle.rept_elf.specs.Segments.{ElfSegment}
@@ -46,6 +46,14 @@ first_short (note ∷ notes) = first_of (short_size note.desc) (first_short note
 -- Elsewhere "the process" of a thread or a note is this number.
 abbrev pub pid_of : List ℕ → ℕ
 pid_of desc = word_at desc 24
+
+-- the program counter in it
+abbrev pub saved_pc : List ℕ → ℕ
+saved_pc desc = word_at desc 72
+
+-- one of the registers x1 to x31 in it
+abbrev pub saved_register : List ℕ → ℕ → ℕ
+saved_register desc r = word_at desc (72 + 4 * r)
 
 abbrev pub descs_of : List Note → List (List ℕ)
 descs_of = map (λ note. note.desc)

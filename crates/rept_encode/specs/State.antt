@@ -155,7 +155,7 @@ pub record IsReportSent (halves : Bool) (old new : Sender) (next : StepRow) (not
   pub list : waiting_bits b ≡ waiting_bits old.bits ++ bit_list next
   pub report : IsReported halves old b new next.at notify n
 
--- A stretch was ended, and another one begun at a row.
+-- The trace was ended, and begun anew at a row.
 pub record IsRestarted (halves : Bool) (old new : Sender) (next : StepRow) (n : ℕ) : Type 0 where
   pub middle : List ℕ
   pub end : Appends halves old.text middle (Support false EndedRep)

@@ -152,7 +152,7 @@ impl Sender {
         self.report(halves, next.at, notify, number)
     }
 
-    /// Ends the stretch after a call, and begins another one at the row.
+    /// Ends the trace after a call, and begins it anew at the row.
     pub fn restart(
         &mut self,
         halves: bool,

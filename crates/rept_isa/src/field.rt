@@ -1,8 +1,9 @@
 //! The fields of a word of code.
 
-ghost use Rattle.std.specs.Prelude.{◌≡◌, ◌<◌, ◌≤◌, ◌*◌, ◌-◌, ◌^◌, suc, nat_lt, if◌then◌else◌, pos, negsuc};
+ghost use Rattle.std.specs.Prelude.{◌≡◌};
 ghost use Rattle.rept_isa.specs.Words.{opcode, rd_field, funct3, rs1_field, rs2_field, funct5, funct7, field, i_immediate, s_immediate, b_immediate, u_immediate, j_immediate};
 
+use crate::number::signed;
 use crate::reg::Reg;
 
 /// The lowest seven bits.
@@ -53,19 +54,6 @@ pub fn csr(word: u32) -> u16
     ensures { result ≡ field word 20 12 }
 {
     (word >> 20) as u16
-}
-
-/// The signed number of `n`, where half the range is below `half`.
-fn signed(n: u32, half: u32) -> i32
-    requires fits { n < 2 * half }
-    requires small { half ≤ 2 ^ 20 }
-    ensures { result ≡ (if nat_lt n half then pos n else negsuc (2 * half - suc n)) }
-{
-    if n < half {
-        n as i32
-    } else {
-        n as i32 - 2 * half as i32
-    }
 }
 
 pub fn i_immediate(word: u32) -> i32

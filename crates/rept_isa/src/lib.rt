@@ -17,7 +17,7 @@ pub use class::{Kind, Turn};
 pub use decoder::decode;
 pub use encoder::encode;
 pub use instr::{AmoOp, BranchOp, ImmOp, Instr, LoadOp, RegOp, StoreOp};
-pub use operands::{kind, reads, turn, writes};
+pub use operands::{is_call, kind, reads, turn, writes};
 pub use reg::{Reg, register};
 pub use row::{StepRow, from_address};
 pub use shown::Shown;

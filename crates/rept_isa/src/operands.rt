@@ -1,13 +1,20 @@
 //! What an instruction reads and writes, and where it may lead.
 
 ghost use Rattle.std.specs.Prelude.{◌≡◌};
-ghost use Rattle.rept_isa.specs.Operands.{unless_zero, written_by, first_read, source_of, second_read, kind_of, way, turn_of};
+ghost use Rattle.rept_isa.specs.Operands.{is_call, unless_zero, written_by, first_read, source_of, second_read, kind_of, way, turn_of};
 
 use crate::class::{Kind, Turn};
 use crate::instr::{AmoOp, Instr};
 use crate::number::{following, plus};
 use crate::reg::Reg;
 use crate::row::StepRow;
+
+/// Whether it is a call into the kernel (RISC-V unprivileged manual 20191213, chapter 2.8).
+pub fn is_call(instr: &Instr) -> bool
+    ensures { result ≡ is_call instr.now }
+{
+    matches!(*instr, Instr::Ecall)
+}
 
 /// The register that the instruction writes. None where it has no destination, or names x0. The answer of an ECALL
 /// comes in x10 (a0).

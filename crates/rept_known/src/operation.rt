@@ -1,14 +1,12 @@
 //! What the instructions make of the known bits of their operands.
 
 ghost use Rattle.std.specs.Prelude.{◌≡◌, ◌+◌, ◌-◌, ◌%◌, ◌^◌, ◌<◌, ◌≤◌, IfSome};
-ghost use Rattle.rept_isa.specs.declared.instr.RegOp.TheVariants.{Sra};
-ghost use Rattle.rept_machine.specs.Arithmetic.{computed};
 ghost use Rattle.rept_known.specs.Operations.{all_open, all_known, low_open, sum_bits, difference_bits, and_bits, or_bits, xor_bits, amount, shifted_left, shifted_right, shifted_with_sign, operation_bits, loaded_bits};
 
 use crate::bits::Bits;
 use crate::outside::outside;
-use rept_isa::number::word;
 use rept_isa::{LoadOp, RegOp};
+use rept_machine::arithmetic::with_sign;
 use rept_partial::Partial;
 
 /// What an operation on two registers makes of their bits.
@@ -161,12 +159,4 @@ fn shifted_with_sign(a: Bits, amount: Option<u32>) -> Bits
         None => all_open(),
         Some(n) => outside(with_sign(a.value(), n), with_sign(a.loose(), n)),
     }
-}
-
-/// Shifted to the right, with bit 31 repeated.
-fn with_sign(v: u32, n: u32) -> u32
-    requires { n < 32 }
-    ensures { result ≡ computed RegOp.Sra v n }
-{
-    word(v.cast_signed() >> n)
 }

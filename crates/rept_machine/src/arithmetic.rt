@@ -21,7 +21,7 @@ pub fn computed(op: RegOp, a: u32, b: u32) -> u32
         RegOp::Sltu => u32::from(a < b),
         RegOp::Xor => a ^ b,
         RegOp::Srl => a.wrapping_shr(b),
-        RegOp::Sra => shifted_with_sign(a, b),
+        RegOp::Sra => with_sign(a, b),
         RegOp::Or => a | b,
         RegOp::And => a & b,
         RegOp::Mul => a.wrapping_mul(b),
@@ -105,7 +105,7 @@ fn below_signed(a: u32, b: u32) -> bool
 }
 
 /// Shifted to the right by the low five bits of `b`, with the sign repeated.
-fn shifted_with_sign(a: u32, b: u32) -> u32
+pub fn with_sign(a: u32, b: u32) -> u32
     ensures { result ≡ computed RegOp.Sra a b }
 {
     word(a.cast_signed() >> (b % 32))

@@ -5,18 +5,9 @@ ghost use Rattle.rept_isa.specs.Words.{IsWord};
 ghost use Rattle.rept_play.specs.Code.{IsPlayCode, instr_in};
 ghost use Rattle.rept_maderuns.specs.Words.{AreCode};
 
-use rept_isa::{Instr, Reg, encode};
+use rept_isa::{Instr, encode};
+use rept_play::instr_in;
 use std::alloc::{AllocError as OutOfMemory, Global};
-
-/// The register x0.
-fn zero() -> Reg
-    ensures { result ≡ 0 }
-{
-    match Reg::new(0) {
-        Some(register) => register,
-        None => unreachable!(),
-    }
-}
 
 /// The word of a thread's slot: that of its instruction, and in the last one that of the jump back.
 fn word_in(code: &[Instr], thread: u32, slot: u32) -> u32
@@ -25,15 +16,7 @@ fn word_in(code: &[Instr], thread: u32, slot: u32) -> u32
     requires slot { slot < 16 }
     ensures { IsWord result (instr_in code.now thread slot) }
 {
-    if slot == 15 {
-        let back = Instr::Jal {
-            rd: zero(),
-            imm: -60,
-        };
-        return encode(&back);
-    }
-    let instr = code[(15 * thread + slot) as usize];
-    encode(&instr)
+    encode(&instr_in(code, thread, slot))
 }
 
 /// The words of all four threads, 16 each.

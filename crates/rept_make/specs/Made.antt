@@ -1,13 +1,12 @@
 -- What a made crash is: its files, and the run that they come from.
-use Rattle.std.specs.Prelude.{◌≡◌, ℕ, ◌+◌, ◌*◌, ◌^◌, ◌<◌, List, ◌++◌, length, slice_index, Ok, None, false}
+use Rattle.std.specs.Prelude.{◌≡◌, ℕ, ◌+◌, ◌^◌, ◌<◌, List, ◌++◌, length, slice_index, Ok, None, false}
 use Rattle.rept_isa.specs.declared.row.StepRow.{StepRow}
 use Rattle.rept_steps.specs.Linked.{EndBefore}
-use Rattle.rept_elf.specs.Header.{word_at}
 use Rattle.rept_elf.specs.Segments.{segments, greatest_end}
 use Rattle.rept_elf.specs.Checks.{checks, first_failure}
 use Rattle.rept_elf.specs.declared.fault.Want.TheVariants.{Exec, Core}
 use Rattle.rept_dump.specs.Memory.{crash_byte, of_executable}
-use Rattle.rept_dump.specs.Registers.{SaysRegisters}
+use Rattle.rept_dump.specs.Registers.{SaysRegisters, saved_pc, saved_register}
 use Rattle.rept_machine.specs.State.{State}
 use Rattle.rept_machine.specs.Execution.{Execution}
 use Rattle.rept_trace.specs.Stream.{header, plain}
@@ -47,9 +46,9 @@ pub record IsMade (seed steps : ℕ) (made : Made) : Type 0 where
   pub core_read : first_failure (checks Core made.core) ≡ None
   pub status : List ℕ
   pub notes : SaysRegisters (length made.core) (segments made.core) (Ok status)
-  pub last_pc : word_at status 72 ≡ pc
+  pub last_pc : saved_pc status ≡ pc
   pub rest : List ℕ
   pub layout : made.trace ≡ header false ++ rest
   pub few : length made.trace < 2 ^ 32
   pub path : IsTracedPath (record { code = words_of (of_executable made.exe); stream = plain false rest; from = 0; pc = pc }) 0 rows
-  pub execution : (last : List ℕ) → length last ≡ 32 → ((r : ℕ) → 0 < r → r < 32 → slice_index last r ≡ word_at status (72 + 4 * r)) → Execution (greatest_end (segments made.exe)) rows last (crash_byte (of_executable made.exe) (segments made.core)) (λ i. laid (bytes_of_words words) (run i))
+  pub execution : (last : List ℕ) → length last ≡ 32 → ((r : ℕ) → 0 < r → r < 32 → slice_index last r ≡ saved_register status r) → Execution (greatest_end (segments made.exe)) rows last (crash_byte (of_executable made.exe) (segments made.core)) (λ i. laid (bytes_of_words words) (run i))

@@ -16,7 +16,8 @@ use Rattle.rept_moments.specs.declared.side.Side.{Side}
 use Rattle.rept_moments.specs.Points.{points_in, by_point}
 use Rattle.rept_moments.specs.Ordering.{moment_at_side, in_order}
 use Rattle.rept_moments.specs.Numbers.{numbers_of, numbered}
-use Rattle.rept_moments.specs.Seen.{seen_many, moment_by, moment_in}
+use Rattle.rept_report.specs.Timeline.{moment_by}
+use Rattle.rept_moments.specs.Seen.{seen_many, moment_in}
 use Rattle.rept_moments.specs.Merging.{merged_at}
 use Rattle.rept_moments.specs.Numbering.{find, at_place, Numbered}
 use Rattle.rept_moments.specs.Tables.{moments_at}

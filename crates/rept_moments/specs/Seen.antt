@@ -9,6 +9,7 @@ use Rattle.rept_steps.specs.declared.threads.ThreadRows.{ThreadRows}
 use Rattle.rept_steps.specs.Course.{Course}
 use Rattle.rept_span.specs.Ranges.{Legs, legs_of}
 use Rattle.rept_report.specs.Moments.{Moments, points_of}
+use Rattle.rept_report.specs.Timeline.{moment_by}
 use Rattle.rept_course.specs.Numbered.{legs_on}
 use Rattle.rept_moments.specs.Numbers.{numbered}
 
@@ -37,10 +38,6 @@ seen_by C None = seen_many C
 
 abbrev pub seen : Course → SeenMoments
 seen C = seen_by C (alone_by C.threads C.dark)
-
-abbrev pub moment_by : Moments → Option StepRow → ℕ → ℕ
-moment_by moments None p = moments.end
-moment_by moments (Some row) p = moments.before p
 
 -- the moment of a point: the one before its row, and where no row leads from it the end
 abbrev pub moment_in : SeenMoments → ℕ → ℕ

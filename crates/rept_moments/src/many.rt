@@ -29,7 +29,7 @@ use crate::points::Points;
 use crate::side::{Place, Side, Timed};
 use crate::writers::Writers;
 use crate::writing::{both, neither};
-use rept_isa::{Instr, StepRow};
+use rept_isa::{StepRow, is_call};
 use rept_order::{Act, Moment};
 use rept_steps::Run;
 use std::alloc::{AllocError as OutOfMemory, Global};
@@ -387,7 +387,7 @@ impl<'a> Many<'a> {
     {
         match self.row(row) {
             Some(its_row) => {
-                let calls = matches!(its_row.instr, Instr::Ecall);
+                let calls = is_call(&its_row.instr);
                 let same = self.after(row) == w;
                 if !calls && same { Some(row) } else { None }
             }

@@ -10,7 +10,6 @@ ghost use Rattle.rept_order.specs.Runs.{edge_event, moment_named, moment_beside,
 
 use crate::edge::{Edge, slice_following, slice_holding};
 use crate::moment::{Act, Moment};
-use rept_isa::Instr;
 use rept_steps::{Run, Slice};
 
 /// The order of a run's moments, by the times of its slices. It takes no memory.
@@ -34,10 +33,7 @@ impl<'a> Order<'a> {
         ensures { result ≡ calls (course_in self.now) (row_of thread step) }
     {
         match self.run.threads.all().get(thread as usize) {
-            Some(rows) => match rows.steps.rows().get(step as usize) {
-                Some(row) => matches!(row.instr, Instr::Ecall),
-                None => false,
-            },
+            Some(rows) => rows.is_call(step),
             None => false,
         }
     }

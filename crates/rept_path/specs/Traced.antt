@@ -2,12 +2,12 @@
 use Rattle.std.specs.Prelude.{◌≡◌, ◌⊎◌, ℕ, List}
 use Rattle.rept_path.specs.Code.{Code}
 use Rattle.rept_isa.specs.declared.row.StepRow.{StepRow}
-use Rattle.rept_elf.specs.Header.{word_at}
 use Rattle.rept_dump.specs.declared.dump.Dump.{Dump}
 use Rattle.rept_path.specs.declared.program.Program.{Program}
 use Rattle.rept_path.specs.Program.{code_of}
 use Rattle.rept_dump.specs.Dump.{exe_of, registers_of}
 use Rattle.rept_dump.specs.Program.{contents}
+use Rattle.rept_dump.specs.Registers.{saved_pc}
 use Rattle.rept_trace.specs.declared.packet.Packet.{Packet}
 use Rattle.rept_trace.specs.declared.packets.Packets.{Packets}
 use Rattle.rept_trace.specs.declared.fault.TraceFault.{TraceFault}
@@ -19,7 +19,7 @@ use Rattle.rept_path.specs.Trace.{TracedRun, IsPath, HasNoPathOfPackets}
 
 -- the program counter of a dump, as its register note holds it
 abbrev pub pc_of : Dump → ℕ
-pc_of dump = word_at (registers_of dump) 72
+pc_of dump = saved_pc (registers_of dump)
 
 -- a traced run whose packets are a stream of bytes: the program, the stream, the number from which on the window may begin, and the program
 -- counter at the end

@@ -14,7 +14,8 @@ use Rattle.rept_report.specs.Moments.{points_of}
 use Rattle.rept_course.specs.Names.{AreNames}
 use Rattle.rept_course.specs.Numbered.{legs_on}
 use Rattle.rept_moments.specs.Numbers.{numbers_of}
-use Rattle.rept_moments.specs.Seen.{SeenMoments, seen, seen_by, seen_alone, seen_many, alone_by, moment_by, moment_in}
+use Rattle.rept_report.specs.Timeline.{moment_by}
+use Rattle.rept_moments.specs.Seen.{SeenMoments, seen, seen_by, seen_alone, seen_many, alone_by, moment_in}
 use Rattle.rept_moments.proofs.Apart.{are_numbers, no_pause}
 use Rattle.rept_session.specs.declared.place.Place.TheVariants as places
 use Rattle.rept_session.specs.declared.place.ThreadPlace.{ThreadPlace}

@@ -15,7 +15,8 @@ use Rattle.rept_course.specs.Numbered.{row_on, legs_on}
 use Rattle.rept_course.proofs.Naming.{some_is, are_legs}
 use Rattle.rept_moments.specs.declared.course.Course as courses
 use Rattle.rept_moments.specs.Numbers.{numbers_of, numbered}
-use Rattle.rept_moments.specs.Seen.{seen_many, alone_by, rows_in, moment_by, moment_in}
+use Rattle.rept_report.specs.Timeline.{moment_by}
+use Rattle.rept_moments.specs.Seen.{seen_many, alone_by, rows_in, moment_in}
 use Rattle.rept_moments.specs.Courses.{threads_in, IsCourseOf}
 use Rattle.rept_moments.proofs.Places.{row_there}
 

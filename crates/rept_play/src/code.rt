@@ -7,7 +7,7 @@ ghost use Rattle.rept_isa.specs.Words.{IsWord};
 ghost use Rattle.rept_isa.specs.Operands.{is_call};
 ghost use Rattle.rept_play.specs.Code.{IsPlayCode, instr_in, played_in, row_in};
 
-use rept_isa::{ImmOp, Instr, Reg, StepRow, encode};
+use rept_isa::{ImmOp, Instr, Reg, StepRow, encode, is_call};
 
 /// The register x0.
 fn zero() -> Reg
@@ -39,11 +39,21 @@ pub fn word_in(code: &[Instr], thread: u32, slot: u32) -> u32
     encode(&instr)
 }
 
-/// Whether it is a call.
-fn is_call(instr: &Instr) -> bool
-    ensures { result ≡ is_call instr.now }
+/// The instruction of a thread's slot, and in the last one the jump back to the first.
+pub fn instr_in(code: &[Instr], thread: u32, slot: u32) -> Instr
+    requires code { IsPlayCode code.now }
+    requires thread { thread < 4 }
+    requires slot { slot < 16 }
+    ensures value { result ≡ instr_in code.now thread slot }
+    ensures range { InRange result }
 {
-    matches!(*instr, Instr::Ecall)
+    if slot == 15 {
+        return Instr::Jal {
+            rd: zero(),
+            imm: -60,
+        };
+    }
+    code[(15 * thread + slot) as usize]
 }
 
 /// Row `step` of a thread.
@@ -55,14 +65,7 @@ pub fn row_in(code: &[Instr], thread: u32, step: u32) -> StepRow
 {
     let slot = step % 16;
     let base = 0x1_0000 + 64 * thread;
-    let instr = if slot == 15 {
-        Instr::Jal {
-            rd: zero(),
-            imm: -60,
-        }
-    } else {
-        code[(15 * thread + slot) as usize]
-    };
+    let instr = instr_in(code, thread, slot);
     StepRow {
         at: base + 4 * slot,
         instr,

@@ -10,6 +10,7 @@ mod playing;
 mod score;
 mod threads;
 
+pub use code::instr_in;
 pub use count::rows_in;
 pub use made::{Made, make_play};
 pub use playing::{Played, play};

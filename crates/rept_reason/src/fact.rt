@@ -1,4 +1,4 @@
-//! A fact: at a point of a path, a register or a byte has a value.
+//! A fact: a register has a value at a point of a path, or a byte at a moment of the memory.
 
 ghost use Rattle.std.specs.Prelude.{◌≡◌};
 ghost use Rattle.rept_reason.specs.declared.fact.Cell.TheVariants.{Byte};
@@ -21,10 +21,11 @@ impl Default for Cell {
     }
 }
 
-/// A cell has a value at a point of the path. A path of n rows has the points 0 to n; row i leads from point i to i + 1.
+/// A cell has a value: a register at a point, a byte at a moment. Row i leads from point i to i + 1; the points of all threads are numbered one
+/// after the other, and the moments of the memory have numbers of their own. Of one thread in one slice, with n rows, both are the numbers 0 to n.
 #[derive(Clone, Copy, Default, PartialEq, Eq, Debug)]
 pub struct Fact {
-    /// the point, from 0 before the first row to the number of rows after the last one
+    /// of a register the number of the point, of a byte that of the moment
     pub point: u32,
     /// the register or byte
     pub cell: Cell,

@@ -76,6 +76,8 @@ abbrev pub first_known : Flat → Flat → Flat
 first_known Unknown y = y
 first_known (Known v) y = Known v
 
+-- The operand from the result of a copy, too. No rule asks for it: the operations that copy have no rule of `solving_rule`, and rule 18, which goes by `copied`,
+-- tells of copies.
 abbrev pub immediate_solved : ImmOp → ℤ → ℕ → Flat
 immediate_solved op imm v = if is_neutral op imm then Known v else solved (register_form op) First v (word imm)
 

@@ -1,11 +1,12 @@
 //! What is known around a row: its operands, its result, and the bytes that it reads or writes.
 
-ghost use Rattle.std.specs.Prelude.{◌≡◌, ◌<◌, ◌^◌, ℕ, Option};
+ghost use Rattle.std.specs.Prelude.{◌≡◌, ◌<◌, ◌^◌, ◌&&◌, ℕ, Option, is_some};
 ghost use Rattle.rept_isa.specs.Operands.{written_by, unless_zero};
 ghost use Rattle.rept_isa.specs.Numbers.{beside};
 ghost use Rattle.rept_machine.specs.Arithmetic.{extended};
 ghost use Rattle.rept_reason.specs.Facts.{flat};
 ghost use Rattle.rept_rules.specs.Conclusions.{seen_operand};
+ghost use Rattle.rept_rules.specs.MayWrite.{is_register};
 ghost use Rattle.rept_rules.specs.Listing.{two_bytes, four_bytes, half_from, word_from, extended_from, loaded_from, at_known, known_after};
 ghost use Rattle.rept_view.specs.declared.drawn.When.TheVariants.{Before, After};
 
@@ -21,6 +22,17 @@ pub fn operand_before<V: RowView>(view: &V, r: Option<Reg>) -> Flat
     match r {
         None => Flat::Unknown,
         Some(register) => view.reg(When::Before, register),
+    }
+}
+
+/// Whether the value of a register before the row is known.
+pub fn is_known<V: RowView>(view: &V, r: Reg) -> bool
+    ensures { result ≡ is_register r && is_some ((V.seen view.now).register When.Before r) }
+{
+    let _number = r.number();
+    match view.reg(When::Before, r) {
+        Flat::Unknown => false,
+        Flat::Known(_) => true,
     }
 }
 

@@ -1,13 +1,14 @@
 //! Which bytes a row may write, by the ranges of registers around it.
 
-ghost use Rattle.std.specs.Prelude.{◌≡◌, ◌<◌, ◌≤◌, ◌^◌, ◌&&◌, ℕ, pos, is_some};
+ghost use Rattle.std.specs.Prelude.{◌≡◌, ◌<◌, ◌≤◌, ◌^◌, ◌&&◌, ℕ, pos};
 ghost use Rattle.rept_alias.specs.Accesses.{hits, call_hits, access_of};
 ghost use Rattle.rept_havoc.specs.Havoc.{changed};
 ghost use Rattle.rept_machine.specs.Arithmetic.{store_width};
 ghost use Rattle.rept_partial.specs.declared.flat.Flat.{Flat};
 ghost use Rattle.rept_view.specs.declared.drawn.When.TheVariants.{Before, After};
-ghost use Rattle.rept_rules.specs.MayWrite.{is_register, range_of, only_value, is_failure, has_failed, writes_word, instr_may_write, instr_is_sure};
+ghost use Rattle.rept_rules.specs.MayWrite.{range_of, only_value, is_failure, has_failed, writes_word, instr_may_write, instr_is_sure};
 
+use crate::look::is_known;
 use rept_alias::{Access, CallAccess, access};
 use rept_havoc::havoc;
 use rept_isa::{AmoOp, Instr, Reg, StoreOp, register};
@@ -150,15 +151,5 @@ pub fn is_sure<V: RowView>(instr: &Instr, view: &V) -> bool
     match *instr {
         Instr::Store { rs1, .. } => is_known(view, rs1),
         _ => false,
-    }
-}
-
-fn is_known<V: RowView>(view: &V, r: Reg) -> bool
-    ensures { result ≡ is_register r && is_some ((V.seen view.now).register When.Before r) }
-{
-    let _number = r.number();
-    match view.reg(When::Before, r) {
-        Flat::Unknown => false,
-        Flat::Known(_) => true,
     }
 }

@@ -1,12 +1,12 @@
 //! The immediates and offsets of a half.
 
-ghost use Rattle.std.specs.Prelude.{◌≡◌, ◌<◌, ◌≤◌, ◌+◌, ◌*◌, ◌-◌, ◌^◌, suc, nat_lt, if◌then◌else◌, pos, negsuc};
+ghost use Rattle.std.specs.Prelude.{◌≡◌, pos};
 ghost use Rattle.rept_isa.specs.Words.{field};
 ghost use Rattle.rept_rvc.specs.Halves.{addi4spn_immediate, word_offset, lwsp_offset, swsp_offset, six_bit_immediate, addi16sp_immediate, lui_immediate, jump_offset, branch_offset};
 ghost use Rattle.rept_rvc.specs.Reading.{six_bits};
 
 use crate::field::field;
-use rept_isa::number::word;
+use rept_isa::number::{signed, word};
 
 /// Of C.ADDI4SPN.
 pub fn addi4spn_immediate(half: u16) -> u16
@@ -39,19 +39,6 @@ pub fn six_bits(half: u16) -> u16
     ensures { result ≡ six_bits half }
 {
     field(half, 2, 5) + 32 * field(half, 12, 1)
-}
-
-/// The signed number of `n`, where half the range is below `bound`.
-fn signed(n: u32, bound: u32) -> i32
-    requires fits { n < 2 * bound }
-    requires small { bound ≤ 2 ^ 20 }
-    ensures { result ≡ (if nat_lt n bound then pos n else negsuc (2 * bound - suc n)) }
-{
-    if n < bound {
-        n as i32
-    } else {
-        n as i32 - 2 * bound as i32
-    }
 }
 
 /// Of C.ADDI, C.LI and C.ANDI.

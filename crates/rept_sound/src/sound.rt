@@ -1,29 +1,18 @@
 //! Whether a run is sound.
 
-ghost use Rattle.std.specs.Prelude.{◌≡◌, ◌↔◌, length, slice_get, IsTrue};
-ghost use Rattle.rept_steps.specs.Course.{is_call_row, IsSoundCourse};
+ghost use Rattle.std.specs.Prelude.{◌≡◌, ◌↔◌, length, IsTrue};
+ghost use Rattle.rept_steps.specs.Course.{IsSoundCourse};
 ghost use Rattle.rept_steps.specs.Runs.{course_of};
 ghost use Rattle.rept_sound.specs.Tested.{call_ends, calls_end, fits, fit_to, end_to, is_alone, is_sound};
 
 use crate::slices::{ends_slice, keep_time, take_rows};
-use rept_isa::Instr;
 use rept_steps::{Run, ThreadRows};
-
-/// Whether the row of a thread is a call.
-fn is_call(thread: &ThreadRows, step: u32) -> bool
-    ensures { result ≡ is_call_row (slice_get thread.now.steps step) }
-{
-    match thread.steps.rows().get(step as usize) {
-        Some(row) => matches!(row.instr, Instr::Ecall),
-        None => false,
-    }
-}
 
 /// Whether the row is no call, or the last one of its slice.
 fn call_ends(thread: &ThreadRows, step: u32) -> bool
     ensures { result ≡ call_ends thread.now step }
 {
-    let call = is_call(thread, step);
+    let call = thread.is_call(step);
     let last = ends_slice(thread.slices.all(), step);
     !call || last
 }

@@ -1,9 +1,11 @@
 //! What each thread of a program executed.
 
-ghost use Rattle.std.specs.Prelude.{◌≡◌, ◌++◌, ◌∷◌, [], OnOk, OnErr};
+ghost use Rattle.std.specs.Prelude.{◌≡◌, ◌++◌, ◌∷◌, [], slice_get, OnOk, OnErr};
+ghost use Rattle.rept_steps.specs.Course.{is_call_row};
 
 use crate::slice::Slices;
 use crate::steps::Steps;
+use rept_isa::is_call;
 use std::alloc::{AllocError as OutOfMemory, Global};
 use std::marker::Model;
 
@@ -14,6 +16,18 @@ pub struct ThreadRows {
     pub steps: Steps,
     /// The slices that take these steps, in the order of time.
     pub slices: Slices,
+}
+
+impl ThreadRows {
+    /// Whether the row of this number is a call. False where there is no such row.
+    pub fn is_call(&self, step: u32) -> bool
+        ensures { result ≡ is_call_row (slice_get self.now.steps step) }
+    {
+        match self.steps.rows().get(step as usize) {
+            Some(row) => is_call(&row.instr),
+            None => false,
+        }
+    }
 }
 
 /// A list of threads. Contracts see it as a list.

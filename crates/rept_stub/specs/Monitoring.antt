@@ -33,7 +33,7 @@ abbrev pub signal_text : ℕ → List ℕ
 signal_text signal = codes "signal " ++ decimal signal ++ 10 ∷ []
 
 unfoldable pub help_text : List ℕ
-help_text = codes "where | reg R | regs | range R | mem ADDRESS COUNT | writer ADDRESS | writers ADDRESS | why R | why ADDRESS | list STEP COUNT | stack | summary | signal" ++ 10 ∷ []
+help_text = codes "where | thread T | goto POINT | back COUNT | fwd COUNT | reg R | regs | range R | mem ADDRESS COUNT | writer ADDRESS | writers ADDRESS | why R | why ADDRESS | list STEP COUNT | stack | summary | signal" ++ 10 ∷ []
 
 -- the point before a row, where that is the thread's own and before this point
 abbrev pub own_before : ThreadPoint → ThreadPoint → Option ℕ

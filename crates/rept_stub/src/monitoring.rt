@@ -78,7 +78,7 @@ pub fn signal_text(alloc: Global, signal: u16) -> Result<Text, OutOfMemory>
 pub fn help_text() -> &'static [u8]
     ensures { result.now ≡ help_text }
 {
-    b"where | reg R | regs | range R | mem ADDRESS COUNT | writer ADDRESS | writers ADDRESS | why R | why ADDRESS | list STEP COUNT | stack | summary | signal\n"
+    b"where | thread T | goto POINT | back COUNT | fwd COUNT | reg R | regs | range R | mem ADDRESS COUNT | writer ADDRESS | writers ADDRESS | why R | why ADDRESS | list STEP COUNT | stack | summary | signal\n"
 }
 
 /// The line of a writer, as a session tells it.

@@ -2,7 +2,6 @@
 use mathlib.Core.Logic.{∥∥₁_elim, ∥∥₁_prop}
 use Rattle.std.proofs.Props.{props}
 use Rattle.std.proofs.Common.{◌≡◌, ℕ, ◌≤◌, Bool, true, false, Option, Some, None, refl}
-use Rattle.rept_isa.specs.declared.row.StepRow.{StepRow}
 use Rattle.rept_report.specs.Moments.{Moments}
 use Rattle.rept_report.specs.Timeline as report
 use Rattle.rept_moments.specs.Seen as seen
@@ -26,10 +25,6 @@ next_as M m least (Some w) its = (its.0, its.1, λ v low less. not_so (M.next m 
 pub former_as : (M : Moments) (w least : ℕ) (o : Option ℕ) → IsPreviousFrom M w least o → report.IsFormerFrom M w least o
 former_as M w least None its = λ m low. not_so (M.next m w) (its m low)
 former_as M w least (Some m) its = (its.0, its.1, λ v low less. not_so (M.next v w) (its.2 v low less))
-
-pub moment_as : (M : Moments) (o : Option StepRow) (p : ℕ) → seen.moment_by M o p ≡ report.moment_by M o p
-moment_as M None p = refl
-moment_as M (Some row) p = refl
 
 pub row_at_as : (x : seen.SeenMoments) (m : ℕ) (o : Option ℕ) → seen.IsRowAt x m o → report.IsRowAt (as_timeline x) m o
 row_at_as x m None its = its

@@ -3,7 +3,8 @@
 /// The address that formats 1 and 2 report, with its flags (Efficient Trace for RISC-V 2.0, formats 1 and 2).
 #[derive(Clone, Copy)]
 pub struct Report {
-    /// The reported address less the one before, modulo 2^32, in bytes. It is a multiple of 4.
+    /// The reported address less the one before, modulo 2^32, in bytes. It is a multiple of 4, or of 2 where code may be
+    /// compressed.
     pub difference: u32,
     /// Whether the bit `notify` differs from the highest bit of the difference: the address is reported because a notification
     /// was asked for there.

@@ -12,7 +12,8 @@ use Rattle.rept_order.specs.Legs.{point_of_thread, point_at, row_from}
 use Rattle.rept_order.proofs.Legs.{point_number, thread_inside}
 use Rattle.rept_course.specs.Numbered.{row_on}
 use Rattle.rept_report.specs.Moments.{points_of}
-use Rattle.rept_moments.specs.Seen.{seen_alone, alone_by, rows_in, moment_by, moment_in}
+use Rattle.rept_report.specs.Timeline.{moment_by}
+use Rattle.rept_moments.specs.Seen.{seen_alone, alone_by, rows_in, moment_in}
 use Rattle.rept_places.specs.Places.{last_by}
 
 same_rows : {x y : List StepRow} → Some x ≡ Some y → x ≡ y

@@ -6,12 +6,12 @@ use rept_isa::Reg;
 use rept_reason::Cell;
 use std::default::Default;
 
-/// The point before a row, or the one after it.
+/// Before a row, or after it: of a register at the point there, of a byte at the moment there.
 #[derive(Clone, Copy, PartialEq, Eq, Debug)]
 pub enum When {
-    /// row i's point i
+    /// of row i at point i, or at the moment before it
     Before,
-    /// row i's point i + 1
+    /// of row i at point i + 1, or at the moment after it
     After,
 }
 

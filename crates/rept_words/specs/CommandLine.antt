@@ -14,13 +14,17 @@ other id = record (new_rule id) { action = Some Set }
 abbrev pub plain_app : Text → App
 plain_app name = record (new_app name) { top = record (new_app name).top { disable_help_flag = true } }
 
+-- with a core file, a trace, and maybe a packet's number as the next words
+abbrev pub traced : App → App
+traced app = with_rule (with_rule (with_rule app (needed (codes "core"))) (needed (codes "trace"))) (other (codes "from"))
+
 -- one whose words are the files of a crash, and maybe a packet's number
 abbrev pub files_app : Text → App
-files_app name = with_rule (with_rule (with_rule (with_rule (plain_app name) (needed (codes "exe"))) (needed (codes "core"))) (needed (codes "trace"))) (other (codes "from"))
+files_app name = traced (with_rule (plain_app name) (needed (codes "exe")))
 
 -- one whose words are a core file and a trace, and maybe a packet's number
 abbrev pub maps_app : App
-maps_app = with_rule (with_rule (with_rule (plain_app (codes "maps")) (needed (codes "core"))) (needed (codes "trace"))) (other (codes "from"))
+maps_app = traced (plain_app (codes "maps"))
 
 abbrev pub self_app : App
 self_app = with_rule (with_rule (plain_app (codes "self")) (needed (codes "seed"))) (needed (codes "steps"))

@@ -3,7 +3,7 @@
 ghost use Rattle.std.specs.Prelude.{◌≡◌, IfOk, false};
 ghost use Rattle.clap.specs.Words.{app_of, rule_of, with_rule};
 ghost use Rattle.clap.specs.declared.builder.command.Command.TheViews.{out-Command as fields_of};
-ghost use Rattle.rept_words.specs.CommandLine.{needed, other, plain_app, bare_app, files_app, maps_app, opening_app, self_app, rept_app};
+ghost use Rattle.rept_words.specs.CommandLine.{needed, other, traced, plain_app, bare_app, files_app, maps_app, opening_app, self_app, rept_app};
 
 use clap::{Arg, ArgAction, Command};
 use rept_word::OutOfMemory;
@@ -43,16 +43,24 @@ fn with_word<'a>(command: Command<'a>, word: Arg<'a>) -> Result<Command<'a>, Out
     command.arg(word)
 }
 
+/// The command with a core file, a trace, and maybe a packet's number as its next words.
+fn traced<'a>(alloc: Global, command: Command<'a>) -> Result<Command<'a>, OutOfMemory>
+    requires { (fields_of command).has_globals ≡ false }
+    ensures app { IfOk result (λ c. app_of c ≡ traced (app_of command.entry)) }
+    ensures local { IfOk result (λ c. (fields_of c).has_globals ≡ false) }
+{
+    let command = with_word(command, needed_word(alloc, "core"))?;
+    let command = with_word(command, needed_word(alloc, "trace"))?;
+    with_word(command, other_word(alloc, "from"))
+}
+
 /// A command of this name whose words are the files of a crash, and maybe a packet's number.
 fn files_command<'a>(alloc: Global, name: &'a str) -> Result<Command<'a>, OutOfMemory>
     ensures app { IfOk result (λ c. app_of c ≡ files_app name.entry.now) }
     ensures local { IfOk result (λ c. (fields_of c).has_globals ≡ false) }
 {
-    let command = plain_command(alloc, name);
-    let command = with_word(command, needed_word(alloc, "exe"))?;
-    let command = with_word(command, needed_word(alloc, "core"))?;
-    let command = with_word(command, needed_word(alloc, "trace"))?;
-    with_word(command, other_word(alloc, "from"))
+    let command = with_word(plain_command(alloc, name), needed_word(alloc, "exe"))?;
+    traced(alloc, command)
 }
 
 /// The command `maps`, whose words are a core file and a trace, and maybe a packet's number.
@@ -60,10 +68,7 @@ fn maps_command<'a>(alloc: Global) -> Result<Command<'a>, OutOfMemory>
     ensures app { IfOk result (λ c. app_of c ≡ maps_app) }
     ensures local { IfOk result (λ c. (fields_of c).has_globals ≡ false) }
 {
-    let command = plain_command(alloc, "maps");
-    let command = with_word(command, needed_word(alloc, "core"))?;
-    let command = with_word(command, needed_word(alloc, "trace"))?;
-    with_word(command, other_word(alloc, "from"))
+    traced(alloc, plain_command(alloc, "maps"))
 }
 
 fn self_command<'a>(alloc: Global) -> Result<Command<'a>, OutOfMemory>

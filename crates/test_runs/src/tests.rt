@@ -8,7 +8,7 @@ use rept_runs::{CrashFiles, RunFault, is_several, one_path, open_run};
 use rept_trace::TraceFault;
 use std::alloc::{AllocError, Global};
 use std::test::Fail;
-use test_files::{core_file, executable};
+use test_files::{core_of_threads, executable};
 
 // addi x0, x0, 0; sb x6, 0(x5); addi x0, x0, 0, twice.
 const CODE: [u32; 4] = [0x13, 0x62_8023, 0x13, 0x13];
@@ -32,29 +32,6 @@ const ONE_HART: &[u8] = b"\x52\x54\x52\x32\x01\x00\x00\x00\x12\x00\x00\x00\
 
 /// How many threads there are, and how many rows the first and the last of them have; until when nothing is told, how many packets are skipped, and how many steps the one path has.
 type Told = (usize, u32, u32, Option<u64>, u32, Option<u32>);
-
-/// A core file of a note segment of status notes: of each its process and its program counter; all other registers are 0.
-fn core_of(alloc: Global, notes: &[(u32, u32)]) -> Result<Vec<u8>, AllocError> {
-    let mut file = core_file(alloc, 0, [0, 0, 0])?;
-    file.truncate(84);
-    let Ok(size) = u32::try_from(notes.len()) else {
-        return Err(AllocError);
-    };
-    for (i, byte) in size.wrapping_mul(224).to_le_bytes().iter().enumerate() {
-        if let Some(place) = file.get_mut(i.wrapping_add(68)) {
-            *place = *byte;
-        }
-    }
-    for (process, pc) in notes {
-        file.extend_from_slice(b"\x05\0\0\0\xcc\0\0\0\x01\0\0\0CORE\0\0\0\0")?;
-        file.extend_from_slice(&[0; 24])?;
-        file.extend_from_slice(&process.to_le_bytes())?;
-        file.extend_from_slice(&[0; 44])?;
-        file.extend_from_slice(&pc.to_le_bytes())?;
-        file.extend_from_slice(&[0; 128])?;
-    }
-    Ok(file)
-}
 
 /// The notes, the trace, the bytes of it that differ, and what is told.
 type Case = (
@@ -170,7 +147,7 @@ fn files_tell_runs(rt: HostRuntime) -> Result<(), Fail> {
     let alloc = rt.alloc();
     let exe = executable(alloc, 0x10000, &CODE)?;
     for (i, (notes, trace, edits, wanted)) in CASES.iter().enumerate() {
-        let core = core_of(alloc, notes)?;
+        let core = core_of_threads(alloc, notes)?;
         let bytes = edited(alloc, trace, edits)?;
         if bytes.len() < 1000 {
             let files = CrashFiles {

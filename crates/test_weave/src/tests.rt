@@ -9,32 +9,9 @@ use rept_steps::{Run, Slice, Steps};
 use rept_weave::WeaveFault;
 use rept_word::Text;
 use rept_woven::reading::rebuild_trace;
-use std::alloc::{AllocError, Global};
+use std::alloc::Global;
 use std::test::Fail;
-use test_files::{core_file, executable};
-
-/// A core file of a note segment of status notes: of each its process and its program counter; all other registers are 0.
-fn core_of(alloc: Global, notes: &[(u32, u32)]) -> Result<Vec<u8>, AllocError> {
-    let mut file = core_file(alloc, 0, [0, 0, 0])?;
-    file.truncate(84);
-    let Ok(size) = u32::try_from(notes.len()) else {
-        return Err(AllocError);
-    };
-    for (i, byte) in size.wrapping_mul(224).to_le_bytes().iter().enumerate() {
-        if let Some(place) = file.get_mut(68 + i) {
-            *place = *byte;
-        }
-    }
-    for (process, pc) in notes {
-        file.extend_from_slice(b"\x05\0\0\0\xcc\0\0\0\x01\0\0\0CORE\0\0\0\0")?;
-        file.extend_from_slice(&[0; 24])?;
-        file.extend_from_slice(&process.to_le_bytes())?;
-        file.extend_from_slice(&[0; 44])?;
-        file.extend_from_slice(&pc.to_le_bytes())?;
-        file.extend_from_slice(&[0; 128])?;
-    }
-    Ok(file)
-}
+use test_files::{core_of_threads, executable};
 
 /// The run that a trace tells of the code at 0x10000, whose threads ended so.
 fn run_of(
@@ -43,7 +20,7 @@ fn run_of(
     notes: &[(u32, u32)],
 ) -> Result<Result<Run, PathFault>, Fail> {
     let exe = executable(alloc, 0x10000, &CODE)?;
-    let core = core_of(alloc, notes)?;
+    let core = core_of_threads(alloc, notes)?;
     let dump = Dump::read_many(
         Image::read(exe.as_slice(), Want::Exec)?,
         Image::read(core.as_slice(), Want::Core)?,
