@@ -1,10 +1,10 @@
 //! Drawn turns and drawn code.
 
-ghost use Rattle.std.specs.Prelude.{◌≡◌, ◌<◌, ◌≤◌, ◌/◌, ◌%◌, ℕ, length, slice_index_or, IfOk};
+ghost use Rattle.std.specs.Prelude.{◌≡◌, ◌<◌, ◌≤◌, ◌/◌, ◌%◌, ℕ, nat_lt, if◌then◌else◌, length, slice_index_or, IfOk};
 ghost use Rattle.rept_isa.specs.declared.instr.Instr.{Instr};
 ghost use Rattle.rept_turns.specs.Turns.{rows_in, all_rows};
 ghost use Rattle.rept_play.specs.Code.{IsPlayCode, IsPlayable, drawn_in};
-ghost use Rattle.rept_play.specs.Drawn.{thread_end, stream_end, last_end, last_begin, to_call, drawn_thread, drawn_stream, drawn_early, begin_of, next_turn, drawn_turns, made_instr};
+ghost use Rattle.rept_play.specs.Drawn.{thread_end, stream_end, last_end, last_begin, to_call, drawn_early, begin_of, next_turn, drawn_turns, made_instr};
 
 use crate::count::rows_in;
 use crate::draw::{draw, made_instr};
@@ -68,28 +68,15 @@ fn to_call(place: u32) -> u32
     if place <= 7 { 8 - place } else { 24 - place }
 }
 
-/// The thread of the turn of this number.
-fn drawn_thread(seed: u32, sizes: Sizes, number: u32) -> u32
-    requires threads { 1 ≤ sizes.threads }
-    requires number { number < 64 }
-    ensures { result ≡ drawn_thread sizes seed number }
+/// The thread or the stream of the turn of this number: what is drawn, but for the first turn of each stream the stream's number.
+fn own_or(sizes: Sizes, number: u32, drawn: u32) -> u32
+    ensures { result ≡ (if nat_lt number sizes.streams then number else drawn) }
 {
     if number < sizes.streams {
-        return number;
+        number
+    } else {
+        drawn
     }
-    draw(seed, 240 + 5 * number, sizes.threads)
-}
-
-/// The stream of the turn of this number.
-fn drawn_stream(seed: u32, sizes: Sizes, number: u32) -> u32
-    requires streams { 1 ≤ sizes.streams }
-    requires number { number < 64 }
-    ensures { result ≡ drawn_stream sizes seed number }
-{
-    if number < sizes.streams {
-        return number;
-    }
-    draw(seed, 241 + 5 * number, sizes.streams)
 }
 
 /// From when on the turn of this number may begin.
@@ -119,8 +106,8 @@ fn next_turn(seed: u32, sizes: Sizes, number: u32, turns: &[Turn]) -> Turn
     requires soon { last_end turns.now ≤ 65536 }
     ensures { result ≡ next_turn sizes seed number turns.now }
 {
-    let thread = drawn_thread(seed, sizes, number);
-    let stream = drawn_stream(seed, sizes, number);
+    let thread = own_or(sizes, number, draw(seed, 240 + 5 * number, sizes.threads));
+    let stream = own_or(sizes, number, draw(seed, 241 + 5 * number, sizes.streams));
     let rows = 1 + draw(seed, 242 + 5 * number, 8);
     let place = rows_in(thread, turns) % 16;
     let early = drawn_early(seed, sizes, number);
