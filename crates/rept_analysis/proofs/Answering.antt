@@ -91,22 +91,9 @@ module _ {W : Type 0} (s : AnalysisState W) (settled : IsSettled s) where
   pub filled_answers : KnowSameRegisters (told (oldest s.filled s.known.log)) (answers s)
   filled_answers p r = rw filled_all refl
 
-  pub may_write_answers : (i a : ℕ) → may_write (along s.path) (told (oldest s.filled s.known.log)) i a ≡ may_write (along s.path) (answers s) i a
-  may_write_answers i a = may_write_same (along s.path) (told (oldest s.filled s.known.log)) (answers s) filled_answers i a
-
-  pub is_sure_answers : (i : ℕ) → is_sure (along s.path) (told (oldest s.filled s.known.log)) i ≡ is_sure (along s.path) (answers s) i
-  is_sure_answers i = is_sure_same (along s.path) (told (oldest s.filled s.known.log)) (answers s) filled_answers i
-
   -- the sets are the ranges by what is answered, and none is empty
   pub range_answers : (p r : ℕ) → p ≤ s.path.given.legs.count → r < 32 → entry_at s.spans p r ≡ range (way_of (along s.path)) (answers s) p r
   range_answers p r early in_file = settled.fitted p early r in_file ∙ range_same (along s.path) (told (oldest s.filled s.known.log)) (answers s) filled_answers p r
-
-  pub range_some : (p r : ℕ) → p ≤ s.path.given.legs.count → r < 32 → (set : W) × (entry_at s.spans p r ≡ Some set) × (range (way_of (along s.path)) (answers s) p r ≡ Some set)
-  range_some p r early in_file = of (range (way_of (along s.path)) (answers s) p r) refl
-    where
-      of : (x : Option W) → range (way_of (along s.path)) (answers s) p r ≡ x → (set : W) × (entry_at s.spans p r ≡ Some set) × (range (way_of (along s.path)) (answers s) p r ≡ Some set)
-      of (Some set) e = (set, range_answers p r early in_file ∙ e, e)
-      of None e = absurd (settled.quiet.full p r early in_file (range_same (along s.path) (all_known s) (answers s) (λ q t. refl) p r ∙ e))
 
   -- what is found by the sets is said of what is answered
   pub writer_answers : (p a : ℕ) (w : Writer) → IsWriter (along s.path) (told (oldest s.filled s.known.log)) (spot p a) w → IsWriter (along s.path) (answers s) (spot p a) w

@@ -7,11 +7,9 @@ use Rattle.rept_isa.specs.declared.row.StepRow.{StepRow}
 use Rattle.rept_reason.specs.declared.fact.Fact.{Fact}
 use Rattle.rept_reason.specs.declared.fact.Cell.{Cell}
 use Rattle.rept_reason.specs.declared.fact.Cell.TheVariants.{Register}
-use Rattle.rept_reason.specs.Facts.{Knowledge, told}
-use Rattle.rept_report.specs.declared.conflict.ConflictKind.{ConflictKind}
-use Rattle.rept_report.specs.declared.conflict.ConflictKind.TheVariants.{TwoValues, EmptyRange, WrongTurn}
+use Rattle.rept_reason.specs.Facts.{told}
 use Rattle.rept_report.specs.Setting.{Setting, IsLast, HasLaws}
-use Rattle.rept_report.specs.Conflicts.{IsQuiet, Shows}
+use Rattle.rept_report.specs.Conflicts.{IsQuiet}
 use Rattle.rept_report.specs.Log.{oldest, OnceEach, add_if}
 use Rattle.rept_report.proofs.Told.{told_in, none_some, same_some}
 use Rattle.rept_report.proofs.Places.{oldest_all, oldest_more}
@@ -21,7 +19,7 @@ use Rattle.rept_analysis.specs.State.{AnalysisState, Subject, along}
 use Rattle.rept_analysis.specs.Drawing.{Knows, Grows, LastKnownAt, LastPointKnown, LastKnownBelow}
 use Rattle.rept_analysis.specs.Kept.{IsKept}
 use Rattle.rept_analysis.proofs.Following.{LastsBelow}
-use Rattle.rept_analysis.specs.Refined.{IsClashOf, ShowsTo, IsHalted}
+use Rattle.rept_analysis.specs.Refined.{IsHalted}
 use Rattle.rept_analysis.specs.declared.stop.Stop.{Stop}
 use Rattle.rept_analysis.specs.declared.stop.Stop.TheVariants.{Conflict, OutOfMemory}
 use Rattle.rept_analysis.specs.Begun.{value_at_end, ends_told, AreEndFacts, KnowsEnds, BeginsWithEnds, HasEndsAlone, HasEndsFirst, LearnsEndsFirst, IsLogWith}
@@ -81,11 +79,6 @@ module _ {W : Type 0} (S : Setting W) where
   pub ends_quiet : HasLaws S → (facts : List Fact) → AreEndFacts S facts → IsQuiet S (ends_told S) → IsQuiet S (told facts)
   ends_quiet laws facts ends quiet = quiet_less S laws (told facts) (ends_told S) (λ p r v e. ends_only facts ends p (Register r) v e) quiet
 
-  pub shows_loud : (K : Knowledge) (kind : ConflictKind) → Shows S K kind → IsQuiet S K → ⊥
-  shows_loud K (TwoValues p c v w) h quiet = h
-  shows_loud K (EmptyRange p r) h quiet = quiet.full p r h.early h.in_file h.empty
-  shows_loud K (WrongTurn i) h quiet = quiet.right i h
-
   -- all are known, and nothing else
   pub begun_now : (log : List Fact) → AreEndFacts S log → KnowsEnds S (told log) → BeginsWithEnds S log
   begun_now log ends all =
@@ -136,14 +129,6 @@ module _ {W : Type 0} (s : AnalysisState W) where
       let inside = slice_get_within (s.path.given.last p) r v its.value in
       let long = kept.registers p in
       known r (omega (arith, inside, long)) p v its.last its.named its.value
-
-  -- what is answered after a conflict has them
-  pub ends_shown : HasLaws (along s.path) → IsKept s → HasEndsFirst s → (t : ℕ) (kind : ConflictKind) → ShowsTo s t kind → IsQuiet (along s.path) (ends_told (along s.path)) → KnowsEnds (along s.path) (told (oldest t s.known.log))
-  ends_shown laws kept first t kind shows quiet = ends_among (along s.path) laws s.known.log kept.once first quiet t (of shows.shows)
-    where
-      of : Shows (along s.path) (told (oldest t s.known.log)) kind ⊎ ((t ≡ length s.known.log) × IsClashOf s kind) → (IsQuiet (along s.path) (told (oldest t s.known.log)) → ⊥) ⊎ (t ≡ length s.known.log)
-      of (inl e) = inl (λ calm. shows_loud (along s.path) (told (oldest t s.known.log)) kind e calm)
-      of (inr (all, clash)) = inr all
 
   -- where they alone don't show a conflict, and the facts do, they were learnt before anything else
   pub ends_first : HasLaws (along s.path) → (IsQuiet (along s.path) (told s.known.log) → ⊥) → IsQuiet (along s.path) (ends_told (along s.path)) → LearnsEndsFirst s → HasEndsFirst s

@@ -1,5 +1,5 @@
 -- Each fact that an analysis answers at the end has a reason, and bytes are found in the prefixes of its log.
-use Rattle.std.proofs.Common.{◌≡◌, ℕ, ◌≤◌, Bool, List, Some, sym, ap, subst, ◌∙◌}
+use Rattle.std.proofs.Common.{◌≡◌, ℕ, ◌≤◌, Bool, List, Some, sym, ap, subst}
 use Rattle.rept_reason.specs.declared.fact.Fact.{Fact}
 use Rattle.rept_reason.specs.declared.fact.Cell.TheVariants.{Byte}
 use Rattle.rept_reason.specs.Facts.{Knowledge, told}
@@ -8,8 +8,7 @@ use Rattle.rept_report.specs.Conflicts.{IsQuiet}
 use Rattle.rept_report.specs.Log.{oldest}
 use Rattle.rept_report.specs.Reasons.{StandsIn, IsStanding}
 use Rattle.rept_report.specs.Implied.{with_implied, IsClosed, HasEnded, known_at_end}
-use Rattle.rept_report.specs.Why.{Because, fact_of, IsReason}
-use Rattle.rept_report.proofs.Explained.{reason_exists}
+use Rattle.rept_report.specs.Why.{fact_of}
 use Rattle.rept_report.specs.Reasons.StandsIn.{listed}
 use Rattle.rept_report.proofs.Search.{standing}
 use Rattle.rept_report.proofs.Told.{told_in}
@@ -37,12 +36,6 @@ module _ {W : Type 0} (s : AnalysisState W) (laws : HasLaws (along s.path)) (kep
   -- what is answered, as they do
   pub ends_with : known_at_end (along s.path) kept.traced.entries tracked ≡ answers s
   ends_with = ap (λ (K : Knowledge). with_implied (along s.path) K tracked) (trace_known s kept)
-
-  -- what is answered has a reason
-  pub known_reason : (f : Fact) → answers s f.point f.cell ≡ Some f.value → (why : Because) × IsReason (along s.path) s.known.log f why
-  known_reason f e =
-      let known : known_at_end (along s.path) kept.traced.entries tracked f.point f.cell ≡ Some f.value = ap (λ (K : Knowledge). K f.point f.cell) ends_with ∙ e in
-      subst (λ (fs : List Fact). (why : Because) × IsReason (along s.path) fs f why) kept.traced.logged (reason_exists (along s.path) laws kept.traced.entries has_ended.trace has_ended.quiet tracked has_ended.closed f known)
 
   -- the prefix of the log, as the log's look-ups speak of it
   abbrev pub front_at : ℕ → FrontView W

@@ -44,7 +44,7 @@ use Rattle.rept_analysis.specs.Moments.{filled_range, moment, moment_lawful}
 use Rattle.rept_analysis.specs.Room.{IsDrawable, own_at, IsOwnByte}
 use Rattle.rept_analysis.proofs.Reserve.{drawable_more, own_byte_more}
 use Rattle.rept_report.specs.Why.{fact_of}
-use Rattle.rept_analysis.specs.Drawing.{Knows, IsTracked, Grows, IsFollowing, IsBrought, IsLearntAt, IsKeptAt, LastKnownAt, LastPointKnown, LastKnownBelow, IsFitted, IsAccess, AreTrackedFrom, IsRowTracked, IsConclusion, KeptBelow, DrawnKnown, IsRowDrawn, IsRowClosed, LastByteKnown, SingleKnown, AreRowAddresses}
+use Rattle.rept_analysis.specs.Drawing.{Knows, IsTracked, Grows, IsFollowing, IsBrought, IsLearntAt, IsKeptAt, LastPointKnown, LastKnownBelow, IsFitted, IsAccess, AreTrackedFrom, IsRowTracked, IsConclusion, KeptBelow, DrawnKnown, IsRowDrawn, IsRowClosed, LastByteKnown, SingleKnown, AreRowAddresses}
 
 pub flat_known : (x : Option ℕ) (v : ℕ) → flat x ≡ Known v → x ≡ Some v
 flat_known None v e = cc
@@ -87,9 +87,6 @@ last_follows s p r v w at found is named in_file small quiet = record { early = 
   where
     same_flat : {x y : ℕ} → Known x ≡ Known y → x ≡ y
     same_flat e = cc
-
-pub last_known_at : {W : Type 0} (s : AnalysisState W) (p r w : ℕ) → slice_get (s.path.given.last p) r ≡ Some w → IsLearntAt p r (Known w) s → LastKnownAt p r s
-last_known_at s p r w found learnt v named is = learnt v (ap Known (same_some (sym found ∙ is))) named
 
 -- of the last points below one
 abbrev pub LastsBelow : {W : Type 0} → ℕ → AnalysisState W → Type 0

@@ -194,9 +194,6 @@ pub next_none : (M : Moments) (m least : ℕ) (o : Option ℕ) → ((y : ℕ) �
 next_none M m least None never h = h
 next_none M m least (Some y) never h = absurd (never y refl)
 
-pub next_before : {W : Type 0} (s t : AnalysisState W) → Grows s t → (m w : ℕ) → t.path.given.moments.next m w ≡ true → s.path.given.moments.next m w ≡ true
-next_before s t g m w next = subst (λ (P : Subject _). P.given.moments.next m w ≡ true) g.path next
-
 -- no number is linked to the end or one after it
 pub links_first : {W : Type 0} (s : AnalysisState W) (a m : ℕ) → AreLinksBelow a m 0 s
 links_first s a m w lt = absurd (omega (arith, lt))
@@ -293,15 +290,6 @@ up_to_all s a from inside far h exact m w = record {
 
 -- up to where the same is known
 module _ {W : Type 0} (s : AnalysisState W) (a from : ℕ) where
-  pub even_free : (to : ℕ) → Nexts s.known.store.fact a from None → IsEven a from to s
-  even_free to none i low high = none i low ∙ sym (none from (omega arith))
-
-  pub even_border : (m to : ℕ) (stretch : Stretch) → Nexts s.known.store.fact a from (Some stretch) → IsBorder from stretch m → to ≤ m → IsEven a from to s
-  even_border m to stretch next (inl (later, is)) near i low high = next.free i low (omega (arith, is, near, high)) ∙ sym (next.free from (omega arith) (omega (arith, later)))
-  even_border m to stretch next (inr (begun, is)) near i low high =
-      let reaches = next.reaches in
-      next.run.value i (omega (arith, begun, low)) (omega (arith, is, near, high)) ∙ sym (next.run.value from begun (omega (arith, reaches)))
-
   pub in_even : (to : ℕ) (strip : Strip) → IsEven a from to s → from ≡ strip.first → strip.last ≤ to → IsCarriedIn a strip s
   in_even to strip even same near i up down = alike_if s (passage a i (i + 1)) (even i (omega (arith, same, up)) (omega (arith, down, near)) ∙ sym (even (i + 1) (omega (arith, same, up)) (omega (arith, down, near))))
 

@@ -1,5 +1,5 @@
 -- A byte's value goes at once to all numbers that come from known ones, up to a row that may write it.
-use Rattle.std.proofs.Common.{◌≡◌, ℕ, ◌+◌, ◌-◌, ◌<◌, ◌≤◌, ◌^◌, ◌⊎◌, true, Option, Some, None, Result, Ok, Err, IfOk, inl, inr, sym, subst, arith, max, min}
+use Rattle.std.proofs.Common.{◌≡◌, ℕ, ◌+◌, ◌-◌, ◌<◌, ◌≤◌, ◌^◌, ◌⊎◌, true, Option, Some, None, inl, inr, sym, subst, arith, max, min}
 use Rattle.std.specs.Option.{is_some}
 use Rattle.std.proofs.lemmas.Bool.{cases_lt, false≢true}
 use Rattle.rept_reason.specs.declared.fact.Cell.TheVariants.{Byte}
@@ -10,11 +10,9 @@ use Rattle.rept_report.specs.Spots.{passage}
 use Rattle.rept_versions.specs.declared.facts.Stretch.{Stretch}
 use Rattle.rept_versions.specs.Facts.{Nexts}
 use Rattle.rept_analysis.specs.declared.leap.Leap.{Leap}
-use Rattle.rept_analysis.specs.declared.link.Link.{Link}
 use Rattle.rept_analysis.specs.State.{AnalysisState}
 use Rattle.rept_analysis.specs.Kept.{IsKept}
-use Rattle.rept_analysis.specs.Drawing.{Knows, IsTracked, Drew, AreWritings, IsBridged, IsLeapUp, IsLeapDown, IsLed}
-use Rattle.rept_analysis.proofs.Drawn.{Drew_as}
+use Rattle.rept_analysis.specs.Drawing.{Knows, IsTracked, AreWritings, IsBridged, IsLeapUp, IsLeapDown, IsLed}
 use Rattle.rept_analysis.proofs.Listing.{spared_by}
 
 module _ {W : Type 0} (s : AnalysisState W) (x : Leap) (v : ℕ) (order : x.first ≤ x.last) (known : (q : ℕ) → x.first ≤ q → q ≤ x.last → Knows q (Byte x.address) v s) where
@@ -82,10 +80,6 @@ module _ {W : Type 0} (s : AnalysisState W) (h : AreWritings s) (a : ℕ) (small
       early k past most (inl within) = omega (arith, within, most, later)
       early k past most (inr none) = absurd (omega (arith, none, to, past, most))
 
--- and where it doesn't
-pub stays_up : {W : Type 0} (s : AnalysisState W) (a first last : ℕ) → last ≤ s.path.given.moments.end → IsLeapUp (record { address = a; first = first; last = last; to = last }) s
-stays_up s a first last inside = record { from = omega arith; inside = inside; ways = λ k past most. absurd (omega (arith, past, most)) }
-
 -- how far down it goes
 module _ {W : Type 0} (s : AnalysisState W) (h : AreWritings s) (a : ℕ) (small : a < 2 ^ 32) (first last since until : ℕ) (free_since : IsFreeSince s.work.writing first a since) (free_until : IsFreeUntil s.work.writing first a until) where
   pub leaps_down : (known : Window) (n : ℕ) → known.from ≡ first → known.to ≡ min until (last + 1) → since < first → IsReachedDown s.path.given.moments known since n → IsLeapDown (record { address = a; first = first; last = last; to = n }) s
@@ -101,16 +95,7 @@ module _ {W : Type 0} (s : AnalysisState W) (h : AreWritings s) (a : ℕ) (small
       late k least before (inl within) = omega (arith, within, least)
       late k least before (inr none) = absurd (omega (arith, none, from, least, before))
 
--- and where it doesn't
-pub stays_down : {W : Type 0} (s : AnalysisState W) (a first last : ℕ) → IsLeapDown (record { address = a; first = first; last = last; to = first }) s
-stays_down s a first last = record { from = omega arith; ways = λ k least before. absurd (omega (arith, least, before)) }
-
 -- a byte with a stretch is tracked
 pub tracked_by : {W : Type 0} (s : AnalysisState W) → IsKept s → (a : ℕ) (o : Option Stretch) → Nexts s.known.store.fact a 0 o → is_some o ≡ true → IsTracked a s
 tracked_by s kept a None h some = absurd (false≢true some)
 tracked_by s kept a (Some stretch) h some = let ordered = h.run.ordered in kept.listed stretch.first a stretch.value (h.run.value stretch.first (omega arith) ordered)
-
--- what came of a call on a number and those that are next to it, by what else it promises
-pub linked_if : {W E : Type 0} (s t : AnalysisState W) (r : Result Link E) (P Q : AnalysisState W → Type 0) → IfOk r (λ x. Drew s t x.has_news P) → (P s → Q s) → IfOk r (λ x. Drew s t x.has_news Q)
-linked_if s t (Ok x) P Q d f = Drew_as s t x.has_news P Q d f
-linked_if s t (Err e) P Q d f = tt

@@ -163,16 +163,6 @@ module _ {W : Type 0} (s : AnalysisState W) (n : ℕ) (list : List Writing) (h :
 pub none_spared : {W : Type 0} (s : AnalysisState W) (i : ℕ) (access : CallAccess) → IsAccess i access s → ((a : ℕ) → call_hits access a ≡ false) → IsSilent i s
 none_spared s i access is none a small = sym (is a small) ∙ none a
 
-pub nothing_listed : {W : Type 0} (s : AnalysisState W) → AreWritingsBefore 0 [] s
-nothing_listed s = record {
-  each = λ k w at. absurd (none_here k w at);
-  order = λ i j d le lt. absurd (omega (arith, lt));
-  all = λ i there lt. absurd (omega (arith, lt));
-}
-  where
-    none_here : (k : ℕ) (w : Writing) → slice_get [] k ≡ Some w → ⊥
-    none_here k w e = let lt = slice_get_within [] k w e in omega (arith, lt)
-
 -- with another list everything else is the same
 pub listed_same : {W : Type 0} (s t : AnalysisState W) (list : List Writing) → t ≡ with_writing s list → SameFacts s t
 listed_same s t list is = subst (λ (x : AnalysisState _). SameFacts s x) (sym is) (record { path = refl; known = refl; shown = refl; complete = refl; conflict = refl; draws = refl; drawn = refl })

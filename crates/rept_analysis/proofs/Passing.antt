@@ -164,12 +164,6 @@ kept_writing s kept open_ listed room = let old = kept.room in kept_work s kept 
 pub kept_never : {W : Type 0} (s : AnalysisState W) → IsKept s → s.complete ≡ false → (passes : List Pass) → length passes ≡ length s.work.drawn → ((i : ℕ) (x : Pass) → slice_get passes i ≡ Some x → x ≡ Never) → IsKept (with_drawn s passes)
 kept_never s kept open_ passes long never = kept_work s kept open_ (record { joins = s.work.joins; writing = s.work.writing; room = s.work.room; draws = s.work.draws; drawn = passes }) kept.room (long ∙ kept.rows) (λ i row x at is. never_pass s row i x (never i x is)) refl
 
-pub never_uncut : (passes : List Pass) → ((i : ℕ) (x : Pass) → slice_get passes i ≡ Some x → x ≡ Never) → (i : ℕ) → slice_get passes i ≡ Some Cut → ⊥
-never_uncut passes never i is = differs (never i Cut is)
-  where
-    differs : Cut ≡ Never → ⊥
-    differs e = cc
-
 few_left : (x : Pass) → left_of x ≤ 12
 few_left Never = omega arith
 few_left (With k) = omega arith

@@ -11,7 +11,7 @@ use Rattle.rept_report.specs.Views.{may_write, Carries}
 use Rattle.rept_report.specs.Conclusions.IsCarried.{onward, back}
 use Rattle.rept_report.specs.Conflicts.{IsQuiet}
 use Rattle.rept_report.specs.Log.{oldest}
-use Rattle.rept_report.proofs.Told.{same_some, none_some}
+use Rattle.rept_report.proofs.Told.{same_some}
 use Rattle.rept_report.proofs.Places.{oldest_less}
 use Rattle.rept_report.proofs.Monotony.{spared_more}
 use Rattle.std.specs.declared.alloc.AllocError.{AllocError}
@@ -424,18 +424,6 @@ segment_spread s a from to at v low high right left i le lt = record {
           | inr more ↦ right q (inl (more, high_q))
         ]
 
-pub segment_free : {W : Type 0} (s : AnalysisState W) (a from to : ℕ) → ((q : ℕ) → from ≤ q → q ≤ to → s.known.store.fact q a ≡ None) → IsCarriedFrom a from to s
-segment_free s a from to none i le lt = record {
-  onward = λ w spared h. absurd (none_some (sym (none i le (omega (arith, lt))) ∙ h));
-  back = λ w spared h. absurd (none_some (sym (none (i + 1) (omega (arith, le)) (omega (arith, lt))) ∙ h));
-}
-
-pub next_free : {W : Type 0} (s : AnalysisState W) (a from to : ℕ) → Nexts s.known.store.fact a from None → IsCarriedFrom a from to s
-next_free s a from to h = segment_free s a from to (λ q low high. h q low)
-
-pub next_past : {W : Type 0} (s : AnalysisState W) (a from to : ℕ) (stretch : Stretch) → Nexts s.known.store.fact a from (Some stretch) → to < stretch.first → IsCarriedFrom a from to s
-next_past s a from to stretch h past = segment_free s a from to (λ q low high. h.free q low (omega (arith, high, past)))
-
 pub next_value : {W : Type 0} (s : AnalysisState W) (a from at : ℕ) (stretch : Stretch) → Nexts s.known.store.fact a from (Some stretch) → at ≡ max stretch.first from → Knows at (Byte a) stretch.value s
 next_value s a from at stretch h is =
     let reaches = h.reaches in
@@ -457,14 +445,6 @@ segment_covered s a from to stretch h covers i le lt =
       back = λ w spared e. here ∙ ap Some (same_some (sym after ∙ e));
     }
 
-pub spared_up : {W : Type 0} (s : AnalysisState W) (from to at a : ℕ) → from ≤ at → at ≤ to → IsSparedBetween from to a s → IsSparedBetween at to a s
-spared_up s from to at a low high h i (inl x) = let p = x.0 in h i (inl (omega (arith, p, low), x.1))
-spared_up s from to at a low high h i (inr x) = let p = x.0 in let q = x.1 in absurd (omega (arith, p, q, high))
-
 pub spared_down : {W : Type 0} (s : AnalysisState W) (from to at a : ℕ) → from ≤ at → at ≤ to → IsSparedBetween from to a s → IsSparedBetween at from a s
 spared_down s from to at a low high h i (inl x) = let p = x.0 in let q = x.1 in absurd (omega (arith, p, q, low))
 spared_down s from to at a low high h i (inr x) = let q = x.1 in h i (inl (x.0, omega (arith, q, high)))
-
-pub between_none : {W : Type 0} (s : AnalysisState W) (p a : ℕ) → IsSparedBetween p p a s
-between_none s p a i (inl x) = let q = x.0 in let r = x.1 in absurd (omega (arith, q, r))
-between_none s p a i (inr x) = let q = x.0 in let r = x.1 in absurd (omega (arith, q, r))

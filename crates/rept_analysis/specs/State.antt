@@ -118,10 +118,6 @@ with_draws s n = with_work s (record { joins = s.work.joins; writing = s.work.wr
 abbrev pub with_drawn : {W : Type 0} → AnalysisState W → List Pass → AnalysisState W
 with_drawn s passes = with_work s (record { joins = s.work.joins; writing = s.work.writing; room = s.work.room; draws = s.work.draws; drawn = passes })
 
--- the same but for how often rules were drawn
-abbrev pub but_draws : {W : Type 0} → AnalysisState W → AnalysisState W
-but_draws s = with_draws s 0
-
 -- the rows and moments
 abbrev pub timeline_of : {W : Type 0} → AnalysisState W → Timeline
 timeline_of s = record { legs = s.path.given.legs; moments = s.path.given.moments }

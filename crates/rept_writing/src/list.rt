@@ -18,7 +18,7 @@ use std::marker::Model;
 const WORN: usize = 64;
 
 /// And one in so many rows.
-const SHARE: usize = 32;
+const SHARE: usize = 8;
 
 /// Over so many rows at most one is looked for that may write an address, to tell since or until when none falls.
 const NEAR: usize = 4096;

@@ -368,7 +368,7 @@ impl<'a, P: Reaches + Drop, L: LastValues + Drop, B: ByteFacts, W: Transfer, R: 
     }
 
     /// The value of a byte to the end of the strip before a number from those of a window that are next to it, and down from there, where it isn't known there. Answers whether it was
-    /// new, and a number up to which it was looked for.
+    /// new, and a number up to which it was looked for: the first one, where writers that aren't told don't lie before that strip's end, since they fall between all that come before.
     fn carry_former(&mut self, a: u32, first: u32, known: Window) -> Result<(bool, u32), Halt>
         requires some { 0 < first }
         requires inside { first ≤ (P.timeline self.old.paths).moments.end }
@@ -381,6 +381,9 @@ impl<'a, P: Reaches + Drop, L: LastValues + Drop, B: ByteFacts, W: Transfer, R: 
         ensures down { IfOk result (λ ended. ended.1 < first) }
     {
         let former = self.strip(first - 1);
+        if !self.paths.is_dark_past(former.last) {
+            return Ok((false, 0));
+        }
         if self.known_byte(former.last, a).is_some() {
             return Ok((false, former.first));
         }
