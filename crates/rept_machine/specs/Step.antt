@@ -69,7 +69,8 @@ pub record FailsToStore (rd : ℕ) (a : Addresses) (s t : State) : Type 0 where
   pub memory : SameMemory s t
   pub onward : a.next ≡ following a.from
 
--- Reservations aren't modelled: an SC may succeed, with 0, or fail, whatever was before (chapter 8.2 lets it fail at any time).
+-- Reservations aren't modelled: an SC may succeed, with 0, or fail, whatever was before. Chapter 8.2 lets it fail at any time, and chapter 8.3 promises of
+-- some loops only that one of their tries succeeds in the end.
 abbrev pub Tries : ℕ → ℕ → ℕ → Addresses → State → State → Type 0
 Tries rd value base a s t = Exchanges rd 0 value base a s t ⊎ FailsToStore rd a s t
 
@@ -77,7 +78,8 @@ Tries rd value base a s t = Exchanges rd 0 value base a s t ⊎ FailsToStore rd 
 abbrev pub Combines : AmoOp → ℕ → ℕ → ℕ → Addresses → State → State → Type 0
 Combines op rd value base a s t = Exchanges rd (word_at s.memory base) (combined op (word_at s.memory base) value) base a s t
 
--- what an atomic instruction with this destination, value of its source, and address does
+-- What an atomic instruction with this destination, value of its source, and address does. One whose address isn't a multiple of 4 has a step here, too:
+-- chapters 8.2 and 8.4 have it raise an exception, which an environment may answer by doing what the instruction says.
 abbrev pub Acts : AmoOp → ℕ → ℕ → ℕ → Addresses → State → State → Type 0
 Acts atomic.Lr rd value base a s t = Computes rd (word_at s.memory base) a s t
 Acts atomic.Sc rd value base a s t = Tries rd value base a s t

@@ -135,7 +135,7 @@ pub data ArePause (C : Course) (x : Stretch) : Type 0 where
   between : (t i : ℕ) → suc i < length (rows_of C t) → x ≡ stretch (after (row_of t i)) (before (row_of t (suc i))) → ArePause C x
   last : (t i : ℕ) → suc i ≡ length (rows_of C t) → x ≡ stretch (after (row_of t i)) at_end → ArePause C x
 
--- They are one moment where no store, no call, no SC, no atomic memory operation and no dark falls between them.
+-- They are one moment where no store, no call, no SC, no atomic memory operation and no dark falls between them, whatever the address of these.
 pub record AreOne (C : Course) (x : Stretch) : Type 0 where
   pub pause : ArePause C x
   pub still : (act : Act) → IsAct C act → Falls C act x → may_by (λ r a. stores C r) act 0 ≡ false

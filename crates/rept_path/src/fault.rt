@@ -23,7 +23,7 @@ pub enum PathFault {
     /// On the way of this packet there is no bit for the branch at this address.
     #[error("packet {0} has no bit for the branch at {1:#010x}")]
     NoBranchBit(u32, u32),
-    /// So many branch bits are not used where an uninferable jump ends the way of this packet.
+    /// So many branch bits are not used where an uninferable jump ends the way of this packet. With 0 that for the branch at the jump's target is missing.
     #[error("packet {0} leaves {1} branch bits")]
     BranchesLeft(u32, u32),
     /// This packet tells branches alone, and its way meets the uninferable jump at this address.
