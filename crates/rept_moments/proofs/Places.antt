@@ -8,6 +8,7 @@ use Rattle.rept_isa.specs.declared.row.StepRow.{StepRow}
 use Rattle.rept_steps.specs.declared.threads.ThreadRows.{ThreadRows}
 use Rattle.rept_steps.specs.Course.{Course, Row, row_of, rows_of, no_thread, IsRow, row_at}
 use Rattle.rept_order.specs.Legs.{Point, points_before, number_of, row_from, leg_row}
+use Rattle.rept_order.specs.Moments.{stores}
 use Rattle.rept_order.proofs.Legs.{point_number, thread_inside, leg_leads}
 use Rattle.rept_course.specs.Numbered.{row_on}
 use Rattle.rept_course.proofs.Naming.{some_is, row_inside, are_legs}
@@ -144,6 +145,14 @@ module _ (C : Course) (list : List Place) (firsts : List ℕ) (all : List Edges)
     where
       some_same : {x y : Edges} → Some x ≡ Some y → x ≡ y
       some_same k = cc
+
+  pub stores_some : (V : Course) (g : ℕ) (x : Edges) (xs : List Edges) → C ≡ V → xs ≡ all → true ≡ nat_lt g (length xs) → x ≡ get_or xs g x → x.stores ≡ stores V (row_on V g)
+  stores_some V g x xs view same less read =
+      let count = edges_count in
+      let whole : points_in C ≡ points_in V = ap (λ (D : Course). points_in D) view in
+      let long : length xs ≡ length all = ap (λ (ys : List Edges). length ys) same in
+      let below : g < length xs = ltb-true g (length xs) (sym less) in
+      ap (λ (e : Edges). e.stores) (read ∙ edges_here V g x xs view same (omega arith))
 
   pub times_after : (V : Course) (s : Side) (d : Edges) (xs : List Edges) → C ≡ V → xs ≡ all → s.point < points_in V → s.is_after ≡ true → (get_or xs s.point d).after ≡ times_at V s
   times_after V s d xs view same less e = ap (λ (x : Edges). x.after) (edges_here V s.point d xs view same less) ∙ ap (λ (b : Bool). times_at V (record { point = s.point; is_after = b })) (sym e)

@@ -3,6 +3,7 @@ use Rattle.std.specs.Prelude.{◌≡◌, ◌≤◌, ℕ, Bool, true, false, List
 use Rattle.rept_steps.specs.Course.{Course, Row, row_of, calls, IsSoundCourse}
 use Rattle.rept_order.specs.Events.{Event, event_slice}
 use Rattle.rept_order.specs.Legs.{points_before}
+use Rattle.rept_order.specs.Moments.{stores}
 use Rattle.rept_order.specs.Runs.{edge_part}
 use Rattle.rept_order.specs.Times.{begin_of}
 use Rattle.rept_moments.specs.declared.points.Edges.{Edges}
@@ -23,7 +24,7 @@ end_at C s = end_of (event_slice C (event_at C s))
 abbrev pub times_at : Course → Side → Times
 times_at C s = record { begin = begin_at C s; end = end_at C s }
 
--- those of both moments of the row that leads from a point
+-- those of both moments of the row that leads from a point, and whether it writes memory
 abbrev pub times_in : Course → Event → Times
 times_in C e = record { begin = begin_of C e; end = end_of (event_slice C e) }
 
@@ -31,7 +32,7 @@ abbrev pub event_in : Course → Row → Bool → Event
 event_in C r is_after = record { row = r; part = edge_part is_after (calls C r) }
 
 abbrev pub edges_in : Course → Place → Edges
-edges_in C p = record { before = times_in C (event_in C (row_of p.thread p.step) false); after = times_in C (event_in C (row_of p.thread p.step) true) }
+edges_in C p = record { before = times_in C (event_in C (row_of p.thread p.step) false); after = times_in C (event_in C (row_of p.thread p.step) true); stores = stores C (row_of p.thread p.step) }
 
 abbrev pub edges_at : Course → ℕ → Edges
 edges_at C g = edges_in C (place_on C g)

@@ -348,12 +348,12 @@ impl<'a> Many<'a> {
     pub fn is_dark_past(&self, m: u32) -> bool
         ensures { result ≡ (seen_of self.now).moments.dark_past m }
     {
-        let dark = self.is_dark();
-        let before = self
-            .points
+        if !self.is_dark() {
+            return true;
+        }
+        self.points
             .order()
-            .is_wholly_before(Act::Dark, self.last(m));
-        !dark || before
+            .is_wholly_before(Act::Dark, self.last(m))
     }
 
     /// Whether they lie wholly before the row.
@@ -385,11 +385,16 @@ impl<'a> Many<'a> {
         requires { IsSome ((seen_of self.now).legs.row row) }
         ensures { result ≡ own_to self.now row w }
     {
+        if self.after(row) != w {
+            return None;
+        }
         match self.row(row) {
             Some(its_row) => {
-                let calls = is_call(&its_row.instr);
-                let same = self.after(row) == w;
-                if !calls && same { Some(row) } else { None }
+                if is_call(&its_row.instr) {
+                    None
+                } else {
+                    Some(row)
+                }
             }
             None => None,
         }

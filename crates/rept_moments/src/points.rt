@@ -44,11 +44,12 @@ pub struct Times {
     pub end: Option<u64>,
 }
 
-/// The times of the moment before a row, and of that after it.
+/// The times of the moment before a row, and of that after it, and whether the row writes memory, whatever is known of it.
 #[derive(Clone, Copy)]
 pub struct Edges {
     pub before: Times,
     pub after: Times,
+    pub stores: bool,
 }
 
 impl<'a> Model for Points<'a> {
@@ -144,13 +145,25 @@ fn times_of(order: Order<'_>, edge: Edge) -> Times
     }
 }
 
-/// The times of both moments of the row that leads from a point.
-fn edges_of(order: Order<'_>, place: Place) -> Edges
-    requires { IsSoundCourse (course_in order) }
+/// Whether the row that leads from a point, if one does, writes memory, whatever is known of it.
+fn stores_at(run: &Run, place: Place) -> bool
+    ensures { result ≡ stores (course_of run.now) (row_of place.thread place.step) }
+{
+    match row_from(run, place) {
+        Some(row) => writes_memory(row.instr),
+        None => false,
+    }
+}
+
+/// The times of both moments of the row that leads from a point, and whether it writes memory.
+fn edges_of(run: &Run, order: Order<'_>, place: Place) -> Edges
+    requires sound { IsSoundCourse (course_in order) }
+    requires run { course_in order ≡ course_of run.now }
     ensures { result ≡ edges_in (course_in order.entry) place }
 {
     let Place { thread, step } = place;
     Edges {
+        stores: stores_at(run, place),
         before: times_of(
             order,
             Edge {
@@ -171,14 +184,20 @@ fn edges_of(order: Order<'_>, place: Place) -> Edges
 }
 
 /// The times of all moments of rows, by points.
-fn edge_times(alloc: Global, order: Order<'_>, places: &[Place]) -> Result<Vec<Edges>, OutOfMemory>
+fn edge_times(
+    alloc: Global,
+    run: &Run,
+    order: Order<'_>,
+    places: &[Place],
+) -> Result<Vec<Edges>, OutOfMemory>
     requires sound { IsSoundCourse (course_in order) }
+    requires run { course_in order ≡ course_of run.now }
     requires places { places.now ≡ by_point (place_on (course_in order)) (points_in (course_in order)) }
     ensures { IfOk result (λ v. v.items ≡ by_point (edges_at (course_in order.entry)) (points_in (course_in order.entry))) }
 {
     let mut edges = Vec::new(alloc);
     for place in places {
-        edges.push(edges_of(order, *place))?;
+        edges.push(edges_of(run, order, *place))?;
     }
     Ok(edges)
 }
@@ -203,7 +222,7 @@ impl<'a> Points<'a> {
     {
         let places = places(alloc, run)?;
         let starts = starts(alloc, run)?;
-        let edges = edge_times(alloc, Order::new(run), places.as_slice())?;
+        let edges = edge_times(alloc, run, Order::new(run), places.as_slice())?;
         Ok(Points {
             run,
             places,
@@ -302,13 +321,23 @@ impl<'a> Points<'a> {
         point + 1
     }
 
-    /// Whether the row that leads from the point, if one does, writes memory, whatever is known of it.
-    pub fn stores(&self, point: u32) -> bool
+    /// Whether the row that leads from the point, if one does, writes memory, by the row itself.
+    fn leads_to_writing(&self, point: u32) -> bool
         ensures { result ≡ stores self.now (row_on self.now point) }
     {
         match self.row(point) {
             Some(row) => writes_memory(row.instr),
             None => false,
+        }
+    }
+
+    /// Whether the row that leads from the point, if one does, writes memory, whatever is known of it.
+    pub fn stores(&self, point: u32) -> bool
+        ensures { result ≡ stores self.now (row_on self.now point) }
+    {
+        match self.edges.get(point as usize) {
+            Some(edges) => edges.stores,
+            None => self.leads_to_writing(point),
         }
     }
 
