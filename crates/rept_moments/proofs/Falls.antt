@@ -79,7 +79,7 @@ module _ (C : Course) (sound : IsSoundCourse C) where
       ]
 
   -- so is that of a row that may be a call
-  row_last : (m i : ℕ) → is_some (leg_row C i) ≡ true → (numbers_of C).name (before (row_on C i)) ≡ m → before (row_on C i) ≡ (numbers_of C).last m
+  pub row_last : (m i : ℕ) → is_some (leg_row C i) ≡ true → (numbers_of C).name (before (row_on C i)) ≡ m → before (row_on C i) ≡ (numbers_of C).last m
   row_last m i there its =
       elim (names.own (before (row_on C i)) (there_row C (row_on C i) there)) [
         | inl same ↦ same ∙ ap (numbers_of C).last its

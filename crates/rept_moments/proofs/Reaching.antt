@@ -1,5 +1,5 @@
 -- The moments that are next to one are the next one of its thread, and of each other thread the first later one, where they may come by the least end of the later slices.
-use Rattle.std.proofs.Common.{◌≡◌, ◌≢◌, ℕ, zero, suc, ◌+◌, ◌<◌, ◌≤◌, ◌⊎◌, not, eqb, Bool, true, false, List, [], ◌∷◌, ◌++◌, length, get_or, Option, Some, None, slice_get, inl, inr, refl, sym, ap, ◌∙◌, subst, arith}
+use Rattle.std.proofs.Common.{◌≡◌, ◌≢◌, ℕ, zero, suc, ◌+◌, ◌<◌, ◌≤◌, ◌⊎◌, not, eqb, Bool, true, false, List, [], ◌∷◌, length, get_or, Option, Some, None, slice_get, inl, inr, refl, sym, ap, ◌∙◌, subst, arith}
 use Rattle.std.specs.Option.{IsSome}
 use Rattle.std.proofs.lemmas.Bool.{false≢true, cases_Bool, cases_lt, cases_eq, and_parts, and_from, eqb-true, eq-eqb, ne_eqb, le-leb, leb-true}
 use Rattle.std.proofs.lemmas.Option.{slice_get_within, slice_get-get_or}
@@ -23,7 +23,7 @@ use Rattle.rept_moments.proofs.Places.{row_there, there_row}
 use Rattle.rept_moments.proofs.Apart.{are_numbers}
 use Rattle.rept_moments.proofs.Turns.{turn, turn_same, past_parts, past_from, is_moment, in_turn, turn_order, late_earlier, earlier_late, side_from, following_is, following_none, former_is, former_row, former_none}
 use Rattle.rept_moments.proofs.Beginning.{by_left, by_right, one_of}
-use Rattle.rept_moments.proofs.Offers.{IsNeighbour, has_next, neighbour_has, member_left, member_right, member_parts, one_by, held_by}
+use Rattle.rept_moments.proofs.Offers.{IsNeighbour, has_next, neighbour_has, one_by, held_by}
 use Rattle.rept_moments.proofs.Adding.{adds_none, adds_as, adds_both}
 
 none_some : {A : Type 0} {x : A} → None ≡ Some x → ⊥
@@ -35,7 +35,7 @@ some_none e = cc
 some_same : {A : Type 0} {x y : A} → Some x ≡ Some y → x ≡ y
 some_same e = cc
 
-ends_true : (o p : Option ℕ) → same_end o p ≡ true → o ≡ p
+pub ends_true : (o p : Option ℕ) → same_end o p ≡ true → o ≡ p
 ends_true None None e = refl
 ends_true (Some a) (Some b) e = ap (λ (k : ℕ). Some k) (eqb-true a b e)
 ends_true None (Some b) e = absurd (false≢true e)

@@ -109,12 +109,12 @@ end_slice : (o : Option Slice) (e : ℕ) → end_of o ≡ Some e → (s : Slice)
 end_slice None e k = absurd (none_some k)
 end_slice (Some s) e k = (s, refl, some_same k)
 
-abbrev thread_in : Moment → ℕ
+abbrev pub thread_in : Moment → ℕ
 thread_in (before r) = r.thread
 thread_in (after r) = r.thread
 thread_in at_end = 0
 
-thread_by : (r : Row) (b : Bool) → thread_in (beside_by r b) ≡ r.thread
+pub thread_by : (r : Row) (b : Bool) → thread_in (beside_by r b) ≡ r.thread
 thread_by r false = refl
 thread_by r true = refl
 
@@ -158,7 +158,7 @@ module _ (C : Course) (sound : IsSoundCourse C) where
         | inr (inr more) ↦ absurd (never (moment_at_side C a) (moment_at_side C b) e (in_turn b a its is (sym same) more))
       ]
 
-  not_later_self : (m : Moment) → NotLater C m m
+  pub not_later_self : (m : Moment) → NotLater C m m
   not_later_self (before r) = inl refl
   not_later_self (after r) = inl refl
   not_later_self at_end = tt

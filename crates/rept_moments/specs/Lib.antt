@@ -11,5 +11,6 @@ pub mod Numbering
 pub mod Nexts
 pub mod Tables
 pub mod Between
+pub mod Together
 pub mod Several
 pub mod Courses

@@ -104,7 +104,7 @@ fn same_end(one: Option<u64>, other: Option<u64>) -> bool
 }
 
 /// Whether the slices of two moments begin and end at the same times.
-fn is_alike(points: &Points<'_>, one: Side, other: Side) -> bool
+pub fn is_alike(points: &Points<'_>, one: Side, other: Side) -> bool
     requires one { one.point < points_in points.now }
     requires other { other.point < points_in points.now }
     ensures { result ≡ is_alike points.now one other }

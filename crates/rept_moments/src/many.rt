@@ -19,8 +19,9 @@ ghost use Rattle.rept_moments.specs.Seen.{moment_in, AddsNexts, IsRowAt, IsLastF
 ghost use Rattle.rept_moments.specs.Begins.{following_at, AreBegins};
 ghost use Rattle.rept_moments.specs.Nexts.{is_first_later, none_late, first_offer, offers_at, nexts_of, merged_nexts, point_nexts, side_nexts, last_nexts, ends_to, AddsOthers, Member, IsLaterBy, IsOffer};
 ghost use Rattle.rept_moments.specs.Tables.{moments_at};
+ghost use Rattle.rept_moments.specs.Together.{AreBeside, IsTogether, AreTogether};
 
-use crate::begins::{Begins, following, former};
+use crate::begins::{Begins, following, former, is_alike};
 use crate::merging::merged;
 use crate::nexts::{Later, add_other, is_not_past, with_end};
 use crate::numbers::Numbers;
@@ -317,6 +318,40 @@ impl<'a> Many<'a> {
                 },
             ),
             None => false,
+        }
+    }
+
+    /// Whether two numbers are of one thread and have the same times: a row of another thread then lies before both or neither, and after both or neither. Of the end it isn't said.
+    pub fn are_together(&self, m: u32, k: u32) -> bool
+        ensures { result ≡ true → AreTogether self.now m k }
+    {
+        match self.numbers.at(m) {
+            Some(side) => self.is_together(side, k),
+            None => false,
+        }
+    }
+
+    /// The same of a moment of a row, and a number.
+    fn is_together(&self, side: Side, k: u32) -> bool
+        requires { IsSome ((seen_of self.now).legs.row side.point) }
+        ensures { result ≡ true → IsTogether self.now side k }
+    {
+        match self.numbers.at(k) {
+            Some(other) => self.are_beside(side, other),
+            None => false,
+        }
+    }
+
+    /// Whether two moments of rows are of one thread, and have the same times.
+    fn are_beside(&self, one: Side, other: Side) -> bool
+        requires one { IsSome ((seen_of self.now).legs.row one.point) }
+        requires other { IsSome ((seen_of self.now).legs.row other.point) }
+        ensures { result ≡ true → AreBeside self.now one other }
+    {
+        if self.points.thread(one.point) == self.points.thread(other.point) {
+            is_alike(&self.points, one, other)
+        } else {
+            false
         }
     }
 
