@@ -3,7 +3,7 @@ use Rattle.std.proofs.Common.{◌/◌, ◌≡◌, ℕ, inl, inr, List, [], ◌�
 use Rattle.std.proofs.lemmas.Bool.{cases_lt}
 use Rattle.std.proofs.lemmas.List.{get_or_append_left, get_or_push, get_or_past}
 use Rattle.rept_extents.specs.declared.hulls.Hull.{Hull}
-use Rattle.rept_extents.specs.Hulls.{LiesIn, LieIn, block, wide, AreBlocks}
+use Rattle.rept_extents.specs.Hulls.{LiesIn, LieIn, block, wide, vast, AreBlocks}
 
 -- one block more
 module _ (list : List (Option Hull)) (blocks : List (Option Hull)) (h : Option Hull) where
@@ -21,7 +21,12 @@ module _ (list : List (Option Hull)) (blocks : List (Option Hull)) (h : Option H
             ]
       ]
 
--- what the bounds of 64 blocks lie within, those of each of their numbers lie within
+-- what the bounds of 16 blocks lie within, those of each of their numbers lie within
 module _ (blocks list : List (Option Hull)) (known : AreBlocks blocks list) (w : ℕ) (outer : Hull) where
   pub wide_of : LieIn blocks (block w outer) → LieIn list (wide w outer)
-  wide_of all k from to = known (k / 64) outer (all (k / 64) (omega arith) (omega arith)) k (omega arith) (omega arith)
+  wide_of all k from to = known (k / 16) outer (all (k / 16) (omega arith) (omega arith)) k (omega arith) (omega arith)
+
+-- so of 256 blocks
+module _ (wides blocks list : List (Option Hull)) (above : AreBlocks wides blocks) (known : AreBlocks blocks list) (v : ℕ) (outer : Hull) where
+  pub vast_of : LieIn wides (block v outer) → LieIn list (vast v outer)
+  vast_of all k from to = wide_of blocks list known (k / 256) outer (above (k / 256) outer (all (k / 256) (omega arith) (omega arith))) k (omega arith) (omega arith)

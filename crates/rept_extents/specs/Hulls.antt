@@ -1,4 +1,4 @@
--- Bounds of numbers, and of blocks of 64 of them. This project's own.
+-- Bounds of numbers, and of blocks of 16 of them. This project's own.
 use Rattle.std.specs.Prelude.{ℕ, ◌*◌, ◌+◌, ◌≤◌, ◌<◌, List, Option, Some, None, slice_index_or}
 use Rattle.rept_extents.specs.declared.hulls.Hull.{Hull}
 
@@ -19,11 +19,15 @@ LieIn list s = (k : ℕ) → s.from ≤ k → k < s.to → LiesIn (slice_index_o
 
 -- the numbers of a block
 abbrev pub block : ℕ → Hull → HullStretch
-block b outer = record { from = b * 64; to = b * 64 + 64; outer = outer }
+block b outer = record { from = b * 16; to = b * 16 + 16; outer = outer }
 
--- the numbers of 64 blocks one after the other
+-- the numbers of 16 blocks one after the other
 abbrev pub wide : ℕ → Hull → HullStretch
-wide w outer = record { from = w * 4096; to = w * 4096 + 4096; outer = outer }
+wide w outer = record { from = w * 256; to = w * 256 + 256; outer = outer }
+
+-- the numbers of 256 blocks one after the other
+abbrev pub vast : ℕ → Hull → HullStretch
+vast v outer = record { from = v * 4096; to = v * 4096 + 4096; outer = outer }
 
 -- what the bounds of a block lie within, those of each of its numbers lie within
 abbrev pub AreBlocks : List (Option Hull) → List (Option Hull) → Type 0

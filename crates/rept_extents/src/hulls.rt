@@ -2,16 +2,19 @@
 
 ghost use Rattle.std.specs.Prelude.{◌≡◌, ◌≤◌, ◌<◌, ◌+◌, true, length, IfOk};
 ghost use Rattle.rept_extents.specs.declared.hulls.Hull.{Hull};
-ghost use Rattle.rept_extents.specs.Hulls.{LiesIn, LieIn, block, wide, AreBlocks};
+ghost use Rattle.rept_extents.specs.Hulls.{LiesIn, LieIn, block, wide, vast, AreBlocks};
 
 use std::alloc::{AllocError as OutOfMemory, Global};
 use std::marker::Model;
 
 /// So many numbers have bounds together.
-const BLOCK: u32 = 64;
+const BLOCK: u32 = 16;
 
-/// And so many, which are 64 blocks.
-const WIDE: u32 = 4096;
+/// And so many, which are 16 blocks.
+const WIDE: u32 = 256;
+
+/// And so many, which are 16 times as many.
+const VAST: u32 = 4096;
 
 /// Bounds of numbers.
 #[derive(Clone, Copy)]
@@ -22,12 +25,13 @@ pub struct Hull {
     pub most: u32,
 }
 
-/// The bounds of each number, if it has some, of each 64 of them one after the other, and of each 64 such blocks. Contracts see a list.
+/// The bounds of each number, if it has some, of each 16 of them one after the other, of each 16 such blocks, and of each 16 of those. Contracts see a list.
 #[derive(Drop)]
 pub struct Hulls {
     list: Vec<Option<Hull>>,
     blocks: Vec<Option<Hull>>,
     wides: Vec<Option<Hull>>,
+    vasts: Vec<Option<Hull>>,
 }
 
 impl Model for Hulls {
@@ -39,7 +43,7 @@ impl Model for Hulls {
 
     ghost view = { λ h. h.list.items };
 
-    ghost invariant = { λ h. record { blocks : AreBlocks h.blocks.items h.list.items; wides : AreBlocks h.wides.items h.blocks.items } };
+    ghost invariant = { λ h. record { blocks : AreBlocks h.blocks.items h.list.items; wides : AreBlocks h.wides.items h.blocks.items; vasts : AreBlocks h.vasts.items h.wides.items } };
 }
 
 /// Bounds of both, where both have some.
@@ -71,11 +75,11 @@ fn lies_in(inner: Option<Hull>, outer: Hull) -> bool
 
 /// The bounds of the numbers of a block, where each has some.
 fn block_of(list: &[Option<Hull>], from: usize) -> Option<Hull>
-    requires { from + 64 ≤ length list.now }
-    ensures { (outer : Hull) → LiesIn result outer → LieIn list.now (record { from = from; to = from + 64; outer = outer }) }
+    requires { from + 16 ≤ length list.now }
+    ensures { (outer : Hull) → LiesIn result outer → LieIn list.now (record { from = from; to = from + 16; outer = outer }) }
 {
     let mut hull = list[from];
-    for number in from + 1..from + 64 {
+    for number in from + 1..from + 16 {
         hull = both(hull, list[number]);
     }
     hull
@@ -86,8 +90,8 @@ fn blocks_of(alloc: Global, list: &[Option<Hull>]) -> Result<Vec<Option<Hull>>, 
     ensures { IfOk result (λ v. AreBlocks v.items list.now) }
 {
     let mut blocks = Vec::new(alloc);
-    for number in 0..list.len() / 64 {
-        blocks.push(block_of(list, number * 64))?;
+    for number in 0..list.len() / 16 {
+        blocks.push(block_of(list, number * 16))?;
     }
     Ok(blocks)
 }
@@ -99,10 +103,12 @@ impl Hulls {
     {
         let blocks = blocks_of(alloc, &list)?;
         let wides = blocks_of(alloc, &blocks)?;
+        let vasts = blocks_of(alloc, &wides)?;
         Ok(Hulls {
             list,
             blocks,
             wides,
+            vasts,
         })
     }
 
@@ -126,7 +132,7 @@ impl Hulls {
         }
     }
 
-    /// Whether all numbers of 64 blocks one after the other have bounds that lie within others.
+    /// Whether all numbers of 16 blocks one after the other have bounds that lie within others.
     fn has_wide(&self, number: u32, outer: Hull) -> bool
         ensures { result ≡ true → LieIn self.now (wide number outer) }
     {
@@ -136,14 +142,27 @@ impl Hulls {
         }
     }
 
-    /// The number up to which a step leads from one that is below another one: the end of the block, or of the 64 blocks, that begin there, or the next number. Where the bounds don't lie within others
-    /// it leads nowhere.
+    /// Whether all numbers of 256 blocks one after the other have bounds that lie within others.
+    fn has_vast(&self, number: u32, outer: Hull) -> bool
+        ensures { result ≡ true → LieIn self.now (vast number outer) }
+    {
+        match self.vasts.get(number as usize) {
+            Some(hull) => lies_in(*hull, outer),
+            None => false,
+        }
+    }
+
+    /// The number up to which a step leads from one that is below another one: the end of the 256 blocks, the 16 blocks or the block that begin there, or the next number. Where the bounds
+    /// don't lie within others it leads nowhere.
     fn after(&self, number: u32, to: u32, outer: Hull) -> u32
         requires { number < to }
         ensures from { number ≤ result }
         ensures to { result ≤ to }
         ensures all { LieIn self.now (record { from = number; to = result; outer = outer }) }
     {
+        if number % VAST == 0 && to - number >= VAST && self.has_vast(number / VAST, outer) {
+            return number + VAST;
+        }
         if number % WIDE == 0 && to - number >= WIDE && self.has_wide(number / WIDE, outer) {
             return number + WIDE;
         }
@@ -163,6 +182,9 @@ impl Hulls {
         ensures to { result ≤ number }
         ensures all { LieIn self.now (record { from = result; to = number; outer = outer }) }
     {
+        if number % VAST == 0 && number - from >= VAST && self.has_vast(number / VAST - 1, outer) {
+            return number - VAST;
+        }
         if number % WIDE == 0 && number - from >= WIDE && self.has_wide(number / WIDE - 1, outer) {
             return number - WIDE;
         }
