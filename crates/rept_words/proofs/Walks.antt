@@ -5,8 +5,8 @@ use Rattle.std.specs.List.{list_all}
 use Rattle.std.specs.Str.{bytes_eq}
 use Rattle.std.specs.Option.{option_and_then}
 use Rattle.std.proofs.lemmas.Bool.{leb-true}
-use Rattle.clap.specs.Words.{Row, Rule, Text, App, Shape, new_rule, is_simple, subcommand_of, fault_of, is_simple_and_free, Kinds}
-use Rattle.clap.specs.Walk.{Held, Names, Step, Waiting, Walk, after_step, arg_by_index, finished, is_multiple, next_position, nothing_held, positional_held, rows_after, settled, to_positional, walk, walk_from, walked, word_met}
+use Rattle.clap.specs.Words.{Rule, Text, App, Shape, new_rule, is_simple, subcommand_of, fault_of, is_simple_and_free, Kinds}
+use Rattle.clap.specs.Walk.{Held, Names, Walk, after_step, arg_by_index, finished, is_multiple, next_position, nothing_held, positional_held, rows_after, settled, to_positional, walk, walk_from, walked, word_met}
 use Rattle.clap.specs.Walk.Step.{value}
 use Rattle.clap.specs.Walk.Waiting.{idle, positional}
 use Rattle.clap.specs.Simple.{built, entered, names_of, new_shape}
@@ -19,7 +19,7 @@ use Rattle.rept_words.specs.CommandLine.{rept_app}
 use Rattle.rept_number.specs.Numbers.{decimal_of}
 use Rattle.rept_words.specs.Words.{is_plain, domain_of, plain_meaning, meaning_of}
 use Rattle.rept_words.specs.Words.Meaning.{Open}
-use Rattle.rept_words.specs.Found.{found_meaning, is_screened}
+use Rattle.rept_words.specs.Found.{found_meaning, is_command, is_screened}
 use Rattle.rept_words.specs.declared.request.Domain.{Domain}
 use Rattle.rept_words.specs.declared.request.Domain.TheVariants as domain
 
@@ -116,7 +116,7 @@ turn c p b bs e = ap (λ m. after_step c (b ∷ bs) (walk_of p) m.0 m.1) (met_pl
 fault_of_turn : (s : Shape) (p : Place) (b : ℕ) (bs : List ℕ) → nat_eq b 45 ≡ false → turn_fault s [] (walk_of p) (b ∷ bs) ≡ step_fault s p.position p.held value
 fault_of_turn s p b bs e =
     ap (λ k. or_else k (let m = word_met s.rules [] p.is_trailing (cond p.many positional idle) p.position (b ∷ bs) p.held in step_fault s p.position m.0 m.1)) (plain_fault s p.is_trailing p.many p.held b bs e)
-        ∙ ap (λ m. step_fault s p.position m.0 m.1) (met_plain s.rules p.is_trailing p.many p.position p.held b bs e)
+    ∙ ap (λ m. step_fault s p.position m.0 m.1) (met_plain s.rules p.is_trailing p.many p.position p.held b bs e)
 
 walk_placed : (c : List Rule) (p : Place) (ws : List Text) → AllPlain ws → fold (walked c []) (walk_of p) ws ≡ walk_of (placed c p ws)
 walk_placed c p [] none = refl
@@ -127,7 +127,7 @@ unfolding walk_fault
 fault_placed s p [] none = refl
 fault_placed s p (w ∷ ws) (more (plain e) es) =
     ap (λ k. or_else k (walk_fault s [] (walked s.rules [] (walk_of p) w) ws)) (fault_of_turn s p _ _ e)
-        ∙ ap (or_else (step_fault s p.position p.held value)) (ap (λ k. walk_fault s [] k ws) (turn s.rules p _ _ e) ∙ fault_placed s (after_word s.rules w p) ws es)
+    ∙ ap (or_else (step_fault s p.position p.held value)) (ap (λ k. walk_fault s [] k ws) (turn s.rules p _ _ e) ∙ fault_placed s (after_word s.rules w p) ws es)
 
 abbrev begin : Place
 begin = record { held = nothing_held; many = false; position = 1; is_trailing = false }
@@ -142,7 +142,7 @@ fault_after s ws = leaf_fault s (place_fault s begin ws) (placed s.rules begin w
 leaf_plain : (s : Shape) (ws : List Text) → AllPlain ws → level_fault s [] nothing_held ws false [] ≡ fault_after s ws
 leaf_plain s ws a =
     ap (λ k. leaf_fault s k (walk s.rules [] nothing_held ws).held) (fault_placed s begin ws a)
-        ∙ ap (λ w. leaf_fault s (place_fault s begin ws) w.held) (walk_placed s.rules begin ws a)
+    ∙ ap (λ w. leaf_fault s (place_fault s begin ws) w.held) (walk_placed s.rules begin ws a)
 
 rows_plain : (c : List Rule) (ws : List Text) → AllPlain ws → rows_after c [] ws ≡ finished c (placed c begin ws).held
 rows_plain c ws a = ap (λ w. finished c w.held) (walk_placed c begin ws a)
@@ -236,7 +236,7 @@ all_fault : (v : Verb) (ws : List Text) → walk_fault program.top (names_of pro
 unfolding walk_fault
 all_fault v ws =
     ap (λ k. or_else k (walk_fault program.top (names_of program) (walked [] (names_of program) (walk_from nothing_held) (name_of v)) ws)) (first_fault v)
-        ∙ ap (λ w. walk_fault program.top (names_of program) w ws) (first_met v) ∙ passes_fault program.top (names_of program) nothing_held (name_of v) [] ws
+    ∙ ap (λ w. walk_fault program.top (names_of program) w ws) (first_met v) ∙ passes_fault program.top (names_of program) nothing_held (name_of v) [] ws
 
 enters : (v : Verb) (ws : List Text) → entered program (Some (name_of v, ws)) ≡ Some (name_of v, rows_after (words_of v) [] ws)
 enters (open_files domain.Ranges) ws = refl
@@ -258,7 +258,7 @@ or_none (x ∷ xs) = refl
 fault_is : (v : Verb) (ws : List Text) → AllPlain ws → fault_of rept_app (name_of v ∷ ws) ≡ fault_after (leaf (name_of v) (words_of v)) ws
 fault_is v ws a =
     ap (λ k. top_fault program k (begun (name_of v) ws)) (all_fault v ws) ∙ ap (top_fault program []) (all_met v ws) ∙ fault_below v ws
-        ∙ or_none (level_fault (leaf (name_of v) (words_of v)) [] nothing_held ws false []) ∙ leaf_plain (leaf (name_of v) (words_of v)) ws a
+    ∙ or_none (level_fault (leaf (name_of v) (words_of v)) [] nothing_held ws false []) ∙ leaf_plain (leaf (name_of v) (words_of v)) ws a
 
 found_is : (v : Verb) (ws : List Text) → AllPlain ws → subcommand_of rept_app (name_of v ∷ ws) ≡ Some (name_of v, finished (words_of v) (placed (words_of v) begin ws).held)
 found_is v ws a = ap (λ w. entered program w.stopped) (all_met v ws) ∙ enters v ws ∙ ap (λ r. Some (name_of v, r)) (rows_plain (words_of v) ws a)
@@ -346,10 +346,7 @@ maps (w ∷ x ∷ y ∷ z ∷ v ∷ u ∷ ws) a h = absurd (omega arith)
 abbrev IsNamed : Text → Type 0
 IsNamed first = (bytes_eq first (codes "open") ≡ true) ⊎ (bytes_eq first (codes "bits") ≡ true) ⊎ (bytes_eq first (codes "maps") ≡ true) ⊎ (bytes_eq first (codes "self") ≡ true)
 
-abbrev named : Text → Bool
-named first = bytes_eq first (codes "open") || bytes_eq first (codes "bits") || bytes_eq first (codes "maps") || bytes_eq first (codes "self")
-
-named_by : (first : Text) → named first ≡ true → IsNamed first
+named_by : (first : Text) → is_command first ≡ true → IsNamed first
 named_by first h = by_last (one_true (bytes_eq first (codes "open") || bytes_eq first (codes "bits") || bytes_eq first (codes "maps")) (bytes_eq first (codes "self")) h)
   where
     by_two : (bytes_eq first (codes "open") ≡ true) ⊎ (bytes_eq first (codes "bits") ≡ true) → IsNamed first
@@ -373,10 +370,10 @@ by_first first ws (inr (inr (inr h))) bare few = let is : first ≡ codes "self"
 pub screened : (words : List Text) → is_screened words ≡ true → Outcome words
 screened [] h = let bad : ⊥ = cc in absurd bad
 screened (first ∷ ws) h =
-    let k = both_true (named first) (nat_le (length ws) 5 && list_all is_plain ws) h in
+    let k = both_true (is_command first) (nat_le (length ws) 5 && list_all is_plain ws) h in
     let m = both_true (nat_le (length ws) 5) (list_all is_plain ws) k.1 in by_first first ws (named_by first k.0) (all_plain ws m.1) (leb-true (length ws) 5 m.0)
 
-plain_first : (first : Text) → named first ≡ true → is_plain first ≡ true
+plain_first : (first : Text) → is_command first ≡ true → is_plain first ≡ true
 plain_first [] h = let bad : ⊥ = cc in absurd bad
 plain_first (b ∷ bs) h = by (named_by (b ∷ bs) h)
   where
@@ -390,7 +387,7 @@ plain_first (b ∷ bs) h = by (named_by (b ∷ bs) h)
 pub screened_meaning : (words : List Text) → is_screened words ≡ true → meaning_of words ≡ plain_meaning words
 screened_meaning [] h = let bad : ⊥ = cc in absurd bad
 screened_meaning (first ∷ ws) h =
-    let k = both_true (named first) (nat_le (length ws) 5 && list_all is_plain ws) h in
+    let k = both_true (is_command first) (nat_le (length ws) 5 && list_all is_plain ws) h in
     let m = both_true (nat_le (length ws) 5) (list_all is_plain ws) k.1 in
     let all : list_all is_plain (first ∷ ws) ≡ true = rw (plain_first first k.0, m.1) refl in
     ap (λ q. cond q (plain_meaning (first ∷ ws)) None) all
