@@ -1,7 +1,7 @@
 //! Where a move leads to.
 
 /// Why a move stops.
-#[derive(Clone, Copy, Debug, PartialEq, Eq)]
+#[derive(Clone, Copy)]
 pub enum Stop {
     /// After the step, or at a breakpoint, or where rows of several threads may have written a watched byte and none is named.
     Step,
@@ -14,7 +14,7 @@ pub enum Stop {
 }
 
 /// The point of its thread at which a move stops, and why.
-#[derive(Clone, Copy, Debug, PartialEq, Eq)]
+#[derive(Clone, Copy)]
 pub struct Halt {
     /// the point, 0 to n
     pub point: u32,
@@ -23,7 +23,7 @@ pub struct Halt {
 }
 
 /// A write of a byte, or one that may be.
-#[derive(Clone, Copy, Debug, PartialEq, Eq)]
+#[derive(Clone, Copy)]
 pub struct Written {
     /// the last point of a thread before it
     pub point: u32,

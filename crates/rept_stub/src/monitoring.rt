@@ -17,7 +17,7 @@ use std::alloc::Global;
 const MOST_ROWS: u32 = 256;
 
 /// What a line asks for.
-#[derive(Clone, Copy, Debug, PartialEq, Eq)]
+#[derive(Clone, Copy)]
 pub enum Asked {
     /// `signal`: the signal that ended the process.
     Signal,

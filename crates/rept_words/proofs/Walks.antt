@@ -1,19 +1,25 @@
 -- What `clap` does with plain words after a subcommand.
-use Rattle.std.proofs.Common.{◌≡◌, ℕ, List, [], ◌∷◌, Bool, true, false, nat_eq, ◌++◌, ◌≤◌, length, cond, sym, arith, refl, codes, rules, ap, ◌∙◌, inl, inr, subst}
-use Rattle.std.specs.Prelude.{◌⊎◌, None, Some, not, ◌&&◌, ◌||◌, nat_le}
+use Rattle.std.proofs.Common.{◌≡◌, ℕ, List, [], ◌∷◌, Bool, true, false, nat_eq, ◌++◌, ◌≤◌, length, cond, sym, arith, refl, codes, rules, ap, ◌∙◌, inl, inr, subst, append_assoc, append-nil}
+use Rattle.std.specs.Prelude.{◌⊎◌, Option, None, Some, not, ◌&&◌, ◌||◌, nat_le, fold, is_some}
 use Rattle.std.specs.List.{list_all}
 use Rattle.std.specs.Str.{bytes_eq}
 use Rattle.std.specs.Option.{option_and_then}
 use Rattle.std.proofs.lemmas.Bool.{leb-true}
-use Rattle.clap.specs.Words.{Row, Rule, Text, is_simple, subcommand_of, fault_of, is_simple_and_free, Kinds}
-use Rattle.clap.specs.Walk.{reading_by}
-use Rattle.clap.specs.declared.parser.matches.ValueSource.TheVariants.{CommandLine}
+use Rattle.clap.specs.Words.{Rule, Text, App, Shape, new_rule, is_simple, subcommand_of, fault_of, is_simple_and_free, Kinds}
+use Rattle.clap.specs.Walk.{Held, Names, Walk, after_step, arg_by_index, finished, is_multiple, next_position, nothing_held, positional_held, rows_after, settled, to_positional, walk, walk_from, walked, word_met}
+use Rattle.clap.specs.Walk.Step.{value}
+use Rattle.clap.specs.Walk.Waiting.{idle, positional}
+use Rattle.clap.specs.Simple.{built, entered, names_of, new_shape}
+use Rattle.clap.specs.Faults.{check_fault, defaults_fault, entered_fault, level_fault, settle_fault, step_fault, turn_fault, walk_fault, word_fault}
+use Rattle.clap.specs.Kinds.{or_else}
+use Rattle.clap.specs.declared.builder.ArgAction.TheVariants.{Set}
+use Rattle.clap.specs.declared.builder.value_parser.ValueParser.TheVariants.{String}
 use Rattle.clap.proofs.OnLiterals.{clap_on_literals}
-use Rattle.rept_words.specs.CommandLine.{rept_app, needed, other}
+use Rattle.rept_words.specs.CommandLine.{rept_app}
 use Rattle.rept_number.specs.Numbers.{decimal_of}
 use Rattle.rept_words.specs.Words.{is_plain, domain_of, plain_meaning, meaning_of}
 use Rattle.rept_words.specs.Words.Meaning.{Open}
-use Rattle.rept_words.specs.Found.{found_meaning, is_screened}
+use Rattle.rept_words.specs.Found.{found_meaning, is_command, is_screened}
 use Rattle.rept_words.specs.declared.request.Domain.{Domain}
 use Rattle.rept_words.specs.declared.request.Domain.TheVariants as domain
 
@@ -61,216 +67,286 @@ clash : (k : Kinds) → k ≡ [] → has_fault k ≡ true → ⊥
 clash [] e h = cc
 clash (x ∷ xs) e h = cc
 
--- a word that was given
-abbrev row : Rule → Text → Row
-row rule text = record { id = rule.id; values = text ∷ []; count = None; source = Some CommandLine; reading = reading_by rule }
+-- ---- plain words after a subcommand: each goes to the positional whose turn it is
+
+-- where the walk over them stands
+record Place : Type 0 where
+  held : Held
+  many : Bool
+  position : ℕ
+  is_trailing : Bool
+
+abbrev walk_of : Place → Walk
+walk_of p = record { held = p.held; waiting = cond p.many positional idle; position = p.position; is_trailing = p.is_trailing; stopped = None }
+
+abbrev next_place : List Rule → Option Rule → Text → Place → Place
+next_place c None word p = p
+next_place c (Some a) word p = record { held = positional_held c a word p.held; many = is_multiple a; position = next_position a p.position; is_trailing = p.is_trailing || a.trailing_var_arg }
+
+abbrev after_word : List Rule → Text → Place → Place
+after_word c word p = next_place c (arg_by_index c p.position) word p
+
+abbrev placed : List Rule → Place → List Text → Place
+placed c p [] = p
+placed c p (w ∷ ws) = placed c (after_word c w p) ws
+
+abbrev place_fault : Shape → Place → List Text → Kinds
+place_fault s p [] = []
+place_fault s p (w ∷ ws) = or_else (step_fault s p.position p.held value) (place_fault s (after_word s.rules w p) ws)
+
+-- a plain word is one for a positional
+met_plain : (c : List Rule) (trailing many : Bool) (position : ℕ) (h : Held) (b : ℕ) (bs : List ℕ) → nat_eq b 45 ≡ false → word_met c [] trailing (cond many positional idle) position (b ∷ bs) h ≡ (h, value)
+met_plain c true many position h b bs e = refl
+met_plain c false true position h b bs e = rw (e, e) refl
+met_plain c false false position h b bs e = rw (e, e) refl
+
+plain_fault : (s : Shape) (trailing many : Bool) (h : Held) (b : ℕ) (bs : List ℕ) → nat_eq b 45 ≡ false → word_fault s [] trailing (cond many positional idle) (b ∷ bs) h ≡ []
+plain_fault s true many h b bs e = refl
+plain_fault s false true h b bs e = rw (e, e) refl
+plain_fault s false false h b bs e = rw (e, e) refl
+
+to_next : (c : List Rule) (a : Option Rule) (word : Text) (p : Place) → to_positional c a word (walk_of p) p.held ≡ walk_of (next_place c a word p)
+to_next c None word p = refl
+to_next c (Some a) word p = refl
+
+turn : (c : List Rule) (p : Place) (b : ℕ) (bs : List ℕ) → nat_eq b 45 ≡ false → walked c [] (walk_of p) (b ∷ bs) ≡ walk_of (after_word c (b ∷ bs) p)
+unfolding walked
+turn c p b bs e = ap (λ m. after_step c (b ∷ bs) (walk_of p) m.0 m.1) (met_plain c p.is_trailing p.many p.position p.held b bs e) ∙ to_next c (arg_by_index c p.position) (b ∷ bs) p
+
+fault_of_turn : (s : Shape) (p : Place) (b : ℕ) (bs : List ℕ) → nat_eq b 45 ≡ false → turn_fault s [] (walk_of p) (b ∷ bs) ≡ step_fault s p.position p.held value
+fault_of_turn s p b bs e =
+    ap (λ k. or_else k (let m = word_met s.rules [] p.is_trailing (cond p.many positional idle) p.position (b ∷ bs) p.held in step_fault s p.position m.0 m.1)) (plain_fault s p.is_trailing p.many p.held b bs e)
+    ∙ ap (λ m. step_fault s p.position m.0 m.1) (met_plain s.rules p.is_trailing p.many p.position p.held b bs e)
+
+walk_placed : (c : List Rule) (p : Place) (ws : List Text) → AllPlain ws → fold (walked c []) (walk_of p) ws ≡ walk_of (placed c p ws)
+walk_placed c p [] none = refl
+walk_placed c p (w ∷ ws) (more (plain e) es) = ap (λ k. fold (walked c []) k ws) (turn c p _ _ e) ∙ walk_placed c (after_word c w p) ws es
+
+fault_placed : (s : Shape) (p : Place) (ws : List Text) → AllPlain ws → walk_fault s [] (walk_of p) ws ≡ place_fault s p ws
+unfolding walk_fault
+fault_placed s p [] none = refl
+fault_placed s p (w ∷ ws) (more (plain e) es) =
+    ap (λ k. or_else k (walk_fault s [] (walked s.rules [] (walk_of p) w) ws)) (fault_of_turn s p _ _ e)
+    ∙ ap (or_else (step_fault s p.position p.held value)) (ap (λ k. walk_fault s [] k ws) (turn s.rules p _ _ e) ∙ fault_placed s (after_word s.rules w p) ws es)
+
+abbrev begin : Place
+begin = record { held = nothing_held; many = false; position = 1; is_trailing = false }
+
+-- the fault of a command without subcommands whose walk has this fault and leads here
+abbrev leaf_fault : Shape → Kinds → Held → Kinds
+leaf_fault s fault end = or_else fault (or_else (settle_fault s.rules s.args_override_self end) (or_else (defaults_fault (settled s.rules end).rows s.rules) (check_fault s (finished s.rules end) false)))
+
+abbrev fault_after : Shape → List Text → Kinds
+fault_after s ws = leaf_fault s (place_fault s begin ws) (placed s.rules begin ws).held
+
+leaf_plain : (s : Shape) (ws : List Text) → AllPlain ws → level_fault s [] nothing_held ws false [] ≡ fault_after s ws
+leaf_plain s ws a =
+    ap (λ k. leaf_fault s k (walk s.rules [] nothing_held ws).held) (fault_placed s begin ws a)
+    ∙ ap (λ w. leaf_fault s (place_fault s begin ws) w.held) (walk_placed s.rules begin ws a)
+
+rows_plain : (c : List Rule) (ws : List Text) → AllPlain ws → rows_after c [] ws ≡ finished c (placed c begin ws).held
+rows_plain c ws a = ap (λ w. finished c w.held) (walk_placed c begin ws a)
+
+-- ---- from the program to its subcommand
+
+-- a walk that met a subcommand
+abbrev stopped_walk : Held → Text → List Text → Walk
+stopped_walk h name words = record { held = h; waiting = idle; position = 1; is_trailing = false; stopped = Some (name, words) }
+
+passes : (c : List Rule) (names : Names) (h : Held) (name : Text) (words ws : List Text) → fold (walked c names) (stopped_walk h name words) ws ≡ stopped_walk h name (words ++ ws)
+unfolding walked
+passes c names h name words [] = ap (stopped_walk h name) (sym (append-nil words))
+passes c names h name words (w ∷ ws) = passes c names h name (words ++ w ∷ []) ws ∙ ap (stopped_walk h name) (append_assoc words (w ∷ []) ws)
+
+passes_fault : (s : Shape) (names : Names) (h : Held) (name : Text) (words ws : List Text) → walk_fault s names (stopped_walk h name words) ws ≡ []
+unfolding walk_fault walked
+passes_fault s names h name words [] = refl
+passes_fault s names h name words (w ∷ ws) = passes_fault s names h name (words ++ w ∷ []) ws
+
+abbrev top_fault : App → Kinds → Walk → Kinds
+top_fault a fault end =
+    or_else fault (or_else (entered_fault a end.stopped) (or_else (settle_fault a.top.rules a.top.args_override_self end.held)
+    (or_else (defaults_fault (settled a.top.rules end.held).rows a.top.rules) (check_fault a.top (finished a.top.rules end.held) (is_some (entered a end.stopped))))))
+
+-- a word of a subcommand when the command was built
+abbrev slot : ℕ → Bool → Text → Rule
+slot i must id = record (new_rule id) { index = Some i; action = Some Set; range = Some (record { start_inclusive = 1; end_inclusive = 1 }); parser = Some String; required = must }
+
+abbrev leaf : Text → List Rule → Shape
+leaf name words = record (new_shape name) { rules = words; no_binary_name = true; disable_help_flag = true; disable_help_subcommand = true; is_built = true }
+
+abbrev files_words : List Rule
+files_words = slot 1 true (codes "exe") ∷ slot 2 true (codes "core") ∷ slot 3 true (codes "trace") ∷ slot 4 false (codes "from") ∷ []
+
+abbrev maps_words : List Rule
+maps_words = slot 1 true (codes "core") ∷ slot 2 true (codes "trace") ∷ slot 3 false (codes "from") ∷ []
+
+abbrev self_words : List Rule
+self_words = slot 1 true (codes "seed") ∷ slot 2 true (codes "steps") ∷ []
+
+abbrev program : App
+program = record {
+  top = record (new_shape (codes "rept")) { is_leaf = false; no_binary_name = true; disable_help_flag = true; disable_help_subcommand = true; subcommand_required = true; is_built = true };
+  subs = leaf (codes "open") files_words ∷ leaf (codes "bits") files_words ∷ leaf (codes "maps") maps_words ∷ leaf (codes "self") self_words ∷ [];
+}
+
+is_program : built rept_app ≡ program
+is_program = refl
+
+-- the first word, and the words that may come after it
+data Verb : Type 0 where
+  open_files : Domain → Verb
+  maps_files : Verb
+  self_made : Verb
+
+abbrev word_of : Domain → Text
+word_of domain.Ranges = codes "open"
+word_of domain.KnownBits = codes "bits"
+
+abbrev name_of : Verb → Text
+name_of (open_files d) = word_of d
+name_of maps_files = codes "maps"
+name_of self_made = codes "self"
+
+abbrev words_of : Verb → List Rule
+words_of (open_files d) = files_words
+words_of maps_files = maps_words
+words_of self_made = self_words
+
+abbrev begun : Text → List Text → Walk
+begun name ws = fold (walked [] (names_of program)) (walked [] (names_of program) (walk_from nothing_held) name) ws
+
+first_met : (v : Verb) → walked [] (names_of program) (walk_from nothing_held) (name_of v) ≡ stopped_walk nothing_held (name_of v) []
+unfolding walked
+first_met (open_files domain.Ranges) = refl
+first_met (open_files domain.KnownBits) = refl
+first_met maps_files = refl
+first_met self_made = refl
+
+first_fault : (v : Verb) → turn_fault program.top (names_of program) (walk_from nothing_held) (name_of v) ≡ []
+first_fault (open_files domain.Ranges) = refl
+first_fault (open_files domain.KnownBits) = refl
+first_fault maps_files = refl
+first_fault self_made = refl
+
+all_met : (v : Verb) (ws : List Text) → begun (name_of v) ws ≡ stopped_walk nothing_held (name_of v) ws
+all_met v ws = ap (λ w. fold (walked [] (names_of program)) w ws) (first_met v) ∙ passes [] (names_of program) nothing_held (name_of v) [] ws
+
+all_fault : (v : Verb) (ws : List Text) → walk_fault program.top (names_of program) (walk_from nothing_held) (name_of v ∷ ws) ≡ []
+unfolding walk_fault
+all_fault v ws =
+    ap (λ k. or_else k (walk_fault program.top (names_of program) (walked [] (names_of program) (walk_from nothing_held) (name_of v)) ws)) (first_fault v)
+    ∙ ap (λ w. walk_fault program.top (names_of program) w ws) (first_met v) ∙ passes_fault program.top (names_of program) nothing_held (name_of v) [] ws
+
+enters : (v : Verb) (ws : List Text) → entered program (Some (name_of v, ws)) ≡ Some (name_of v, rows_after (words_of v) [] ws)
+enters (open_files domain.Ranges) ws = refl
+enters (open_files domain.KnownBits) ws = refl
+enters maps_files ws = refl
+enters self_made ws = refl
+
+fault_below : (v : Verb) (ws : List Text) → top_fault program [] (stopped_walk nothing_held (name_of v) ws) ≡ or_else (level_fault (leaf (name_of v) (words_of v)) [] nothing_held ws false []) []
+unfolding defaults_fault
+fault_below (open_files domain.Ranges) ws = refl
+fault_below (open_files domain.KnownBits) ws = refl
+fault_below maps_files ws = refl
+fault_below self_made ws = refl
+
+or_none : (k : Kinds) → or_else k [] ≡ k
+or_none [] = refl
+or_none (x ∷ xs) = refl
+
+fault_is : (v : Verb) (ws : List Text) → AllPlain ws → fault_of rept_app (name_of v ∷ ws) ≡ fault_after (leaf (name_of v) (words_of v)) ws
+fault_is v ws a =
+    ap (λ k. top_fault program k (begun (name_of v) ws)) (all_fault v ws) ∙ ap (top_fault program []) (all_met v ws) ∙ fault_below v ws
+    ∙ or_none (level_fault (leaf (name_of v) (words_of v)) [] nothing_held ws false []) ∙ leaf_plain (leaf (name_of v) (words_of v)) ws a
+
+found_is : (v : Verb) (ws : List Text) → AllPlain ws → subcommand_of rept_app (name_of v ∷ ws) ≡ Some (name_of v, finished (words_of v) (placed (words_of v) begin ws).held)
+found_is v ws a = ap (λ w. entered program w.stopped) (all_met v ws) ∙ enters v ws ∙ ap (λ r. Some (name_of v, r)) (rows_plain (words_of v) ws a)
 
 -- what clap does with these words
 pub record Outcome (words : List Text) : Type 0 where
   pub takes_them : fault_of rept_app words ≡ [] → found_meaning (subcommand_of rept_app words) ≡ plain_meaning words
   pub refuses : (fault_of rept_app words ≡ [] → ⊥) → plain_meaning words ≡ None
 
-refused : (words : List Text) → has_fault (fault_of rept_app words) ≡ true → plain_meaning words ≡ None → Outcome words
-refused words bad nothing = record { takes_them = λ k. absurd (clash (fault_of rept_app words) k bad); refuses = λ _. nothing }
+refused : (v : Verb) (ws : List Text) → AllPlain ws → has_fault (fault_after (leaf (name_of v) (words_of v)) ws) ≡ true → plain_meaning (name_of v ∷ ws) ≡ None → Outcome (name_of v ∷ ws)
+refused v ws a bad nothing = record { takes_them = λ k. absurd (clash _ (sym (fault_is v ws a) ∙ k) bad); refuses = λ _. nothing }
 
-taken : (words : List Text) → fault_of rept_app words ≡ [] → found_meaning (subcommand_of rept_app words) ≡ plain_meaning words → Outcome words
-taken words right found = record { takes_them = λ _. found; refuses = λ k. absurd (k right) }
-
--- the first word for a domain
-abbrev word_of : Domain → Text
-word_of domain.Ranges = codes "open"
-word_of domain.KnownBits = codes "bits"
+taken : (v : Verb) (ws : List Text) → AllPlain ws → fault_after (leaf (name_of v) (words_of v)) ws ≡ []
+    → found_meaning (Some (name_of v, finished (words_of v) (placed (words_of v) begin ws).held)) ≡ plain_meaning (name_of v ∷ ws) → Outcome (name_of v ∷ ws)
+taken v ws a right found = record { takes_them = λ _. ap found_meaning (found_is v ws a) ∙ found; refuses = λ k. absurd (k (fault_is v ws a ∙ right)) }
 
 -- after `open` and `bits`
-wrong_none : (d : Domain) → has_fault (fault_of rept_app (word_of d ∷ [])) ≡ true
-unfolding clap_on_literals
-wrong_none domain.Ranges = refl
-wrong_none domain.KnownBits = refl
+files_three : (name e c t : Text) → fault_after (leaf name files_words) (e ∷ c ∷ t ∷ []) ≡ []
+unfolding defaults_fault
+files_three name e c t = refl
 
-wrong_one : (d : Domain) (e0 : ℕ) (e : List ℕ) → nat_eq e0 45 ≡ false → has_fault (fault_of rept_app (word_of d ∷ (e0 ∷ e) ∷ [])) ≡ true
-unfolding clap_on_literals
-wrong_one domain.Ranges e0 e he = rw (he, he) refl
-wrong_one domain.KnownBits e0 e he = rw (he, he) refl
+files_four : (name e c t f : Text) → fault_after (leaf name files_words) (e ∷ c ∷ t ∷ f ∷ []) ≡ []
+unfolding defaults_fault
+files_four name e c t f = refl
 
-wrong_two : (d : Domain) (e0 c0 : ℕ) (e c : List ℕ) → nat_eq e0 45 ≡ false → nat_eq c0 45 ≡ false → has_fault (fault_of rept_app (word_of d ∷ (e0 ∷ e) ∷ (c0 ∷ c) ∷ [])) ≡ true
-unfolding clap_on_literals
-wrong_two domain.Ranges e0 c0 e c he hc = rw (he, he) (rw (hc, hc) refl)
-wrong_two domain.KnownBits e0 c0 e c he hc = rw (he, he) (rw (hc, hc) refl)
+files_few : (name : Text) → has_fault (fault_after (leaf name files_words) []) ≡ true
+unfolding defaults_fault
+files_few name = refl
 
-wrong_five : (d : Domain) (e0 c0 t0 f0 g0 : ℕ) (e c t f g : List ℕ) → nat_eq e0 45 ≡ false → nat_eq c0 45 ≡ false → nat_eq t0 45 ≡ false → nat_eq f0 45 ≡ false → nat_eq g0 45 ≡ false
-    → has_fault (fault_of rept_app (word_of d ∷ (e0 ∷ e) ∷ (c0 ∷ c) ∷ (t0 ∷ t) ∷ (f0 ∷ f) ∷ (g0 ∷ g) ∷ [])) ≡ true
-unfolding clap_on_literals
-wrong_five domain.Ranges e0 c0 t0 f0 g0 e c t f g he hc ht hf hg = rw (he, he) (rw (hc, hc) (rw (ht, ht) (rw (hf, hf) (rw (hg, hg) refl))))
-wrong_five domain.KnownBits e0 c0 t0 f0 g0 e c t f g he hc ht hf hg = rw (he, he) (rw (hc, hc) (rw (ht, ht) (rw (hf, hf) (rw (hg, hg) refl))))
+files_one : (name e : Text) → has_fault (fault_after (leaf name files_words) (e ∷ [])) ≡ true
+unfolding defaults_fault
+files_one name e = refl
 
-right_three : (d : Domain) (e0 c0 t0 : ℕ) (e c t : List ℕ) → nat_eq e0 45 ≡ false → nat_eq c0 45 ≡ false → nat_eq t0 45 ≡ false → fault_of rept_app (word_of d ∷ (e0 ∷ e) ∷ (c0 ∷ c) ∷ (t0 ∷ t) ∷ []) ≡ []
-unfolding clap_on_literals
-right_three domain.Ranges e0 c0 t0 e c t he hc ht = rw (he, he) (rw (hc, hc) (rw (ht, ht) refl))
-right_three domain.KnownBits e0 c0 t0 e c t he hc ht = rw (he, he) (rw (hc, hc) (rw (ht, ht) refl))
+files_two : (name e c : Text) → has_fault (fault_after (leaf name files_words) (e ∷ c ∷ [])) ≡ true
+unfolding defaults_fault
+files_two name e c = refl
 
-right_four : (d : Domain) (e0 c0 t0 f0 : ℕ) (e c t f : List ℕ) → nat_eq e0 45 ≡ false → nat_eq c0 45 ≡ false → nat_eq t0 45 ≡ false → nat_eq f0 45 ≡ false
-    → fault_of rept_app (word_of d ∷ (e0 ∷ e) ∷ (c0 ∷ c) ∷ (t0 ∷ t) ∷ (f0 ∷ f) ∷ []) ≡ []
-unfolding clap_on_literals
-right_four domain.Ranges e0 c0 t0 f0 e c t f he hc ht hf = rw (he, he) (rw (hc, hc) (rw (ht, ht) (rw (hf, hf) refl)))
-right_four domain.KnownBits e0 c0 t0 f0 e c t f he hc ht hf = rw (he, he) (rw (hc, hc) (rw (ht, ht) (rw (hf, hf) refl)))
+files_five : (name e c t f g : Text) → has_fault (fault_after (leaf name files_words) (e ∷ c ∷ t ∷ f ∷ g ∷ [])) ≡ true
+files_five name e c t f g = refl
 
-abbrev rows_three : Text → Text → Text → List Row
-rows_three e c t = row (needed (codes "exe")) e ∷ row (needed (codes "core")) c ∷ row (needed (codes "trace")) t ∷ []
-
-rows_of_three : (d : Domain) (e0 c0 t0 : ℕ) (e c t : List ℕ) → nat_eq e0 45 ≡ false → nat_eq c0 45 ≡ false → nat_eq t0 45 ≡ false
-    → subcommand_of rept_app (word_of d ∷ (e0 ∷ e) ∷ (c0 ∷ c) ∷ (t0 ∷ t) ∷ []) ≡ Some (word_of d, rows_three (e0 ∷ e) (c0 ∷ c) (t0 ∷ t))
-unfolding clap_on_literals
-rows_of_three domain.Ranges e0 c0 t0 e c t he hc ht = rw (he, he) (rw (hc, hc) (rw (ht, ht) refl))
-rows_of_three domain.KnownBits e0 c0 t0 e c t he hc ht = rw (he, he) (rw (hc, hc) (rw (ht, ht) refl))
-
-rows_of_four : (d : Domain) (e0 c0 t0 f0 : ℕ) (e c t f : List ℕ) → nat_eq e0 45 ≡ false → nat_eq c0 45 ≡ false → nat_eq t0 45 ≡ false → nat_eq f0 45 ≡ false
-    → subcommand_of rept_app (word_of d ∷ (e0 ∷ e) ∷ (c0 ∷ c) ∷ (t0 ∷ t) ∷ (f0 ∷ f) ∷ []) ≡ Some (word_of d, rows_three (e0 ∷ e) (c0 ∷ c) (t0 ∷ t) ++ row (other (codes "from")) (f0 ∷ f) ∷ [])
-unfolding clap_on_literals
-rows_of_four domain.Ranges e0 c0 t0 f0 e c t f he hc ht hf = rw (he, he) (rw (hc, hc) (rw (ht, ht) (rw (hf, hf) refl)))
-rows_of_four domain.KnownBits e0 c0 t0 f0 e c t f he hc ht hf = rw (he, he) (rw (hc, hc) (rw (ht, ht) (rw (hf, hf) refl)))
-
-found_three : (d : Domain) (e c t : Text) → found_meaning (Some (word_of d, rows_three e c t)) ≡ plain_meaning (word_of d ∷ e ∷ c ∷ t ∷ [])
+found_three : (d : Domain) (e c t : Text) → found_meaning (Some (word_of d, finished files_words (placed files_words begin (e ∷ c ∷ t ∷ [])).held)) ≡ plain_meaning (word_of d ∷ e ∷ c ∷ t ∷ [])
 found_three domain.Ranges e c t = refl
 found_three domain.KnownBits e c t = refl
 
-found_four : (d : Domain) (e c t f : Text) → found_meaning (Some (word_of d, rows_three e c t ++ row (other (codes "from")) f ∷ [])) ≡ plain_meaning (word_of d ∷ e ∷ c ∷ t ∷ f ∷ [])
+found_four : (d : Domain) (e c t f : Text) → found_meaning (Some (word_of d, finished files_words (placed files_words begin (e ∷ c ∷ t ∷ f ∷ [])).held)) ≡ plain_meaning (word_of d ∷ e ∷ c ∷ t ∷ f ∷ [])
 found_four domain.Ranges e c t f = refl
 found_four domain.KnownBits e c t f = refl
 
+no_run : (d : Domain) (w x : Text) → plain_meaning (word_of d ∷ w ∷ x ∷ []) ≡ None
+no_run domain.Ranges w x = refl
+no_run domain.KnownBits w x = refl
+
 opens : (d : Domain) (ws : List Text) → AllPlain ws → length ws ≤ 5 → Outcome (word_of d ∷ ws)
-opens d [] none h = refused (word_of d ∷ []) (wrong_none d) refl
-opens d (w ∷ []) (more (plain p) none) h = refused (word_of d ∷ w ∷ []) (wrong_one d _ _ p) refl
-opens d (w ∷ x ∷ []) (more (plain p) (more (plain q) none)) h = refused (word_of d ∷ w ∷ x ∷ []) (wrong_two d _ _ _ _ p q) (no_run d w x)
-  where
-    no_run : (d : Domain) (w x : Text) → plain_meaning (word_of d ∷ w ∷ x ∷ []) ≡ None
-    no_run domain.Ranges w x = refl
-    no_run domain.KnownBits w x = refl
-opens d (w ∷ x ∷ y ∷ []) (more (plain p) (more (plain q) (more (plain r) none))) h =
-    taken (word_of d ∷ w ∷ x ∷ y ∷ []) (right_three d _ _ _ _ _ _ p q r) (ap found_meaning (rows_of_three d _ _ _ _ _ _ p q r) ∙ found_three d w x y)
-opens d (w ∷ x ∷ y ∷ z ∷ []) (more (plain p) (more (plain q) (more (plain r) (more (plain s) none)))) h =
-    taken (word_of d ∷ w ∷ x ∷ y ∷ z ∷ []) (right_four d _ _ _ _ _ _ _ _ p q r s) (ap found_meaning (rows_of_four d _ _ _ _ _ _ _ _ p q r s) ∙ found_four d w x y z)
-opens d (w ∷ x ∷ y ∷ z ∷ v ∷ []) (more (plain p) (more (plain q) (more (plain r) (more (plain s) (more (plain t) none))))) h =
-    refused (word_of d ∷ w ∷ x ∷ y ∷ z ∷ v ∷ []) (wrong_five d _ _ _ _ _ _ _ _ _ _ p q r s t) refl
+opens d [] a h = refused (open_files d) [] a (files_few (word_of d)) refl
+opens d (w ∷ []) a h = refused (open_files d) (w ∷ []) a (files_one (word_of d) w) refl
+opens d (w ∷ x ∷ []) a h = refused (open_files d) (w ∷ x ∷ []) a (files_two (word_of d) w x) (no_run d w x)
+opens d (w ∷ x ∷ y ∷ []) a h = taken (open_files d) (w ∷ x ∷ y ∷ []) a (files_three (word_of d) w x y) (found_three d w x y)
+opens d (w ∷ x ∷ y ∷ z ∷ []) a h = taken (open_files d) (w ∷ x ∷ y ∷ z ∷ []) a (files_four (word_of d) w x y z) (found_four d w x y z)
+opens d (w ∷ x ∷ y ∷ z ∷ v ∷ []) a h = refused (open_files d) (w ∷ x ∷ y ∷ z ∷ v ∷ []) a (files_five (word_of d) w x y z v) refl
 opens d (w ∷ x ∷ y ∷ z ∷ v ∷ u ∷ ws) a h = absurd (omega arith)
 
 -- after `self`
-bare_none : has_fault (fault_of rept_app (codes "self" ∷ [])) ≡ true
-unfolding clap_on_literals
-bare_none = refl
-
-bare_one : (e0 : ℕ) (e : List ℕ) → nat_eq e0 45 ≡ false → has_fault (fault_of rept_app (codes "self" ∷ (e0 ∷ e) ∷ [])) ≡ true
-unfolding clap_on_literals
-bare_one e0 e he = rw (he, he) refl
-
-right_two : (e0 c0 : ℕ) (e c : List ℕ) → nat_eq e0 45 ≡ false → nat_eq c0 45 ≡ false → fault_of rept_app (codes "self" ∷ (e0 ∷ e) ∷ (c0 ∷ c) ∷ []) ≡ []
-unfolding clap_on_literals
-right_two e0 c0 e c he hc = rw (he, he) (rw (hc, hc) refl)
-
-over_three : (e0 c0 t0 : ℕ) (e c t : List ℕ) → nat_eq e0 45 ≡ false → nat_eq c0 45 ≡ false → nat_eq t0 45 ≡ false
-    → has_fault (fault_of rept_app (codes "self" ∷ (e0 ∷ e) ∷ (c0 ∷ c) ∷ (t0 ∷ t) ∷ [])) ≡ true
-unfolding clap_on_literals
-over_three e0 c0 t0 e c t he hc ht = rw (he, he) (rw (hc, hc) (rw (ht, ht) refl))
-
-over_four : (e0 c0 t0 f0 : ℕ) (e c t f : List ℕ) → nat_eq e0 45 ≡ false → nat_eq c0 45 ≡ false → nat_eq t0 45 ≡ false → nat_eq f0 45 ≡ false
-    → has_fault (fault_of rept_app (codes "self" ∷ (e0 ∷ e) ∷ (c0 ∷ c) ∷ (t0 ∷ t) ∷ (f0 ∷ f) ∷ [])) ≡ true
-unfolding clap_on_literals
-over_four e0 c0 t0 f0 e c t f he hc ht hf = rw (he, he) (rw (hc, hc) (rw (ht, ht) refl))
-
-over_five : (e0 c0 t0 f0 g0 : ℕ) (e c t f g : List ℕ) → nat_eq e0 45 ≡ false → nat_eq c0 45 ≡ false → nat_eq t0 45 ≡ false → nat_eq f0 45 ≡ false → nat_eq g0 45 ≡ false
-    → has_fault (fault_of rept_app (codes "self" ∷ (e0 ∷ e) ∷ (c0 ∷ c) ∷ (t0 ∷ t) ∷ (f0 ∷ f) ∷ (g0 ∷ g) ∷ [])) ≡ true
-unfolding clap_on_literals
-over_five e0 c0 t0 f0 g0 e c t f g he hc ht hf hg = rw (he, he) (rw (hc, hc) (rw (ht, ht) refl))
-
-abbrev rows_two : Text → Text → List Row
-rows_two e c = row (needed (codes "seed")) e ∷ row (needed (codes "steps")) c ∷ []
-
-rows_of_two : (e0 c0 : ℕ) (e c : List ℕ) → nat_eq e0 45 ≡ false → nat_eq c0 45 ≡ false
-    → subcommand_of rept_app (codes "self" ∷ (e0 ∷ e) ∷ (c0 ∷ c) ∷ []) ≡ Some (codes "self", rows_two (e0 ∷ e) (c0 ∷ c))
-unfolding clap_on_literals
-rows_of_two e0 c0 e c he hc = rw (he, he) (rw (hc, hc) refl)
-
-found_two : (e c : Text) → found_meaning (Some (codes "self", rows_two e c)) ≡ plain_meaning (codes "self" ∷ e ∷ c ∷ [])
-found_two e c = refl
-
 makes : (ws : List Text) → AllPlain ws → length ws ≤ 5 → Outcome (codes "self" ∷ ws)
-makes [] none h = refused (codes "self" ∷ []) bare_none refl
-makes (w ∷ []) (more (plain p) none) h = refused (codes "self" ∷ w ∷ []) (bare_one _ _ p) refl
-makes (w ∷ x ∷ []) (more (plain p) (more (plain q) none)) h =
-    taken (codes "self" ∷ w ∷ x ∷ []) (right_two _ _ _ _ p q) (ap found_meaning (rows_of_two _ _ _ _ p q) ∙ found_two w x)
-makes (w ∷ x ∷ y ∷ []) (more (plain p) (more (plain q) (more (plain r) none))) h = refused (codes "self" ∷ w ∷ x ∷ y ∷ []) (over_three _ _ _ _ _ _ p q r) refl
-makes (w ∷ x ∷ y ∷ z ∷ []) (more (plain p) (more (plain q) (more (plain r) (more (plain s) none)))) h =
-    refused (codes "self" ∷ w ∷ x ∷ y ∷ z ∷ []) (over_four _ _ _ _ _ _ _ _ p q r s) refl
-makes (w ∷ x ∷ y ∷ z ∷ v ∷ []) (more (plain p) (more (plain q) (more (plain r) (more (plain s) (more (plain t) none))))) h =
-    refused (codes "self" ∷ w ∷ x ∷ y ∷ z ∷ v ∷ []) (over_five _ _ _ _ _ _ _ _ _ _ p q r s t) refl
+unfolding defaults_fault
+makes [] a h = refused self_made [] a refl refl
+makes (w ∷ []) a h = refused self_made (w ∷ []) a refl refl
+makes (w ∷ x ∷ []) a h = taken self_made (w ∷ x ∷ []) a refl refl
+makes (w ∷ x ∷ y ∷ []) a h = refused self_made (w ∷ x ∷ y ∷ []) a refl refl
+makes (w ∷ x ∷ y ∷ z ∷ []) a h = refused self_made (w ∷ x ∷ y ∷ z ∷ []) a refl refl
+makes (w ∷ x ∷ y ∷ z ∷ v ∷ []) a h = refused self_made (w ∷ x ∷ y ∷ z ∷ v ∷ []) a refl refl
 makes (w ∷ x ∷ y ∷ z ∷ v ∷ u ∷ ws) a h = absurd (omega arith)
 
 -- after `maps`
-maps_none : has_fault (fault_of rept_app (codes "maps" ∷ [])) ≡ true
-unfolding clap_on_literals
-maps_none = refl
-
-maps_one : (e0 : ℕ) (e : List ℕ) → nat_eq e0 45 ≡ false → has_fault (fault_of rept_app (codes "maps" ∷ (e0 ∷ e) ∷ [])) ≡ true
-unfolding clap_on_literals
-maps_one e0 e he = rw (he, he) refl
-
-maps_two : (e0 c0 : ℕ) (e c : List ℕ) → nat_eq e0 45 ≡ false → nat_eq c0 45 ≡ false → fault_of rept_app (codes "maps" ∷ (e0 ∷ e) ∷ (c0 ∷ c) ∷ []) ≡ []
-unfolding clap_on_literals
-maps_two e0 c0 e c he hc = rw (he, he) (rw (hc, hc) refl)
-
-maps_three : (e0 c0 t0 : ℕ) (e c t : List ℕ) → nat_eq e0 45 ≡ false → nat_eq c0 45 ≡ false → nat_eq t0 45 ≡ false → fault_of rept_app (codes "maps" ∷ (e0 ∷ e) ∷ (c0 ∷ c) ∷ (t0 ∷ t) ∷ []) ≡ []
-unfolding clap_on_literals
-maps_three e0 c0 t0 e c t he hc ht = rw (he, he) (rw (hc, hc) (rw (ht, ht) refl))
-
-maps_four : (e0 c0 t0 f0 : ℕ) (e c t f : List ℕ) → nat_eq e0 45 ≡ false → nat_eq c0 45 ≡ false → nat_eq t0 45 ≡ false → nat_eq f0 45 ≡ false
-    → has_fault (fault_of rept_app (codes "maps" ∷ (e0 ∷ e) ∷ (c0 ∷ c) ∷ (t0 ∷ t) ∷ (f0 ∷ f) ∷ [])) ≡ true
-unfolding clap_on_literals
-maps_four e0 c0 t0 f0 e c t f he hc ht hf = rw (he, he) (rw (hc, hc) (rw (ht, ht) (rw (hf, hf) refl)))
-
-maps_five : (e0 c0 t0 f0 g0 : ℕ) (e c t f g : List ℕ) → nat_eq e0 45 ≡ false → nat_eq c0 45 ≡ false → nat_eq t0 45 ≡ false → nat_eq f0 45 ≡ false → nat_eq g0 45 ≡ false
-    → has_fault (fault_of rept_app (codes "maps" ∷ (e0 ∷ e) ∷ (c0 ∷ c) ∷ (t0 ∷ t) ∷ (f0 ∷ f) ∷ (g0 ∷ g) ∷ [])) ≡ true
-unfolding clap_on_literals
-maps_five e0 c0 t0 f0 g0 e c t f g he hc ht hf hg = rw (he, he) (rw (hc, hc) (rw (ht, ht) (rw (hf, hf) refl)))
-
-abbrev core_rows : Text → Text → List Row
-core_rows c t = row (needed (codes "core")) c ∷ row (needed (codes "trace")) t ∷ []
-
-core_rows_of_two : (e0 c0 : ℕ) (e c : List ℕ) → nat_eq e0 45 ≡ false → nat_eq c0 45 ≡ false
-    → subcommand_of rept_app (codes "maps" ∷ (e0 ∷ e) ∷ (c0 ∷ c) ∷ []) ≡ Some (codes "maps", core_rows (e0 ∷ e) (c0 ∷ c))
-unfolding clap_on_literals
-core_rows_of_two e0 c0 e c he hc = rw (he, he) (rw (hc, hc) refl)
-
-core_rows_of_three : (e0 c0 t0 : ℕ) (e c t : List ℕ) → nat_eq e0 45 ≡ false → nat_eq c0 45 ≡ false → nat_eq t0 45 ≡ false
-    → subcommand_of rept_app (codes "maps" ∷ (e0 ∷ e) ∷ (c0 ∷ c) ∷ (t0 ∷ t) ∷ []) ≡ Some (codes "maps", core_rows (e0 ∷ e) (c0 ∷ c) ++ row (other (codes "from")) (t0 ∷ t) ∷ [])
-unfolding clap_on_literals
-core_rows_of_three e0 c0 t0 e c t he hc ht = rw (he, he) (rw (hc, hc) (rw (ht, ht) refl))
-
-found_core : (c t : Text) → found_meaning (Some (codes "maps", core_rows c t)) ≡ plain_meaning (codes "maps" ∷ c ∷ t ∷ [])
-found_core c t = refl
-
-found_core_from : (c t f : Text) → found_meaning (Some (codes "maps", core_rows c t ++ row (other (codes "from")) f ∷ [])) ≡ plain_meaning (codes "maps" ∷ c ∷ t ∷ f ∷ [])
-found_core_from c t f = refl
-
 maps : (ws : List Text) → AllPlain ws → length ws ≤ 5 → Outcome (codes "maps" ∷ ws)
-maps [] none h = refused (codes "maps" ∷ []) maps_none refl
-maps (w ∷ []) (more (plain p) none) h = refused (codes "maps" ∷ w ∷ []) (maps_one _ _ p) refl
-maps (w ∷ x ∷ []) (more (plain p) (more (plain q) none)) h =
-    taken (codes "maps" ∷ w ∷ x ∷ []) (maps_two _ _ _ _ p q) (ap found_meaning (core_rows_of_two _ _ _ _ p q) ∙ found_core w x)
-maps (w ∷ x ∷ y ∷ []) (more (plain p) (more (plain q) (more (plain r) none))) h =
-    taken (codes "maps" ∷ w ∷ x ∷ y ∷ []) (maps_three _ _ _ _ _ _ p q r) (ap found_meaning (core_rows_of_three _ _ _ _ _ _ p q r) ∙ found_core_from w x y)
-maps (w ∷ x ∷ y ∷ z ∷ []) (more (plain p) (more (plain q) (more (plain r) (more (plain s) none)))) h =
-    refused (codes "maps" ∷ w ∷ x ∷ y ∷ z ∷ []) (maps_four _ _ _ _ _ _ _ _ p q r s) refl
-maps (w ∷ x ∷ y ∷ z ∷ v ∷ []) (more (plain p) (more (plain q) (more (plain r) (more (plain s) (more (plain t) none))))) h =
-    refused (codes "maps" ∷ w ∷ x ∷ y ∷ z ∷ v ∷ []) (maps_five _ _ _ _ _ _ _ _ _ _ p q r s t) refl
+unfolding defaults_fault
+maps [] a h = refused maps_files [] a refl refl
+maps (w ∷ []) a h = refused maps_files (w ∷ []) a refl refl
+maps (w ∷ x ∷ []) a h = taken maps_files (w ∷ x ∷ []) a refl refl
+maps (w ∷ x ∷ y ∷ []) a h = taken maps_files (w ∷ x ∷ y ∷ []) a refl refl
+maps (w ∷ x ∷ y ∷ z ∷ []) a h = refused maps_files (w ∷ x ∷ y ∷ z ∷ []) a refl refl
+maps (w ∷ x ∷ y ∷ z ∷ v ∷ []) a h = refused maps_files (w ∷ x ∷ y ∷ z ∷ v ∷ []) a refl refl
 maps (w ∷ x ∷ y ∷ z ∷ v ∷ u ∷ ws) a h = absurd (omega arith)
 
 -- the same, of words that are screened
 abbrev IsNamed : Text → Type 0
 IsNamed first = (bytes_eq first (codes "open") ≡ true) ⊎ (bytes_eq first (codes "bits") ≡ true) ⊎ (bytes_eq first (codes "maps") ≡ true) ⊎ (bytes_eq first (codes "self") ≡ true)
 
-abbrev named : Text → Bool
-named first = bytes_eq first (codes "open") || bytes_eq first (codes "bits") || bytes_eq first (codes "maps") || bytes_eq first (codes "self")
-
-named_by : (first : Text) → named first ≡ true → IsNamed first
+named_by : (first : Text) → is_command first ≡ true → IsNamed first
 named_by first h = by_last (one_true (bytes_eq first (codes "open") || bytes_eq first (codes "bits") || bytes_eq first (codes "maps")) (bytes_eq first (codes "self")) h)
   where
     by_two : (bytes_eq first (codes "open") ≡ true) ⊎ (bytes_eq first (codes "bits") ≡ true) → IsNamed first
@@ -294,10 +370,10 @@ by_first first ws (inr (inr (inr h))) bare few = let is : first ≡ codes "self"
 pub screened : (words : List Text) → is_screened words ≡ true → Outcome words
 screened [] h = let bad : ⊥ = cc in absurd bad
 screened (first ∷ ws) h =
-    let k = both_true (named first) (nat_le (length ws) 5 && list_all is_plain ws) h in
+    let k = both_true (is_command first) (nat_le (length ws) 5 && list_all is_plain ws) h in
     let m = both_true (nat_le (length ws) 5) (list_all is_plain ws) k.1 in by_first first ws (named_by first k.0) (all_plain ws m.1) (leb-true (length ws) 5 m.0)
 
-plain_first : (first : Text) → named first ≡ true → is_plain first ≡ true
+plain_first : (first : Text) → is_command first ≡ true → is_plain first ≡ true
 plain_first [] h = let bad : ⊥ = cc in absurd bad
 plain_first (b ∷ bs) h = by (named_by (b ∷ bs) h)
   where
@@ -311,7 +387,7 @@ plain_first (b ∷ bs) h = by (named_by (b ∷ bs) h)
 pub screened_meaning : (words : List Text) → is_screened words ≡ true → meaning_of words ≡ plain_meaning words
 screened_meaning [] h = let bad : ⊥ = cc in absurd bad
 screened_meaning (first ∷ ws) h =
-    let k = both_true (named first) (nat_le (length ws) 5 && list_all is_plain ws) h in
+    let k = both_true (is_command first) (nat_le (length ws) 5 && list_all is_plain ws) h in
     let m = both_true (nat_le (length ws) 5) (list_all is_plain ws) k.1 in
     let all : list_all is_plain (first ∷ ws) ≡ true = rw (plain_first first k.0, m.1) refl in
     ap (λ q. cond q (plain_meaning (first ∷ ws)) None) all

@@ -38,12 +38,23 @@ maps_by rows = option_and_then (λ names. maps_with names (first_of (codes "from
 abbrev pub made_by : List Row → Option Meaning
 made_by rows = option_and_then (λ seed. option_and_then (λ steps. made_of seed steps) (first_of (codes "steps") rows)) (first_of (codes "seed") rows)
 
--- the meaning of the words that are found after a subcommand
+-- the meaning of the words that are found after a subcommand of this name
+abbrev pub meaning_after : Text → List Row → Option Meaning
+meaning_after name rows =
+    if bytes_eq name (codes "open") then open_by domain.Ranges rows
+    else if bytes_eq name (codes "bits") then open_by domain.KnownBits rows
+    else if bytes_eq name (codes "maps") then maps_by rows
+    else made_by rows
+
+-- the meaning of a subcommand that is found, with its words
 abbrev pub found_meaning : Option (Text × List Row) → Option Meaning
-found_meaning found =
-    option_and_then (λ p. if bytes_eq p.0 (codes "open") then open_by domain.Ranges p.1 else if bytes_eq p.0 (codes "bits") then open_by domain.KnownBits p.1 else if bytes_eq p.0 (codes "maps") then maps_by p.1 else made_by p.1) found
+found_meaning found = option_and_then (λ p. meaning_after p.0 p.1) found
+
+-- the word names a subcommand
+abbrev pub is_command : Text → Bool
+is_command word = bytes_eq word (codes "open") || bytes_eq word (codes "bits") || bytes_eq word (codes "maps") || bytes_eq word (codes "self")
 
 -- plain words after `open`, `bits`, `maps` or `self`, five of them at most
 abbrev pub is_screened : List (List ℕ) → Bool
 is_screened [] = false
-is_screened (first ∷ words) = (bytes_eq first (codes "open") || bytes_eq first (codes "bits") || bytes_eq first (codes "maps") || bytes_eq first (codes "self")) && (nat_le (length words) 5 && list_all is_plain words)
+is_screened (first ∷ words) = is_command first && (nat_le (length words) 5 && list_all is_plain words)

@@ -5,7 +5,7 @@ ghost use Rattle.std.specs.Option.{option_map, option_and_then};
 ghost use Rattle.std.specs.List.{list_all};
 ghost use Rattle.clap.specs.Words.{subcommand_rows_of, rows_of, found_of, first_of};
 ghost use Rattle.rept_words.specs.Asked.{asked_by, core_named_by, named_by};
-ghost use Rattle.rept_words.specs.Found.{core_names_by, found_meaning, is_screened, made_by, maps_by, maps_with, names_by, open_by, open_with};
+ghost use Rattle.rept_words.specs.Found.{core_names_by, found_meaning, is_command, is_screened, made_by, maps_by, maps_with, meaning_after, names_by, open_by, open_with};
 ghost use Rattle.rept_words.specs.Words.{is_plain, made_of, meaning_of, steps_of};
 
 use crate::command::rept_command;
@@ -41,15 +41,15 @@ fn is_screened(words: &[String]) -> bool
 {
     match words {
         [] => false,
-        [first, rest @ ..] => {
-            (first.as_str() == "open"
-                || first.as_str() == "bits"
-                || first.as_str() == "maps"
-                || first.as_str() == "self")
-                && rest.len() <= 5
-                && are_plain(rest)
-        }
+        [first, rest @ ..] => is_command(first.as_str()) && rest.len() <= 5 && are_plain(rest),
     }
+}
+
+/// Whether the word names a subcommand.
+fn is_command(word: &str) -> bool
+    ensures { result ≡ is_command word.now }
+{
+    word == "open" || word == "bits" || word == "maps" || word == "self"
 }
 
 /// Whether each word is plain: not empty, and without a leading hyphen.
@@ -77,17 +77,21 @@ fn is_plain_word(word: &[u8]) -> bool
 fn asked<'a>(matches: &ArgMatches<'a>) -> Option<Request<'a>>
     ensures { option_map asked_by result ≡ found_meaning (subcommand_rows_of matches.now) }
 {
-    let Some((name, found)) = matches.subcommand() else {
-        return None;
-    };
-    if name == "open" {
-        opened(Domain::Ranges, found)
-    } else if name == "bits" {
-        opened(Domain::KnownBits, found)
-    } else if name == "maps" {
-        mapped(found)
-    } else {
-        made(found)
+    match matches.subcommand() {
+        None => None,
+        Some((name, found)) => asked_after(name, found),
+    }
+}
+
+/// What the words that were found after a subcommand of this name ask for.
+fn asked_after<'a>(name: &str, found: &ArgMatches<'a>) -> Option<Request<'a>>
+    ensures { option_map asked_by result ≡ meaning_after name.now (rows_of (found_of found.now)) }
+{
+    match name {
+        "open" => opened(Domain::Ranges, found),
+        "bits" => opened(Domain::KnownBits, found),
+        "maps" => mapped(found),
+        _ => made(found),
     }
 }
 

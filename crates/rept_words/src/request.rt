@@ -1,7 +1,7 @@
 //! What can be asked for.
 
 /// The names of the files of a crash: executable, core file and instruction trace.
-#[derive(Clone, Copy, Debug, PartialEq, Eq)]
+#[derive(Clone, Copy, Debug)]
 pub struct FileNames<'a> {
     pub exe: &'a str,
     pub core: &'a str,
@@ -9,14 +9,14 @@ pub struct FileNames<'a> {
 }
 
 /// The names of the files of a crash whose core file lists the files of the program: core file and instruction trace.
-#[derive(Clone, Copy, Debug, PartialEq, Eq)]
+#[derive(Clone, Copy, Debug)]
 pub struct CoreNames<'a> {
     pub core: &'a str,
     pub trace: &'a str,
 }
 
 /// The abstract domain in which the values of registers are followed along the path.
-#[derive(Clone, Copy, Debug, PartialEq, Eq)]
+#[derive(Clone, Copy, Debug)]
 pub enum Domain {
     /// `open`: ranges.
     Ranges,
@@ -25,7 +25,7 @@ pub enum Domain {
 }
 
 /// What the words ask for.
-#[derive(Clone, Copy, Debug, PartialEq, Eq)]
+#[derive(Clone, Copy, Debug)]
 pub enum Request<'a> {
     /// `open EXE CORE TRACE [FROM]`, or `bits` with the same words: `from` is the number of the packet to begin from.
     Open {
