@@ -1,13 +1,12 @@
 use Rattle.std.proofs.Common.{◌≡◌, ℕ, ◌++◌, length, arith, ap, length-append}
 use Rattle.rept_trace.specs.Stream.{header}
 use Rattle.rept_trace.specs.Packets.{rest_of}
-use Rattle.tables_of_traces.proofs.paths.first_walk.Goals as goal
+use Rattle.tables_of_traces.proofs.paths.answer.Goals as goal
 
-pub walked-requires : goal.walked-requires
-walked-requires c =
+pub path-requires : goal.path-requires
+path-requires c =
     let halves = c.in-Ok.ensures.ok.0 in
     let bytes = (rest_of c.in-Ok.packets).bytes in
     let whole : length c.args.trace.now ≡ length (header halves ++ bytes) = ap (length {A = ℕ}) c.in-Ok.ensures.ok.1 in
     let parts = length-append (header halves) bytes in
-    let few = c.if-trace-ge4294967296.false in
-    omega (arith, whole, parts, few)
+    omega (arith, whole, parts, c.requires)

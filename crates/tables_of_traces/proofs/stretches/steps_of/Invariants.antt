@@ -1,7 +1,7 @@
 use Rattle.std.specs.List.{All}
 use Rattle.rept_steps.specs.Linked.{EndBefore}
 use Rattle.rept_encode.specs.Walkable.{IsStepped}
-use Rattle.tables_of_logs.proofs.steps.trace_of.Given as goal
+use Rattle.tables_of_traces.proofs.stretches.steps_of.Given as goal
 
 abbrev pub invariant-loop-step : goal.invariant-loop-step
 invariant-loop-step l = record {
