@@ -1,13 +1,12 @@
-//! The ports that the lines of the table ask.
+//! The ports in memory that the lines of the table ask.
 
-use crate::{streams, system};
+use crate::{names, streams};
 use rept_ports::{CalmShelf, MemShelf, MemSink, Shelf, Sink, write_all};
 use std::alloc::{AllocError, Global};
-use std::rt::Files;
-use test_lines::{Numbers, Table};
+use test_lines::Numbers;
 
 /// The names of files, which the first number of a line tells by their place.
-const NAMES: [&str; 9] = [
+const NAMES: [&str; 10] = [
     "",
     "a",
     "b",
@@ -17,6 +16,7 @@ const NAMES: [&str; 9] = [
     ".",
     "/dev/zero",
     "/dev/full",
+    "c",
 ];
 
 /// The name that a line tells.
@@ -39,24 +39,20 @@ pub fn loaded<S: Shelf>(alloc: Global, shelf: &mut S, n: &Numbers) -> Result<Str
     format!(in alloc; "{any:?}, {regular:?}")
 }
 
-/// A file that is being made, shelves of which one fails, and a sink.
+/// Shelves of which one fails, and a sink.
 #[derive(Drop)]
-pub struct Ports<'r, R> {
-    rt: &'r R,
-    file: Vec<u8>,
+pub struct Ports {
     calm: CalmShelf,
     failing: MemShelf,
     sink: MemSink,
 }
 
-impl<'r, R: Files> Ports<'r, R> {
-    /// The file and the shelves are empty, and the sink has no room.
-    pub fn new(alloc: Global, rt: &'r R) -> Result<Ports<'r, R>, AllocError> {
+impl Ports {
+    /// The shelves are empty, and the sink has no room.
+    pub fn new(alloc: Global) -> Result<Ports, AllocError> {
         let failing = MemShelf::new(alloc, &[])?;
         let sink = MemSink::new(alloc, 0, &[])?;
         Ok(Ports {
-            rt,
-            file: Vec::new(alloc),
             calm: CalmShelf::new(alloc),
             failing,
             sink,
@@ -64,7 +60,13 @@ impl<'r, R: Files> Ports<'r, R> {
     }
 
     /// Begins shelves or a sink, of which two calls fail, or gives the file a name on both shelves, and answers whether it was asked to.
-    fn take(&mut self, alloc: Global, asked: &str, n: &Numbers) -> Result<bool, AllocError> {
+    pub fn take(
+        &mut self,
+        alloc: Global,
+        file: &[u8],
+        asked: &str,
+        n: &Numbers,
+    ) -> Result<bool, AllocError> {
         match asked {
             "sink" => self.sink = MemSink::new(alloc, n.word(0) as usize, &two(n, 1))?,
             "shelf" => {
@@ -72,45 +74,44 @@ impl<'r, R: Files> Ports<'r, R> {
                 self.failing = MemShelf::new(alloc, &two(n, 0))?;
             }
             "shelve" => {
-                self.calm.put(name(n), self.file.as_slice())?;
-                self.failing.put(name(n), self.file.as_slice())?;
+                self.calm.put(name(n), file)?;
+                self.failing.put(name(n), file)?;
             }
             _ => return Ok(false),
         }
         Ok(true)
     }
 
-    /// Writes the file to the sink by one write, and tells what the sink has then.
-    fn write(&mut self, alloc: Global) -> Result<String, AllocError> {
-        let count = self.sink.write(self.file.as_slice());
-        format!(in alloc; "{count:?}, {:?}", self.sink.bytes())
+    /// What the shelves load and keep, the sink takes of the file by one write or by as many as it takes, and sources of it give.
+    pub fn answer(
+        &mut self,
+        alloc: Global,
+        file: &[u8],
+        asked: &str,
+        n: &Numbers,
+    ) -> Result<String, AllocError> {
+        match asked {
+            "load" => self.load(alloc, n),
+            "kept" => names::kept(alloc, &mut self.calm, n.known(0)),
+            "source" => streams::sources(alloc, file, n),
+            "lines" => streams::lines(alloc, file, n),
+            _ => self.write(alloc, file, asked == "whole"),
+        }
     }
 
-    /// The same of the whole file, by as many writes as it takes.
-    fn whole(&mut self, alloc: Global) -> Result<String, AllocError> {
-        let done = write_all(&mut self.sink, self.file.as_slice());
-        format!(in alloc; "{done:?}, {:?}", self.sink.bytes())
+    /// Writes the file to the sink, and tells what the sink has then.
+    fn write(&mut self, alloc: Global, file: &[u8], whole: bool) -> Result<String, AllocError> {
+        if whole {
+            let done = write_all(&mut self.sink, file);
+            return format!(in alloc; "{done:?}, {:?}", self.sink.bytes());
+        }
+        let count = self.sink.write(file);
+        format!(in alloc; "{count:?}, {:?}", self.sink.bytes())
     }
 
     fn load(&mut self, alloc: Global, n: &Numbers) -> Result<String, AllocError> {
         let calm = loaded(alloc, &mut self.calm, n)?;
         let failing = loaded(alloc, &mut self.failing, n)?;
         format!(in alloc; "{calm}; {failing}")
-    }
-}
-
-impl<'r, R: Files> Table for Ports<'r, R> {
-    fn answer(&mut self, alloc: Global, asked: &str, n: &Numbers) -> Result<String, AllocError> {
-        if test_bytes::make(alloc, &mut self.file, asked, n)? || self.take(alloc, asked, n)? {
-            return format!(in alloc; "{}", self.file.len());
-        }
-        match asked {
-            "load" => self.load(alloc, n),
-            "write" => self.write(alloc),
-            "whole" => self.whole(alloc),
-            "source" => streams::sources(alloc, self.file.as_slice(), n),
-            "lines" => streams::lines(alloc, self.file.as_slice(), n),
-            _ => system::answer(alloc, self.rt, asked, n),
-        }
     }
 }
