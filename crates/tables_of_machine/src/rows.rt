@@ -45,29 +45,33 @@ impl Rows {
         asked: &str,
         n: &Numbers,
     ) -> Result<String, AllocError> {
-        let (k, a) = (n.word(0), n.word(1));
-        let mut done = 0;
-        match asked {
-            "rows-from" | "rows-between" | "rows-meet" | "rows-free" => {
-                return self.found(alloc, asked, n);
-            }
-            "rows-below" => return format!(in alloc;
-                "{} of {}",
-                self.writings.past_hit(0, k, a),
-                self.writings.before(k)
+        match self.change(alloc, asked, n)? {
+            None => self.found(alloc, asked, n),
+            Some(done) => format!(in alloc;
+                "{} rows, {done} replaced, worn {}",
+                self.writings.len(),
+                self.writings.is_worn()
             ),
-            "rows-new" => *self = Rows::new(alloc, k)?,
+        }
+    }
+
+    /// Changes the list, and answers how many rows were replaced, if it was asked to.
+    fn change(
+        &mut self,
+        alloc: Global,
+        asked: &str,
+        n: &Numbers,
+    ) -> Result<Option<u32>, AllocError> {
+        match asked {
+            "rows-new" => *self = Rows::new(alloc, n.word(0))?,
             "rows-add" => self.add(n),
             "rows-fall" => self.add_falling(n),
-            "rows-replace" => done = self.replace(n),
+            "rows-replace" => return Ok(Some(self.replace(n))),
             "rows-index" => self.writings.index(),
-            _ => self.writings.clear(),
+            "rows-clear" => self.writings.clear(),
+            _ => return Ok(None),
         }
-        format!(in alloc;
-            "{} rows, {done} replaced, worn {}",
-            self.writings.len(),
-            self.writings.is_worn()
-        )
+        Ok(Some(0))
     }
 
     /// The first row that may write an address, from an index on or between two; the first one that may fall between two numbers besides;
@@ -75,6 +79,11 @@ impl Rows {
     fn found(&self, alloc: Global, asked: &str, n: &Numbers) -> Result<String, AllocError> {
         let (k, a) = (n.word(0), n.word(1));
         match asked {
+            "rows-below" => format!(in alloc;
+                "{} of {}",
+                self.writings.past_hit(0, k, a),
+                self.writings.before(k)
+            ),
             "rows-from" => format!(in alloc;
                 "{:?}",
                 self.writings.next_hit(k as usize, usize::MAX, a)

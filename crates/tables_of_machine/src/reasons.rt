@@ -24,8 +24,10 @@ pub fn answer(alloc: Global, n: &Numbers) -> Result<String, AllocError> {
 /// A reason's rule, its premise and its range, and the point and the value of what stands for none.
 fn told(alloc: Global, rule: u8, premise: Fact, looked: Looked) -> Result<String, AllocError> {
     let mut reason = Reason::new(alloc, rule);
-    reason.premises.push(premise)?;
-    reason.ranges.push(looked)?;
+    let has_room = reason.premises.push(premise).is_ok() && reason.ranges.push(looked).is_ok();
+    if !has_room {
+        return Err(AllocError);
+    }
     let (premises, ranges) = (reason.premises.as_slice(), reason.ranges.as_slice());
     let (point, value) = (Looked::default().point, Fact::default().value);
     format!(in alloc; "{} {premises:?} {ranges:?} {point} {value}", reason.rule)
