@@ -1,40 +1,47 @@
 //! Files that the lines of a table make, one after another.
 
-use crate::{images, names};
-use rept_ports::CalmShelf;
+use crate::ports::Ports;
+use crate::{images, system};
 use std::alloc::{AllocError, Global};
-use std::mem;
+use std::{mem, rt};
 use test_bytes::{append_zeros, changed};
 use test_lines::{Numbers, Table};
 
-/// A real executable and its core file, an executable, files by names and a file that is being made.
+/// A real executable and its core file, an executable, a file that is being made, and ports.
 #[derive(Drop)]
-pub struct Files {
+pub struct Files<'r, R> {
+    rt: &'r R,
     real: Vec<u8>,
     real_core: Vec<u8>,
     exe: Vec<u8>,
-    shelf: CalmShelf,
     file: Vec<u8>,
+    ports: Ports,
 }
 
-impl Files {
+impl<'r, R: rt::Files> Files<'r, R> {
     /// Beside the real files none is made yet.
-    pub fn new(alloc: Global, real: Vec<u8>, real_core: Vec<u8>) -> Files {
-        Files {
+    pub fn new(
+        alloc: Global,
+        rt: &'r R,
+        real: Vec<u8>,
+        real_core: Vec<u8>,
+    ) -> Result<Files<'r, R>, AllocError> {
+        let ports = Ports::new(alloc)?;
+        Ok(Files {
+            rt,
             real,
             real_core,
             exe: Vec::new(alloc),
-            shelf: CalmShelf::new(alloc),
             file: Vec::new(alloc),
-        }
+            ports,
+        })
     }
 
-    /// Makes the file longer or puts it in the place of the executable or of a file with a name, and answers whether it was asked to.
+    /// Makes the file longer or puts it in the place of the executable, and answers whether it was asked to.
     fn make(&mut self, asked: &str, n: &Numbers) -> Result<bool, AllocError> {
         match asked {
             "exe" => mem::swap(&mut self.exe, &mut self.file),
             "notes" => append_notes(&mut self.file, n)?,
-            "shelve" => names::shelve(&mut self.shelf, n.word(0), self.file.as_slice())?,
             "crash" => self.file.extend_from_slice(self.real.as_slice())?,
             "crashed" => self.file.extend_from_slice(self.real_core.as_slice())?,
             _ => return Ok(false),
@@ -43,22 +50,25 @@ impl Files {
     }
 }
 
-impl Table for Files {
+impl<'r, R: rt::Files> Table for Files<'r, R> {
     fn answer(&mut self, alloc: Global, asked: &str, n: &Numbers) -> Result<String, AllocError> {
-        if test_bytes::make(alloc, &mut self.file, asked, n)? || self.make(asked, n)? {
+        if test_bytes::make(alloc, &mut self.file, asked, n)?
+            || self.make(asked, n)?
+            || self.ports.take(alloc, self.file.as_slice(), asked, n)?
+        {
             return format!(in alloc; "{}", self.file.len());
         }
-        if asked == "kept" {
-            return names::kept(alloc, &mut self.shelf, n.known(0));
+        match asked {
+            "load" | "kept" | "write" | "whole" | "source" | "lines" => {
+                self.ports.answer(alloc, self.file.as_slice(), asked, n)
+            }
+            "disk" | "pipe" | "read" | "written" => system::answer(alloc, self.rt, asked, n),
+            _ => {
+                let file = changed(alloc, self.file.as_slice(), n)?;
+                let (exe, file) = (self.exe.as_slice(), file.as_slice());
+                images::answer(alloc, asked, n.word(0), exe, file)
+            }
         }
-        let file = changed(alloc, self.file.as_slice(), n)?;
-        images::answer(
-            alloc,
-            asked,
-            n.word(0),
-            self.exe.as_slice(),
-            file.as_slice(),
-        )
     }
 }
 

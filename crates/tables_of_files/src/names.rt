@@ -19,14 +19,6 @@ pub fn names(alloc: Global, core: &[u8]) -> Result<String, AllocError> {
     }
 }
 
-/// Makes these bytes the file of a name, which is told by its place.
-pub fn shelve(shelf: &mut CalmShelf, place: u32, file: &[u8]) -> Result<(), AllocError> {
-    match NAMES.get(place as usize) {
-        None => Ok(()),
-        Some(name) => shelf.put(name, file),
-    }
-}
-
 /// How many bytes are kept of the file of each name, with room for so many in all.
 pub fn kept(alloc: Global, shelf: &mut CalmShelf, room: Option<u32>) -> Result<String, AllocError> {
     let loaded = match room {
@@ -35,13 +27,11 @@ pub fn kept(alloc: Global, shelf: &mut CalmShelf, room: Option<u32>) -> Result<S
     };
     match loaded {
         Err(stop) => format!(in alloc; "{stop:?}"),
-        Ok(files) => sizes(alloc, files.as_slice()),
+        Ok(files) => {
+            let files = files.as_slice();
+            format!(in alloc; "{:?}", [size(files, 0), size(files, 1), size(files, 2)])
+        }
     }
-}
-
-fn sizes(alloc: Global, files: &[Option<Vec<u8>>]) -> Result<String, AllocError> {
-    let sizes = [size(files, 0), size(files, 1), size(files, 2)];
-    format!(in alloc; "{sizes:?}")
 }
 
 fn size(files: &[Option<Vec<u8>>], k: usize) -> Option<usize> {

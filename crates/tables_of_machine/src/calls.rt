@@ -3,8 +3,10 @@
 ghost use Rattle.std.specs.Prelude.{◌≡◌, ℕ, ◌+◌, ◌<◌, slice_index};
 ghost use Rattle.rept_machine.specs.Calls.{may_change};
 
+use crate::accesses::Ends;
+use crate::shown::range_at;
 use rept_havoc::havoc;
-use rept_partial::{Flat, Range};
+use rept_partial::{Flat, Partial, Range};
 use std::alloc::{AllocError, Global};
 use test_lines::Numbers;
 
@@ -62,4 +64,22 @@ pub fn changed(alloc: Global, n: &Numbers) -> Result<String, AllocError> {
         text.push_str(word)?;
     }
     Ok(text)
+}
+
+/// The bytes of a call of which the bounds of its six arguments and of its answer are known. An end of the program's own memory that is none is 2^32.
+pub fn reached(alloc: Global, n: &Numbers) -> Result<String, AllocError> {
+    let args = [
+        range_at(n, 1),
+        range_at(n, 3),
+        range_at(n, 5),
+        range_at(n, 7),
+        range_at(n, 9),
+        range_at(n, 11),
+    ];
+    let image_end = match n.known(15) {
+        None => 0x1_0000_0000,
+        Some(end) => u64::from(end),
+    };
+    let changed = havoc(Flat::of(n.known(0)), &args, range_at(n, 13), image_end);
+    format!(in alloc; "{} and {}", Ends(changed.first), Ends(changed.second))
 }

@@ -2,13 +2,16 @@
 
 use rept_dump::{CoreFault, Dump};
 use rept_elf::{Image, Want};
+use rept_maderuns::make_run;
+use rept_make::make;
+use rept_play::Sizes;
 use std::alloc::{AllocError, Global};
 use std::mem;
-use test_bytes::{append_bytes, append_zeros};
-use test_files::executable;
+use test_bytes::append_bytes;
+use test_files::{core_of_threads, executable};
 use test_lines::Numbers;
 
-/// An executable, a core file and a trace.
+/// An executable, a core file and a trace, or in its place a log.
 #[derive(Drop)]
 pub struct Files {
     exe: Vec<u8>,
@@ -26,23 +29,47 @@ impl Files {
         }
     }
 
-    /// Makes a file, and answers whether it was asked to: `trace BYTE ..` (of one stream, of these packets), `code ADDRESS WORD ..`, `ends PROCESS PC ..` (where each thread
+    /// Makes a file, and answers whether it was asked to: `trace BYTE ..` (of one stream, of these packets), `code ADDRESS WORD ..`, `ends PROCESS PC ..` (where each of two threads at most
     /// ended), `exe` (the trace is the executable), and what [`test_bytes::make`] makes of the trace.
     pub fn make(&mut self, alloc: Global, asked: &str, n: &Numbers) -> Result<bool, AllocError> {
         match asked {
-            "trace" => self.trace = trace_of(alloc, n)?,
+            "trace" => {
+                self.begin(b"RTR1\x01\0\0\0")?;
+                append_bytes(&mut self.trace, n)?;
+            }
             "code" => self.exe = code_of(alloc, n)?,
-            "ends" => self.core = core_of(alloc, n)?,
+            "ends" => {
+                let threads = [(n.word(0), n.word(1)), (n.word(2), n.word(3))];
+                let count = if n.count() < 4 { 1 } else { 2 };
+                self.core = core_of_threads(alloc, &threads[..count])?;
+            }
             "exe" => mem::swap(&mut self.exe, &mut self.trace),
             _ => return test_bytes::make(alloc, &mut self.trace, asked, n),
         }
         Ok(true)
     }
 
+    /// Begins another trace with these bytes.
+    pub fn begin(&mut self, bytes: &[u8]) -> Result<(), AllocError> {
+        self.trace.clear();
+        self.trace.extend_from_slice(bytes)?;
+        Ok(())
+    }
+
     /// How long the executable, the core file and the trace are.
     pub fn lengths(&self, alloc: Global) -> Result<String, AllocError> {
         let lengths = [self.exe.len(), self.core.len(), self.trace.len()];
         format!(in alloc; "{lengths:?}")
+    }
+
+    /// How long the executable and the core file are, and whether the trace has 5000 bytes at most.
+    pub fn sizes(&self, alloc: Global) -> Result<String, AllocError> {
+        let (exe, core) = (self.exe.len(), self.core.len());
+        format!(in alloc; "{exe} {core} {}", self.trace.len() <= 5000)
+    }
+
+    pub fn exe(&self) -> &[u8] {
+        self.exe.as_slice()
     }
 
     pub fn trace(&self) -> &[u8] {
@@ -61,13 +88,6 @@ impl Files {
     }
 }
 
-/// A trace of one stream of these packets.
-fn trace_of(alloc: Global, n: &Numbers) -> Result<Vec<u8>, AllocError> {
-    let mut trace = Vec::from_slice(alloc, b"RTR1\x01\0\0\0")?;
-    append_bytes(&mut trace, n)?;
-    Ok(trace)
-}
-
 /// An executable of these words from an address on.
 fn code_of(alloc: Global, n: &Numbers) -> Result<Vec<u8>, AllocError> {
     let mut words = Vec::new(alloc);
@@ -77,48 +97,34 @@ fn code_of(alloc: Global, n: &Numbers) -> Result<Vec<u8>, AllocError> {
     executable(alloc, n.word(0), words.as_slice())
 }
 
-/// The words of a core file up to the size of its only segment, which has notes.
-const HEAD: [u32; 17] = [
-    0x464c_457f,
-    0x10101,
-    0,
-    0,
-    0xf3_0004,
-    1,
-    0,
-    0x34,
-    0,
-    0,
-    0x20_0034,
-    1,
-    0,
-    4,
-    0x54,
-    0,
-    0,
-];
-
-/// A core file of two status notes at most: of each its process and its program counter; all other registers are 0.
-fn core_of(alloc: Global, n: &Numbers) -> Result<Vec<u8>, AllocError> {
-    let mut file = Vec::new(alloc);
-    for word in HEAD {
-        file.extend_from_slice(&u32::to_le_bytes(word))?;
+/// The files of the crash that is made of a seed after so many steps, or of the made run of a seed, of three threads in twelve turns over two streams.
+pub fn made(alloc: Global, asked: &str, n: &Numbers) -> Result<Files, AllocError> {
+    if asked == "crash" {
+        let made = make(alloc, n.word(0), n.word(1).max(1).min(20000))?;
+        return saved(
+            alloc,
+            made.exe.bytes(),
+            made.core.bytes(),
+            made.trace.bytes(),
+        );
     }
-    let size: u32 = if n.count() < 4 { 224 } else { 448 };
-    file.extend_from_slice(&size.to_le_bytes())?;
-    append_zeros(&mut file, 12)?;
-    append_status(&mut file, n.word(0), n.word(1))?;
-    if n.count() >= 4 {
-        append_status(&mut file, n.word(2), n.word(3))?;
-    }
-    Ok(file)
+    let sizes = Sizes {
+        threads: 3,
+        streams: 2,
+        turns: 12,
+    };
+    let made = make_run(alloc, n.word(0), sizes)?;
+    saved(
+        alloc,
+        made.exe.bytes(),
+        made.core.bytes(),
+        made.trace.bytes(),
+    )
 }
 
-fn append_status(file: &mut Vec<u8>, process: u32, pc: u32) -> Result<(), AllocError> {
-    file.extend_from_slice(b"\x05\0\0\0\xcc\0\0\0\x01\0\0\0CORE\0\0\0\0")?;
-    append_zeros(file, 24)?;
-    file.extend_from_slice(&process.to_le_bytes())?;
-    append_zeros(file, 44)?;
-    file.extend_from_slice(&pc.to_le_bytes())?;
-    append_zeros(file, 128)
+fn saved(alloc: Global, exe: &[u8], core: &[u8], trace: &[u8]) -> Result<Files, AllocError> {
+    let exe = Vec::from_slice(alloc, exe)?;
+    let core = Vec::from_slice(alloc, core)?;
+    let trace = Vec::from_slice(alloc, trace)?;
+    Ok(Files { exe, core, trace })
 }

@@ -15,29 +15,41 @@ use rept_trace::Packets;
 use std::alloc::{AllocError, Global};
 use test_lines::Numbers;
 
-/// The path of a trace whose packets can be numbered.
-fn rebuilt(alloc: Global, trace: &[u8], dump: &Dump<'_>, from: u32) -> Result<Path, PathFault> {
-    if trace.len() >= 0x1_0000_0000 {
-        return Err(PathFault::OutOfMemory);
-    }
-    match Packets::open(trace) {
-        Ok(packets) => rebuild(alloc, packets, dump, from),
-        Err(fault) => Err(PathFault::Packet(fault)),
-    }
-}
-
-/// The path whose start packet is not before a number, and how many packets are skipped; or the fault.
-pub fn path(alloc: Global, files: &Files, n: &Numbers) -> Result<String, AllocError> {
+/// The path whose start packet is not before a number, or the walk of the first stretch; or the fault.
+pub fn answer(
+    alloc: Global,
+    asked: &str,
+    files: &Files,
+    trace: &[u8],
+    n: &Numbers,
+) -> Result<String, AllocError>
+    requires { length trace.now < 2 ^ 32 }
+{
     let Some(Ok(dump)) = files.dump(false) else {
         return String::from_str(alloc, "no dump");
     };
-    match rebuilt(alloc, files.trace(), &dump, n.word(0)) {
+    match Packets::open(trace) {
+        Err(fault) => format!(in alloc; "{:?}", PathFault::Packet(fault)),
+        Ok(packets) if asked == "path" => path(alloc, packets, &dump, n),
+        Ok(packets) => walk(alloc, packets, &dump),
+    }
+}
+
+fn path(
+    alloc: Global,
+    packets: Packets<'_>,
+    dump: &Dump<'_>,
+    n: &Numbers,
+) -> Result<String, AllocError>
+    requires { length (rest_of packets).bytes < 2 ^ 32 }
+{
+    match rebuild(alloc, packets, dump, n.word(0)) {
         Err(fault) => format!(in alloc; "{fault:?}"),
         Ok(path) => told(alloc, &path, n),
     }
 }
 
-/// The steps, whole or with rounds of so many steps after so many others.
+/// How many packets are skipped, and the steps, whole or with rounds of so many steps after so many others.
 fn told(alloc: Global, path: &Path, n: &Numbers) -> Result<String, AllocError> {
     let (skipped, steps) = (path.skipped, path.steps.rows());
     let (round, before) = (n.word(1) as usize, n.word(2) as usize);
@@ -68,24 +80,9 @@ fn walked(
     Ok(Some((walk.steps.len(), walk.at, walk.waiting)))
 }
 
-fn first_walk(
-    alloc: Global,
-    trace: &[u8],
-    dump: &Dump<'_>,
-) -> Result<Option<(u32, u32, bool)>, PathFault> {
-    if trace.len() >= 0x1_0000_0000 {
-        return Err(PathFault::OutOfMemory);
-    }
-    match Packets::open(trace) {
-        Ok(packets) => walked(alloc, packets, dump),
-        Err(fault) => Err(PathFault::Packet(fault)),
-    }
-}
-
-pub fn walk(alloc: Global, files: &Files) -> Result<String, AllocError> {
-    let Some(Ok(dump)) = files.dump(false) else {
-        return String::from_str(alloc, "no dump");
-    };
-    let walked = first_walk(alloc, files.trace(), &dump);
+fn walk(alloc: Global, packets: Packets<'_>, dump: &Dump<'_>) -> Result<String, AllocError>
+    requires { length (rest_of packets).bytes < 2 ^ 32 }
+{
+    let walked = walked(alloc, packets, dump);
     format!(in alloc; "{walked:?}")
 }

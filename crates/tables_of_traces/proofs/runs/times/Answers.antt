@@ -5,5 +5,4 @@ use Rattle.tables_of_traces.proofs.runs.times.Goals as goal
 pub survey_all-requires : goal.survey_all-requires
 survey_all-requires c =
     let fits = file_fits c.args.bytes.now c.in-Ok.streams c.in-Ok.ensures.opens in
-    let few = c.if-bytes-ge4294967296.false in
-    omega (arith, fits, few)
+    omega (arith, fits, c.requires)

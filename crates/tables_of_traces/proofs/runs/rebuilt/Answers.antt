@@ -1,9 +1,0 @@
-use Rattle.std.proofs.Common.{arith}
-use Rattle.rept_threads.proofs.Fitting.{file_fits}
-use Rattle.tables_of_traces.proofs.runs.rebuilt.Goals as goal
-
-pub rebuild_many-requires : goal.rebuild_many-requires
-rebuild_many-requires c =
-    let fits = file_fits c.args.bytes.now c.in-Ok.streams c.in-Ok.ensures.opens in
-    let few = c.if-bytes-ge4294967296.false in
-    omega (arith, fits, few)
