@@ -79,7 +79,7 @@ module _ (C : Course) (sound : ∥ IsSoundCourse C ∥₁) (m w : ℕ) (next : (
     pub past_falls : (i : ℕ) → (numbered C).past i m ≡ true → (numbered C).falls i m w ≡ false
     past_falls i is = sym (by_parts i) ∙ ap (λ (b : Bool). stores C (row_on C i) && (not b && not ((numbered C).ahead i w))) is ∙ and_off (stores C (row_on C i))
 
-    ahead_falls : (i : ℕ) → (numbered C).ahead i w ≡ true → (numbered C).falls i m w ≡ false
+    pub ahead_falls : (i : ℕ) → (numbered C).ahead i w ≡ true → (numbered C).falls i m w ≡ false
     ahead_falls i is = sym (by_parts i) ∙ ap (λ (b : Bool). stores C (row_on C i) && (not ((numbered C).past i m) && not b)) is ∙ ap (λ (b : Bool). stores C (row_on C i) && b) (and_off (not ((numbered C).past i m))) ∙ and_off (stores C (row_on C i))
 
     pub open_falls : (i : ℕ) → (numbered C).past i m ≡ false → (numbered C).ahead i w ≡ false → (numbered C).falls i m w ≡ true

@@ -6,3 +6,4 @@ pub mod Falling
 pub mod Earliest
 pub mod Making
 pub mod Stripping
+pub mod Steady

@@ -21,7 +21,7 @@ use Rattle.rept_moments.proofs.Apart.{are_numbers}
 use Rattle.rept_moments.proofs.Falls.{own_falls, rest_falls, dark_is}
 use Rattle.rept_moments.proofs.Places.{leg_below, get_end, get_before}
 use Rattle.rept_timeline.specs.Times.{as_timeline}
-use Rattle.rept_timeline.specs.Strips.{AreTwo, DoRowsStay, DoesOtherFall, IsPart, IsLonger, AreStripsBelow, AreManyStrips}
+use Rattle.rept_timeline.specs.Strips.{AreTwo, DoRowsStay, IsOther, IsPart, IsLonger, AreStripsBelow, AreManyStrips}
 use Rattle.rept_timeline.proofs.Fronts.{stores_row, past_front}
 use Rattle.rept_timeline.proofs.Falling.{past_falls, open_falls}
 
@@ -83,8 +83,8 @@ module _ (C : Course) where
   pub dark_crosses : (k : ℕ) → (numbered C).dark k (k + 1) ≡ true → IsClear T k → ⊥
   dark_crosses k dark clear = false≢true (sym clear.light ∙ dark)
 
-  pub other_crosses : (k : ℕ) → DoesOtherFall T k → IsClear T k → ⊥
-  other_crosses k other clear = other.2 (clear.own other.0 other.1)
+  pub other_crosses : (k i : ℕ) → IsOther T k i → IsClear T k → ⊥
+  other_crosses k i other clear = other.other (clear.own i other.falls)
 
   module _ (sound : ∥ IsSoundCourse C ∥₁) (p k : ℕ) (two : AreTwo C p k) where
     first_next : (numbered C).next p (p + 1) ≡ true

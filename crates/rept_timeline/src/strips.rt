@@ -1,12 +1,12 @@
 //! Strips: numbers of a line one after the other, between which the same falls.
 
-ghost use Rattle.std.specs.Prelude.{◌≡◌, ◌≤◌, ◌<◌, ◌+◌, ℕ, [], true, false, length, IfOk, Some, None, slice_get};
-ghost use Rattle.rept_report.specs.Timeline.{IsJoined, IsClear, FallsToo, IsCut, IsStrip};
+ghost use Rattle.std.specs.Prelude.{◌≡◌, ◌≤◌, ◌<◌, ◌+◌, ℕ, [], true, false, length, IfOk, IfSome, IsSome, Some, None, slice_get};
+ghost use Rattle.rept_report.specs.Timeline.{IsJoined, FallsToo, IsCut, IsStrip};
 ghost use Rattle.rept_moments.specs.Several.{seen_of};
 ghost use Rattle.rept_moments.specs.Between.{IsOwnBetween};
 ghost use Rattle.rept_timeline.specs.Times.{as_timeline};
 ghost use Rattle.rept_timeline.specs.Listed.{AreStoring, AreLinesOf};
-ghost use Rattle.rept_timeline.specs.Strips.{AreTwo, DoRowsStay, DoesOtherFall, IsPart, IsLonger, AreStripsBelow, AreManyStrips};
+ghost use Rattle.rept_timeline.specs.Strips.{AreTwo, DoRowsStay, IsCrossing, IsHint, IsOther, IsOtherFalling, IsOwnQuiet, IsPart, IsLonger, IsSteady, IsStill, AreStripsBelow, AreManyStrips};
 
 use crate::opening::{last_of, rest_from};
 use crate::storing::Storing;
@@ -31,14 +31,98 @@ impl Model for Strips {
     ghost view = { λ s. s.list.items };
 }
 
-/// Whether a row falls between a number and the one after it, but for those before which the number lies.
-fn does_other_fall(storing: &Storing, many: &Many<'_>, number: u32) -> bool
+/// What was found at a number before, with which a search begins.
+#[derive(Clone, Copy)]
+pub struct Hint {
+    /// A row that fell there.
+    pub row: Option<u32>,
+    /// The number, where no row fell there but those before which it lies.
+    pub still: Option<u32>,
+}
+
+/// What is between a number and the one after it.
+#[derive(Clone, Copy)]
+pub struct Crossing {
+    /// Whether more falls than a row before which the number lies.
+    pub is_crossed: bool,
+    /// What was found there, or before.
+    pub hint: Hint,
+}
+
+/// Whether a row falls between a number and the one after it, and the number doesn't lie before it.
+fn does_fall(many: &Many<'_>, number: u32, row: u32) -> bool
+    requires inside { number < (seen_of many.now).moments.end }
+    requires next { (seen_of many.now).moments.next number (number + 1) ≡ true }
+    requires row { IsSome ((seen_of many.now).legs.row row) }
+    ensures { result ≡ true → IsOther (as_timeline (seen_of many.now)) number row }
+{
+    let _end = many.end();
+    if many.before(row) == number {
+        return false;
+    }
+    many.falls(row, number, number + 1)
+}
+
+/// The row that fell before, if it falls here too.
+fn falling_again(many: &Many<'_>, number: u32, hint: Hint) -> Option<u32>
+    requires inside { number < (seen_of many.now).moments.end }
+    requires next { (seen_of many.now).moments.next number (number + 1) ≡ true }
+    requires hint { IsHint many.now hint }
+    ensures { IfSome result (λ i. IsOther (as_timeline (seen_of many.now)) number i) }
+{
+    match hint.row {
+        Some(row) => {
+            if does_fall(many, number, row) {
+                Some(row)
+            } else {
+                None
+            }
+        }
+        None => None,
+    }
+}
+
+/// Whether by the times no other row falls here, as none did at another number.
+fn is_still_too(storing: &Storing, many: &Many<'_>, number: u32, still: u32) -> bool
     requires listed { ∥ AreStoring many.now storing.now ∥₁ }
     requires inside { number < (seen_of many.now).moments.end }
     requires next { (seen_of many.now).moments.next number (number + 1) ≡ true }
     requires apart { IsOwnBetween many.now number (number + 1) None }
-    ensures yes { result ≡ true → DoesOtherFall (as_timeline (seen_of many.now)) number }
-    ensures no { result ≡ false → (i : ℕ) → (seen_of many.now).moments.falls i number (number + 1) ≡ true → (seen_of many.now).moments.before i ≡ number }
+    requires still { IsStill many.now still }
+    ensures { result ≡ true → IsStill many.now number }
+{
+    let _end = many.end();
+    if !many.are_together(still, number) {
+        return false;
+    }
+    if !many.are_together(number, number + 1) {
+        return false;
+    }
+    many.are_together(still, still + 1)
+}
+
+/// So where there is such a number.
+fn is_still(storing: &Storing, many: &Many<'_>, number: u32, hint: Hint) -> bool
+    requires listed { ∥ AreStoring many.now storing.now ∥₁ }
+    requires inside { number < (seen_of many.now).moments.end }
+    requires next { (seen_of many.now).moments.next number (number + 1) ≡ true }
+    requires apart { IsOwnBetween many.now number (number + 1) None }
+    requires hint { IsHint many.now hint }
+    ensures { result ≡ true → IsStill many.now number }
+{
+    match hint.still {
+        Some(still) => is_still_too(storing, many, number, still),
+        None => false,
+    }
+}
+
+/// The first row that falls between a number and the one after it, but for those before which the number lies.
+fn first_other(storing: &Storing, many: &Many<'_>, number: u32) -> Option<u32>
+    requires listed { ∥ AreStoring many.now storing.now ∥₁ }
+    requires inside { number < (seen_of many.now).moments.end }
+    requires next { (seen_of many.now).moments.next number (number + 1) ≡ true }
+    requires apart { IsOwnBetween many.now number (number + 1) None }
+    ensures { IsOtherFalling many.now number result }
 {
     let _end = many.end();
     let _last = many.last_point();
@@ -46,34 +130,112 @@ fn does_other_fall(storing: &Storing, many: &Many<'_>, number: u32) -> bool
     loop {
         let row = match rest_from(storing, many, number, number + 1, from) {
             Some(row) => row,
-            None => return false,
+            None => return None,
         };
         if many.before(row) != number {
-            return true;
+            return Some(row);
         }
         from = row + 1;
     }
 }
 
-/// Whether more falls between a number and the one after it than a row before which the number lies.
-fn is_crossed(storing: &Storing, many: &Many<'_>, number: u32) -> bool
+/// One of those rows.
+fn other_falling(storing: &Storing, many: &Many<'_>, number: u32, hint: Hint) -> Option<u32>
     requires listed { ∥ AreStoring many.now storing.now ∥₁ }
     requires inside { number < (seen_of many.now).moments.end }
     requires next { (seen_of many.now).moments.next number (number + 1) ≡ true }
-    ensures clear { result ≡ false → IsClear (as_timeline (seen_of many.now)) number }
-    ensures crossed { result ≡ true → IsClear (as_timeline (seen_of many.now)) number → ⊥ }
-    ensures apart { result ≡ true → IsOwnBetween many.now number (number + 1) None }
+    requires apart { IsOwnBetween many.now number (number + 1) None }
+    requires hint { IsHint many.now hint }
+    ensures { IsOtherFalling many.now number result }
+{
+    match falling_again(many, number, hint) {
+        Some(row) => Some(row),
+        None => {
+            if is_still(storing, many, number, hint) {
+                return None;
+            }
+            first_other(storing, many, number)
+        }
+    }
+}
+
+/// What is between a number and the one after it, where these aren't the moments of one row, and all that writes is told.
+fn row_crossing(storing: &Storing, many: &Many<'_>, number: u32, hint: Hint) -> Crossing
+    requires listed { ∥ AreStoring many.now storing.now ∥₁ }
+    requires inside { number < (seen_of many.now).moments.end }
+    requires next { (seen_of many.now).moments.next number (number + 1) ≡ true }
+    requires apart { IsOwnBetween many.now number (number + 1) None }
+    requires light { (seen_of many.now).moments.dark number (number + 1) ≡ false }
+    requires hint { IsHint many.now hint }
+    ensures { IsCrossing many.now number result }
+{
+    match other_falling(storing, many, number, hint) {
+        Some(row) => Crossing {
+            is_crossed: true,
+            hint: Hint {
+                row: Some(row),
+                still: None,
+            },
+        },
+        None => Crossing {
+            is_crossed: false,
+            hint: Hint {
+                row: None,
+                still: Some(number),
+            },
+        },
+    }
+}
+
+/// What is between a number and the one after it.
+fn crossing_at(storing: &Storing, many: &Many<'_>, number: u32, hint: Hint) -> Crossing
+    requires listed { ∥ AreStoring many.now storing.now ∥₁ }
+    requires inside { number < (seen_of many.now).moments.end }
+    requires next { (seen_of many.now).moments.next number (number + 1) ≡ true }
+    requires hint { IsHint many.now hint }
+    ensures { IsCrossing many.now number result }
 {
     let _end = many.end();
     match many.row_between(number, number + 1) {
-        Some(_own) => false,
+        Some(_own) => Crossing {
+            is_crossed: false,
+            hint,
+        },
         None => {
             if many.is_dark_between(number, number + 1) {
-                return true;
+                return Crossing {
+                    is_crossed: true,
+                    hint,
+                };
             }
-            does_other_fall(storing, many, number)
+            row_crossing(storing, many, number, hint)
         }
     }
+}
+
+/// Whether the row before which a number lies, if it lies before one, writes memory.
+fn does_own_store(many: &Many<'_>, number: u32) -> bool
+    ensures { result ≡ false → IsOwnQuiet many.now number }
+{
+    match many.row_at(number) {
+        Some(row) => many.stores(row),
+        None => false,
+    }
+}
+
+/// Whether by the times all rows that fall at the pause stay until a later number.
+fn is_steady(many: &Many<'_>, pause: u32, number: u32) -> bool
+    requires two { AreTwo many.now pause number }
+    ensures { result ≡ true → IsSteady many.now pause number }
+{
+    let _end = many.end();
+    if does_own_store(many, pause) {
+        return false;
+    }
+    if !many.are_together(pause, number) {
+        return false;
+    }
+    many.are_together(pause, pause + 1)
 }
 
 /// Whether no row that falls at the pause lies wholly before a later number.
@@ -84,6 +246,9 @@ fn do_rows_stay(storing: &Storing, many: &Many<'_>, pause: u32, number: u32) -> 
     ensures no { result ≡ false → FallsToo (as_timeline (seen_of many.now)) pause number → ⊥ }
 {
     let _end = many.end();
+    if is_steady(many, pause, number) {
+        return true;
+    }
     let mut from = 0;
     loop {
         let row = match rest_from(storing, many, pause, pause + 1, from) {
@@ -138,16 +303,17 @@ fn stays_if(storing: &Storing, many: &Many<'_>, pause: Option<u32>, number: u32)
 }
 
 /// A part of a strip with one number more, if it goes on.
-fn longer(storing: &Storing, many: &Many<'_>, strip: Strip) -> Option<Strip>
+fn longer(storing: &Storing, many: &Many<'_>, strip: Strip, crossing: Crossing) -> Option<Strip>
     requires listed { ∥ AreStoring many.now storing.now ∥₁ }
     requires part { IsPart many.now strip }
     requires inside { strip.last < (seen_of many.now).moments.end }
     requires joined { IsJoined (seen_of many.now).moments strip.last }
+    requires crossing { IsCrossing many.now strip.last crossing }
     ensures { IsLonger many.now strip result }
 {
     let _end = many.end();
     let last = strip.last;
-    if !is_crossed(storing, many, last) {
+    if !crossing.is_crossed {
         return Some(Strip {
             first: strip.first,
             last: last + 1,
@@ -190,8 +356,14 @@ fn strip_from(storing: &Storing, many: &Many<'_>, lines: &Lines, first: u32) -> 
         last: first,
         pause: None,
     };
+    let mut hint = Hint {
+        row: None,
+        still: None,
+    };
     while strip.last < last {
-        match longer(storing, many, strip) {
+        let next = crossing_at(storing, many, strip.last, hint);
+        hint = next.hint;
+        match longer(storing, many, strip, next) {
             Some(more) => strip = more,
             None => return strip,
         }

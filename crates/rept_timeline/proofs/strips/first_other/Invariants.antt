@@ -1,6 +1,6 @@
 use Rattle.std.proofs.Common.{◌≡◌, ◌+◌, ◌<◌, ◌-◌, ℕ, true}
 use Rattle.rept_moments.specs.Several.{seen_of}
-use Rattle.rept_timeline.proofs.strips.does_other_fall.Given as goal
+use Rattle.rept_timeline.proofs.strips.first_other.Given as goal
 
 abbrev pub invariant-loop-row : goal.invariant-loop-row
 invariant-loop-row l = record {
