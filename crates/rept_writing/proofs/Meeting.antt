@@ -79,6 +79,15 @@ module _ (list : List Writing) (c : Columns) (a : AreColumns list c) where
         ],
       )
 
+  -- none meets a link, where all that fall to its second number or before lie among those that fall up to its first one
+  pub none_apart : (k m w b late end : ℕ) → IsSplit c.lasts.items (m + 1) late → IsSplit c.firsts.items (w + 1) end → end ≤ late → IsFirst (λ j. Contains c.places.items j × IsMeeting list (record { from = m; to = w; address = b }) j) k (length list) None
+  none_apart k m w b late end passed ahead apart j from lt (there, met) =
+      let (q, inside, e) = place_of c.places.items j there in
+      let at = subst (λ (n : ℕ). slice_get list n ≡ Some met.writing) (sym e) met.stands in
+      let low = not_past m late q met.writing passed inside at met.above in
+      let high = not_ahead w end q met.writing ahead inside at met.below in
+      omega (arith, low, high, apart)
+
   module _ (k m w b late begin end : ℕ) (passed : IsSplit c.lasts.items (m + 1) late) (cut : IsSplit c.places.items k begin) (ahead : IsSplit c.firsts.items (w + 1) end) where
     met_place : (j : ℕ) → k ≤ j → Contains c.places.items j → IsMeeting list (record { from = m; to = w; address = b }) j → (q : ℕ) × (max late begin ≤ q) × (q < end) × (q < length c.places.items) × (get_or c.places.items q 0 ≡ j)
     met_place j from there met =

@@ -1,7 +1,7 @@
 -- Addresses with an index, in order, and what a search among them finds.
 use Rattle.std.proofs.Common.{◌≡◌, ℕ, ◌+◌, ◌-◌, ◌<◌, ◌≤◌, ◌⊎◌, true, false, List, length, get_or, Some, None, inl, inr, sym, ◌∙◌, ap, subst, arith}
 use Rattle.std.specs.List.{Contains}
-use Rattle.std.specs.List.Sorted.{IsSorted, IsPartitionPoint, IsNonDecreasingBy}
+use Rattle.std.specs.List.Sorted.{IsSorted, IsNonDecreasingBy}
 use Rattle.std.specs.Ordering.{is_lt, ordering_index}
 use Rattle.std.specs.Cmp.{IsTotalOrder}
 use Rattle.std.specs.declared.cmp.Ordering.TheVariants.{Less, Greater}
@@ -10,7 +10,7 @@ use Rattle.std.proofs.lemmas.Bool.Decides.{nat_tests}
 use Rattle.std.proofs.lemmas.List.{get_or_default}
 use Rattle.std.proofs.lemmas.List.Sorted.{sorted_far, searchable_from_sorted, ranks_by}
 use Rattle.rept_writing.specs.declared.narrow.Hit.{Hit}
-use Rattle.rept_writing.specs.Filed.{IsLeast, IsPast, hit, hit_cmp}
+use Rattle.rept_writing.specs.Filed.{IsLeast, IsPast, IsPlaceOf, hit, hit_cmp}
 use Rattle.rept_writing.proofs.Going.{past_after, past_none}
 
 pub hits_total : IsTotalOrder hit_cmp
@@ -31,12 +31,34 @@ sooner_at x a j e h = grind (arith, nat_tests, e, h)
 true≢false : true ≡ false → ⊥
 true≢false e = cc
 
-abbrev pub IsPlaceOf : List Hit → Hit → ℕ → Type 0
-IsPlaceOf hits x at = IsPartitionPoint (λ y. hit_cmp y x ≡ Less) (λ y. hit_cmp y x ≡ Greater) hits at
+-- what the search says of a place, where they are in order
+pub placed : (hits : List Hit) (x : Hit) (at : ℕ) → IsSorted hit_cmp hits → (IsNonDecreasingBy (λ y. ordering_index (hit_cmp y x)) hits → IsPlaceOf hits x at) → IsPlaceOf hits x at
+placed hits x at up says = says (searchable_from_sorted hits_total (λ (y : Hit). y) hits x up)
 
--- the place that the search names
-pub place : (hits : List Hit) (x : Hit) (at : ℕ) → IsSorted hit_cmp hits → (IsNonDecreasingBy (λ y. ordering_index (hit_cmp y x)) hits → IsPlaceOf hits x at) → IsPlaceOf hits x at
-place hits x at up says = says (searchable_from_sorted hits_total (λ (y : Hit). y) hits x up)
+-- what doesn't come after one that is less is less
+less_up_to : (x y z : Hit) → is_lt (hit_cmp y x) ≡ false → is_lt (hit_cmp y z) ≡ true → hit_cmp x z ≡ Less
+less_up_to x y z a b = grind (arith, nat_tests, a, b)
+
+-- what doesn't come before one that is greater is greater
+greater_from : (x y z : Hit) → is_lt (hit_cmp y x) ≡ false → is_lt (hit_cmp z x) ≡ true → hit_cmp y z ≡ Greater
+greater_from x y z a b = grind (arith, nat_tests, a, b)
+
+-- the place of a hit, by the two beside it
+pub between : (hits : List Hit) (x : Hit) (at : ℕ) (d : Hit) → IsSorted hit_cmp hits → at ≤ length hits → (0 < at → is_lt (hit_cmp (get_or hits (at - 1) d) x) ≡ true) → (at < length hits → is_lt (hit_cmp x (get_or hits at d)) ≡ true) → IsPlaceOf hits x at
+between hits x at d up bound low high = (before, after)
+  where
+    far : (i j : ℕ) (e : Hit) → i ≤ j → j < length hits → is_lt (hit_cmp (get_or hits j e) (get_or hits i e)) ≡ false
+    far = sorted_far (λ x y. is_lt (hit_cmp x y)) (ranks_by hits_total (λ (y : Hit). y)) hits up
+
+    before : (k : ℕ) (e : Hit) → 0 ≤ k → k < at → hit_cmp (get_or hits k e) x ≡ Less
+    before k e _ lt =
+        let last : is_lt (hit_cmp (get_or hits (at - 1) e) x) ≡ true = subst (λ (y : Hit). is_lt (hit_cmp y x) ≡ true) (get_or_default hits (at - 1) d e (omega (arith, lt, bound))) (low (omega (arith, lt))) in
+        less_up_to (get_or hits k e) (get_or hits (at - 1) e) x (far k (at - 1) e (omega (arith, lt)) (omega (arith, lt, bound))) last
+
+    after : (k : ℕ) (e : Hit) → at ≤ k → k < length hits → hit_cmp (get_or hits k e) x ≡ Greater
+    after k e le inside =
+        let first : is_lt (hit_cmp x (get_or hits at e)) ≡ true = subst (λ (y : Hit). is_lt (hit_cmp x y) ≡ true) (get_or_default hits at d e (omega (arith, le, inside))) (high (omega (arith, le, inside))) in
+        greater_from (get_or hits at e) (get_or hits k e) x (far at k e le inside) first
 
 -- what stands at an address from an index on is at or after the place
 pub later : (hits : List Hit) (a k at j : ℕ) → IsSorted hit_cmp hits → IsPlaceOf hits (hit a k) at → k ≤ j → Contains hits (hit a j) → (at < length hits) × (is_lt (hit_cmp (hit a j) (get_or hits at (hit a j))) ≡ false)

@@ -1,9 +1,10 @@
 -- How the bytes that rows of a list may write are kept, so that they are found by address. This project's own.
-use Rattle.std.specs.Prelude.{◌≡◌, ℕ, ◌+◌, ◌<◌, ◌≤◌, ◌^◌, ◌⊎◌, zero, suc, List, [], ◌∷◌, ◌++◌, get_or, length, true, Option, Some, None, if◌then◌else◌, min}
+use Rattle.std.specs.Prelude.{◌≡◌, ℕ, ◌+◌, ◌<◌, ◌≤◌, ◌^◌, ◌⊎◌, zero, suc, List, [], ◌∷◌, ◌++◌, get_or, length, true, Option, Some, None, Result, MatchResult, if◌then◌else◌, min}
 use Rattle.std.specs.List.{All, Contains}
-use Rattle.std.specs.List.Sorted.{IsNonDecreasing}
+use Rattle.std.specs.List.Sorted.{IsNonDecreasing, IsPartitionPoint}
 use Rattle.std.specs.Ordering.{nat_cmp, ordering_then}
 use Rattle.std.specs.declared.cmp.Ordering.{Ordering}
+use Rattle.std.specs.declared.cmp.Ordering.TheVariants.{Less, Greater}
 use Rattle.rept_alias.specs.declared.addresses.Access.{Access}
 use Rattle.rept_alias.specs.declared.addresses.CallAccess.{CallAccess}
 use Rattle.rept_isa.specs.Numbers.{beside}
@@ -19,6 +20,14 @@ hit a j = record { address = a; index = j }
 -- by address, and at one address by index
 abbrev pub hit_cmp : Hit → Hit → Ordering
 hit_cmp x y = ordering_then (nat_cmp x.address y.address) (nat_cmp x.index y.index)
+
+-- those before a place come before a hit, and those from it on after
+abbrev pub IsPlaceOf : List Hit → Hit → ℕ → Type 0
+IsPlaceOf hits x at = IsPartitionPoint (λ y. hit_cmp y x ≡ Less) (λ y. hit_cmp y x ≡ Greater) hits at
+
+-- a hit is one of these, or else its place among them
+abbrev pub IsFound : List Hit → Hit → Result ℕ ℕ → Type 0
+IsFound hits x r = MatchResult r (λ i. Contains hits x) (λ at. IsPlaceOf hits x at)
 
 -- the least number from k on of which P holds, or that there is none
 abbrev pub IsLeast : (ℕ → Type 0) → ℕ → Option ℕ → Type 0

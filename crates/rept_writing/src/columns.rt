@@ -123,8 +123,11 @@ impl Columns {
         ensures { IsFirst (λ j. Contains self.now.places.items j × IsMeeting list.now (record { from = m; to = w; address = a }) j) k (length list.now) result }
     {
         let late = up_to(self.lasts.as_slice(), m);
-        let start = below(self.places.as_slice(), k);
         let end = up_to(self.firsts.as_slice(), w);
+        if late >= end {
+            return None;
+        }
+        let start = below(self.places.as_slice(), k);
         for p in late.max(start)..end {
             let j = self.places[p];
             if meets(&list[j], m, w, a) {

@@ -12,6 +12,7 @@ use crate::narrow::{Hit, file, next_narrow, past_narrow};
 use crate::wide::{next_wide, past_wide, place_of, scan, scan_back, scan_since, scan_until};
 use rept_alias::CallAccess;
 use std::alloc::{AllocError as OutOfMemory, Global};
+use std::cell::Cell;
 use std::marker::Model;
 
 /// So many rows are replaced at least before it is worth the time to find them by address again.
@@ -59,6 +60,8 @@ pub struct Writings {
     is_indexed: bool,
     /// how many of the others were replaced since then
     replaced: usize,
+    /// where an address was found last in `narrow`. It only saves work: no clause rests on it.
+    near: Cell<usize>,
 }
 
 impl Model for Writings {
@@ -99,6 +102,7 @@ impl Writings {
             others,
             is_indexed: false,
             replaced: 0,
+            near: Cell::new(0),
         })
     }
 
@@ -192,7 +196,7 @@ impl Writings {
     {
         let list = self.list.as_slice();
         if self.is_indexed {
-            let narrow = next_narrow(self.narrow.as_slice(), k, end, a);
+            let narrow = next_narrow(self.narrow.as_slice(), k, end, a, &self.near);
             let wide = next_wide(
                 list,
                 self.wide.as_slice(),
@@ -302,7 +306,7 @@ impl Writings {
         let list = self.list.as_slice();
         let k = self.before(number);
         if self.is_indexed {
-            let narrow = past_narrow(self.narrow.as_slice(), k, a);
+            let narrow = past_narrow(self.narrow.as_slice(), k, a, &self.near);
             let wide = past_wide(
                 list,
                 self.wide.as_slice(),

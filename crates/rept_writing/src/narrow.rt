@@ -1,12 +1,14 @@
 //! The addresses of rows that may write few, each by itself.
 
-ghost use Rattle.std.specs.Prelude.{◌≡◌, ◌⊎◌, ◌+◌, ◌<◌, ◌≤◌, [], ◌∷◌, ◌++◌};
+ghost use Rattle.std.specs.Prelude.{◌≡◌, ◌⊎◌, ◌+◌, ◌<◌, ◌≤◌, true, [], ◌∷◌, ◌++◌, length};
 ghost use Rattle.std.specs.Vec.{vec_len, vec_capacity};
 ghost use Rattle.std.specs.List.{Contains};
-ghost use Rattle.std.specs.List.Sorted.{IsSorted};
-ghost use Rattle.rept_writing.specs.Filed.{IsFirst, IsLeast, IsPast, IsKeptByAddress, StartsAtWord, hit, hit_cmp, hits_from, hits_of_part, size_of_part};
+ghost use Rattle.std.specs.List.Sorted.{IsSearchInRange, IsSorted};
+ghost use Rattle.std.specs.Ordering.{is_lt};
+ghost use Rattle.rept_writing.specs.Filed.{IsFirst, IsFound, IsLeast, IsPast, IsPlaceOf, IsKeptByAddress, StartsAtWord, hit, hit_cmp, hits_from, hits_of_part, size_of_part};
 
 use rept_alias::{Access, CallAccess};
+use std::cell::Cell;
 
 /// A row whose addresses are at most so many has each of them kept by itself.
 const FEW: u64 = 8;
@@ -84,26 +86,86 @@ pub fn file(narrow: &mut Vec<Hit>, wide: &mut Vec<usize>, index: usize, access: 
     }
 }
 
+/// Whether a hit comes before another one.
+fn is_less(x: Hit, y: Hit) -> bool
+    ensures { result ≡ is_lt (hit_cmp x y) }
+{
+    if x.address == y.address {
+        return x.index < y.index;
+    }
+    x.address < y.address
+}
+
+/// Whether a hit would stand at a place: the one before the place is less, and the one at it is greater.
+fn is_between(narrow: &[Hit], at: usize, sought: Hit) -> bool
+    requires { IsSorted hit_cmp narrow.now }
+    ensures { result ≡ true → (at ≤ length narrow.now) × IsPlaceOf narrow.now sought at }
+{
+    if at > narrow.len() {
+        return false;
+    }
+    if at > 0 && !is_less(narrow[at - 1], sought) {
+        return false;
+    }
+    at == narrow.len() || is_less(sought, narrow[at])
+}
+
+/// Where a hit stands, or would stand: at the place that was found last or the one after it, or else by halves.
+fn seek(narrow: &[Hit], sought: Hit, near: &Cell<usize>) -> Result<usize, usize>
+    requires { IsSorted hit_cmp narrow.now }
+    ensures bound { IsSearchInRange result (length narrow.now) }
+    ensures found { IsFound narrow.now sought result }
+{
+    let last = near.get();
+    if is_between(narrow, last, sought) {
+        return Err(last);
+    }
+    if last < narrow.len() && is_between(narrow, last + 1, sought) {
+        near.set(last + 1);
+        return Err(last + 1);
+    }
+    match narrow.binary_search(&sought) {
+        Ok(at) => {
+            near.set(at);
+            Ok(at)
+        }
+        Err(at) => {
+            near.set(at);
+            Err(at)
+        }
+    }
+}
+
 /// The least index from k on and before another one that is kept with the address.
-pub fn next_narrow(narrow: &[Hit], k: usize, end: usize, a: u32) -> Option<usize>
+pub fn next_narrow(
+    narrow: &[Hit],
+    k: usize,
+    end: usize,
+    a: u32,
+    near: &Cell<usize>,
+) -> Option<usize>
     requires { IsSorted hit_cmp narrow.now }
     ensures { IsFirst (λ j. Contains narrow.now (hit a j)) k end result }
 {
-    match least_narrow(narrow, k, a) {
+    match least_narrow(narrow, k, a, near) {
         None => None,
         Some(found) => { if found < end { Some(found) } else { None } }
     }
 }
 
 /// The least index from k on that is kept with the address.
-fn least_narrow(narrow: &[Hit], k: usize, a: u32) -> Option<usize>
+fn least_narrow(narrow: &[Hit], k: usize, a: u32, near: &Cell<usize>) -> Option<usize>
     requires { IsSorted hit_cmp narrow.now }
     ensures { IsLeast (λ j. Contains narrow.now (hit a j)) k result }
 {
-    match narrow.binary_search(&Hit {
-        address: a,
-        index: k,
-    }) {
+    match seek(
+        narrow,
+        Hit {
+            address: a,
+            index: k,
+        },
+        near,
+    ) {
         Ok(_) => Some(k),
         Err(at) => {
             if at < narrow.len() && narrow[at].address == a {
@@ -116,17 +178,21 @@ fn least_narrow(narrow: &[Hit], k: usize, a: u32) -> Option<usize>
 }
 
 /// The number after the greatest index below k that is kept with the address, or 0.
-pub fn past_narrow(narrow: &[Hit], k: usize, a: u32) -> usize
+pub fn past_narrow(narrow: &[Hit], k: usize, a: u32, near: &Cell<usize>) -> usize
     requires { IsSorted hit_cmp narrow.now }
     ensures { IsPast (λ j. Contains narrow.now (hit a j)) 0 k result }
 {
     if k == 0 {
         return 0;
     }
-    match narrow.binary_search(&Hit {
-        address: a,
-        index: k - 1,
-    }) {
+    match seek(
+        narrow,
+        Hit {
+            address: a,
+            index: k - 1,
+        },
+        near,
+    ) {
         Ok(_) => k,
         Err(at) => {
             if 0 < at && narrow[at - 1].address == a {
