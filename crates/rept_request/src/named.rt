@@ -3,24 +3,24 @@
 ghost use Rattle.std.specs.Prelude.{◌≡◌};
 ghost use Rattle.rept_request.specs.Requests.{acted, change_begun, move_begun, move_named, query_begun, query_named, thread_begun};
 
-use crate::names::{acted_thread, thread_after};
+use crate::names::{acted_thread, is_word, thread_after};
 use crate::request::{Request, ThreadName, Way};
 
 /// Packets that move.
 pub fn move_named(packet: &[u8]) -> Option<Request>
     ensures { result ≡ move_named packet.now }
 {
-    if packet == b"s".as_slice() {
+    if is_word(packet, b"s") {
         Some(Request::Move(Way::Step, ThreadName::Selected))
-    } else if packet == b"c".as_slice() {
+    } else if is_word(packet, b"c") {
         Some(Request::Move(Way::Continue, ThreadName::Selected))
-    } else if packet == b"bs".as_slice() {
+    } else if is_word(packet, b"bs") {
         Some(Request::Move(Way::StepBack, ThreadName::Selected))
-    } else if packet == b"bc".as_slice() {
+    } else if is_word(packet, b"bc") {
         Some(Request::Move(Way::ContinueBack, ThreadName::Selected))
-    } else if packet == b"D".as_slice() {
+    } else if is_word(packet, b"D") {
         Some(Request::Detach)
-    } else if packet == b"k".as_slice() {
+    } else if is_word(packet, b"k") {
         Some(Request::Kill)
     } else {
         None
@@ -31,19 +31,19 @@ pub fn move_named(packet: &[u8]) -> Option<Request>
 pub fn query_named(packet: &[u8]) -> Option<Request>
     ensures { result ≡ query_named packet.now }
 {
-    if packet == b"?".as_slice() {
+    if is_word(packet, b"?") {
         Some(Request::Reason)
-    } else if packet == b"g".as_slice() {
+    } else if is_word(packet, b"g") {
         Some(Request::Registers)
-    } else if packet == b"qC".as_slice() {
+    } else if is_word(packet, b"qC") {
         Some(Request::Thread)
-    } else if packet == b"qfThreadInfo".as_slice() {
+    } else if is_word(packet, b"qfThreadInfo") {
         Some(Request::Threads)
-    } else if packet == b"qsThreadInfo".as_slice() {
+    } else if is_word(packet, b"qsThreadInfo") {
         Some(Request::MoreThreads)
-    } else if packet == b"QStartNoAckMode".as_slice() {
+    } else if is_word(packet, b"QStartNoAckMode") {
         Some(Request::NoAcknowledgments)
-    } else if packet == b"vCont?".as_slice() {
+    } else if is_word(packet, b"vCont?") {
         Some(Request::Moves)
     } else {
         None

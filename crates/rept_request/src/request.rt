@@ -1,7 +1,7 @@
 //! What a packet asks for.
 
 /// A thread, as a packet names it. The number of a thread is that of its process.
-#[derive(Clone, Copy, Debug, PartialEq, Eq)]
+#[derive(Clone, Copy, Debug)]
 pub enum ThreadName {
     /// The one that was selected for moves, by a packet that can name none.
     Selected,
@@ -14,7 +14,7 @@ pub enum ThreadName {
 }
 
 /// A move.
-#[derive(Clone, Copy, Debug, PartialEq, Eq)]
+#[derive(Clone, Copy, Debug)]
 pub enum Way {
     /// One step forward.
     Step,
@@ -27,7 +27,7 @@ pub enum Way {
 }
 
 /// A request of a debugger. Addresses and counts are in bytes.
-#[derive(Clone, Copy, Debug, PartialEq, Eq)]
+#[derive(Clone, Copy, Debug)]
 pub enum Request {
     /// `qSupported`: what this side can do.
     Features,

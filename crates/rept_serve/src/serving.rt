@@ -13,7 +13,7 @@ use rept_word::OutOfMemory;
 use std::alloc::Global;
 
 /// How a session ended.
-#[derive(Clone, Copy, Debug, PartialEq, Eq)]
+#[derive(Clone, Copy)]
 pub enum Served {
     /// At `quit`, or at the end of the input. All answers were written.
     Ended,
@@ -28,7 +28,7 @@ pub enum Served {
 }
 
 /// What comes after a line.
-#[derive(Clone, Copy, Debug, PartialEq, Eq)]
+#[derive(Clone, Copy)]
 pub enum Next {
     /// The next line, with the cursor at this point.
     Line(ThreadPoint),

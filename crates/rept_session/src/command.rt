@@ -8,7 +8,7 @@ use thiserror::Error;
 
 /// A command of a session. A cursor is at a point of one thread. Points are counted from 0 before the thread's first step to n after its
 /// last one; steps from 0; threads from 0, in the order of the core file's register notes.
-#[derive(Clone, Copy, Debug, PartialEq, Eq)]
+#[derive(Clone, Copy, Debug)]
 pub enum Command {
     /// `where`: tells the cursor and the address there.
     Where,
@@ -58,7 +58,7 @@ pub enum Command {
 
 /// Why a line is no command. The first check that fails is told, in this order: the line's length, its first word, how many words
 /// come after that, registers, numbers, limits.
-#[derive(Clone, Copy, Debug, PartialEq, Eq, Error)]
+#[derive(Clone, Copy, Debug, Error)]
 pub enum BadCommand {
     /// The first word names no command.
     #[error("the first word is no command")]

@@ -3,6 +3,7 @@
 ghost use Rattle.std.specs.Prelude.{◌≡◌, ◌<◌};
 ghost use Rattle.rept_session.specs.Registers.{named, plain_index, indexed, register_of};
 
+use crate::words::is_word;
 use rept_isa::Reg;
 
 /// The register that a word names. None exactly where it names none.
@@ -28,17 +29,17 @@ pub fn register_named(word: &[u8]) -> Option<Reg>
 fn named(word: &[u8]) -> Option<u8>
     ensures { result ≡ named word.now }
 {
-    if word == b"zero".as_slice() {
+    if is_word(word, b"zero") {
         Some(0)
-    } else if word == b"ra".as_slice() {
+    } else if is_word(word, b"ra") {
         Some(1)
-    } else if word == b"sp".as_slice() {
+    } else if is_word(word, b"sp") {
         Some(2)
-    } else if word == b"gp".as_slice() {
+    } else if is_word(word, b"gp") {
         Some(3)
-    } else if word == b"tp".as_slice() {
+    } else if is_word(word, b"tp") {
         Some(4)
-    } else if word == b"fp".as_slice() {
+    } else if is_word(word, b"fp") {
         Some(8)
     } else {
         None

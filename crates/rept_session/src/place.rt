@@ -1,7 +1,7 @@
 //! Where in a run of threads something stands, as a session names it.
 
 /// A point of a thread. A thread of n steps has the points 0 to n; step i leads from point i to point i + 1.
-#[derive(Clone, Copy, Debug, PartialEq, Eq)]
+#[derive(Clone, Copy)]
 pub struct ThreadPoint {
     /// the thread, from 0 on, in the order of the core file's register notes
     pub thread: u32,

@@ -4,9 +4,10 @@ ghost use Rattle.std.specs.Prelude.{◌≡◌};
 ghost use Rattle.rept_session.specs.Commands.{lone_command, single_verb, double_verb, verb_of};
 
 use crate::command::Command;
+use crate::words::is_word;
 
 /// What a first word asks for: a command, or one that still wants its words.
-#[derive(Clone, Copy, Debug, PartialEq, Eq)]
+#[derive(Clone, Copy)]
 pub enum Verb {
     /// A command that takes no words.
     Lone(Command),
@@ -17,7 +18,7 @@ pub enum Verb {
 }
 
 /// The commands that take one word.
-#[derive(Clone, Copy, Debug, PartialEq, Eq)]
+#[derive(Clone, Copy)]
 pub enum Single {
     Back,
     Fwd,
@@ -30,7 +31,7 @@ pub enum Single {
 }
 
 /// The commands that take two words.
-#[derive(Clone, Copy, Debug, PartialEq, Eq)]
+#[derive(Clone, Copy)]
 pub enum Double {
     Mem,
     List,
@@ -55,15 +56,15 @@ pub fn verb_named(word: &[u8]) -> Option<Verb>
 fn lone_command(word: &[u8]) -> Option<Command>
     ensures { result ≡ lone_command word.now }
 {
-    if word == b"where".as_slice() {
+    if is_word(word, b"where") {
         Some(Command::Where)
-    } else if word == b"regs".as_slice() {
+    } else if is_word(word, b"regs") {
         Some(Command::Regs)
-    } else if word == b"stack".as_slice() {
+    } else if is_word(word, b"stack") {
         Some(Command::Stack)
-    } else if word == b"summary".as_slice() {
+    } else if is_word(word, b"summary") {
         Some(Command::Summary)
-    } else if word == b"quit".as_slice() {
+    } else if is_word(word, b"quit") {
         Some(Command::Quit)
     } else {
         None
@@ -73,21 +74,21 @@ fn lone_command(word: &[u8]) -> Option<Command>
 fn single_verb(word: &[u8]) -> Option<Single>
     ensures { result ≡ single_verb word.now }
 {
-    if word == b"back".as_slice() {
+    if is_word(word, b"back") {
         Some(Single::Back)
-    } else if word == b"fwd".as_slice() {
+    } else if is_word(word, b"fwd") {
         Some(Single::Fwd)
-    } else if word == b"goto".as_slice() {
+    } else if is_word(word, b"goto") {
         Some(Single::Goto)
-    } else if word == b"thread".as_slice() {
+    } else if is_word(word, b"thread") {
         Some(Single::Thread)
-    } else if word == b"reg".as_slice() {
+    } else if is_word(word, b"reg") {
         Some(Single::Reg)
-    } else if word == b"range".as_slice() {
+    } else if is_word(word, b"range") {
         Some(Single::Range)
-    } else if word == b"writer".as_slice() {
+    } else if is_word(word, b"writer") {
         Some(Single::Writer)
-    } else if word == b"why".as_slice() {
+    } else if is_word(word, b"why") {
         Some(Single::Why)
     } else {
         None
@@ -97,9 +98,9 @@ fn single_verb(word: &[u8]) -> Option<Single>
 fn double_verb(word: &[u8]) -> Option<Double>
     ensures { result ≡ double_verb word.now }
 {
-    if word == b"mem".as_slice() {
+    if is_word(word, b"mem") {
         Some(Double::Mem)
-    } else if word == b"list".as_slice() {
+    } else if is_word(word, b"list") {
         Some(Double::List)
     } else {
         None
