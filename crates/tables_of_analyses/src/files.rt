@@ -6,8 +6,8 @@ ghost use Rattle.rept_steps.specs.Linked.{EndBefore};
 use rept_isa::{Instr, StepRow, decode};
 use rept_steps::Steps;
 use std::alloc::{AllocError, Global};
-use test_files::executable;
 use test_lines::Numbers;
+use test_lines::files::executable;
 
 // The code of the executable, at 0x10000: 12 bytes that can't be written.
 const CODE: [u32; 3] = [0x0070_0293, 0x0032_8313, 0x0062_83b3];

@@ -7,12 +7,6 @@ use rept_session::{Answer, Findings, ThreadPoint, answer_line};
 use std::alloc::{AllocError, Global};
 use test_lines::Numbers;
 
-/// How many bytes a text has, and it.
-fn shown(alloc: Global, bytes: &[u8]) -> Result<String, AllocError> {
-    let text = String::from_utf8_lossy(alloc, bytes)?;
-    format!(in alloc; "{} bytes\n{text}", bytes.len())
-}
-
 /// The answer to a line at a point of the two steps, where such bits are known of each register.
 fn asked(
     alloc: Global,
@@ -38,8 +32,14 @@ pub fn at(
 ) -> Result<String, AllocError> {
     let (_, line) = said.split_once(' ').unwrap_or((said, ""));
     let answer = asked(alloc, note, n.word(0), line)?;
-    let text = shown(alloc, answer.text.bytes())?;
-    format!(in alloc; "at {}, ends {}, {text}", answer.cursor.point, answer.quit)
+    let bytes = answer.text.bytes();
+    format!(in alloc;
+        "at {}, ends {}, {} bytes\n{}",
+        answer.cursor.point,
+        answer.quit,
+        bytes.len(),
+        String::from_utf8_lossy(alloc, bytes)?
+    )
 }
 
 /// How a session ends whose read with the first number fails and whose write with the second one does, and what it writes.
@@ -49,9 +49,24 @@ pub fn served<F: Findings>(
     input: &[u8],
     n: &Numbers,
 ) -> Result<String, AllocError> {
-    let mut source = MemSource::new(alloc, input, &[u64::from(n.word(0))])?;
-    let mut sink = MemSink::new(alloc, 1000, &[u64::from(n.word(1))])?;
+    let (mut source, mut sink) = ports(alloc, input, n.word(0), n.word(1))?;
     let served = serve(alloc, findings, 3, &mut source, &mut sink);
-    let text = shown(alloc, sink.bytes())?;
-    format!(in alloc; "{served:?}, {text}")
+    let bytes = sink.bytes();
+    format!(in alloc;
+        "{served:?}, {} bytes\n{}",
+        bytes.len(),
+        String::from_utf8_lossy(alloc, bytes)?
+    )
+}
+
+/// An input whose read with a number fails, and a sink with room for 4000 bytes whose write with a number fails; none for 0.
+pub fn ports(
+    alloc: Global,
+    input: &[u8],
+    read: u32,
+    write: u32,
+) -> Result<(MemSource<'_>, MemSink), AllocError> {
+    let source = MemSource::new(alloc, input, &[u64::from(read)])?;
+    let sink = MemSink::new(alloc, 4000, &[u64::from(write)])?;
+    Ok((source, sink))
 }

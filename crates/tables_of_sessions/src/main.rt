@@ -1,24 +1,28 @@
-//! What lines of a session are and how they are answered, what packets of a debugger ask for and which replies they get, and which calls are open: the cases are
-//! the lines of `stdin`, and `stdout` has each with its answer.
+//! What lines of a session are and how they are answered, what packets of a debugger ask for and which replies they get, and which calls are open; what words of a command line mean,
+//! which numbers words spell, bits of a payload, numbers of 32 bits and printed forms. The cases are the lines of `stdin`, and `stdout` has each with its answer.
 #![tactic(auto)]
 
+mod bits;
 mod fixed;
 mod lines;
 mod packets;
 mod stacks;
 mod threads;
+mod words;
 
 use fixed::two_steps;
 use rept_session::Findings;
+use rept_word::Text;
 use std::alloc::{AllocError, Global};
 use std::io;
 use test_lines::Numbers;
 use threads::two_threads;
 
-/// The text that lines make, and whether two threads are asked or one of two steps.
+/// The text that lines make, one with the printed forms of numbers, and whether two threads are asked or one of two steps.
 #[derive(Drop)]
 struct Sessions {
     text: Vec<u8>,
+    printed: Text,
     are_two: bool,
 }
 
@@ -30,18 +34,34 @@ impl Sessions {
         for word in said.split_whitespace() {
             numbers.take(word);
         }
-        let answer = if self.make(alloc, asked, said.as_bytes(), &numbers)? {
-            format!(in alloc; "{} bytes", self.text.len())?
-        } else if self.are_two {
-            self.told(alloc, &mut two_threads(), (asked, said), &numbers)?
-        } else {
-            self.told(alloc, &mut two_steps(), (asked, said), &numbers)?
-        };
+        let answer = self.answered(alloc, (asked, said), &numbers)?;
         format!(in alloc; "{line}: {}", answer.as_str().trim())
     }
 
+    fn answered(
+        &mut self,
+        alloc: Global,
+        (asked, said): (&str, &str),
+        n: &Numbers,
+    ) -> Result<String, AllocError> {
+        if self.make(alloc, asked, said.as_bytes(), n)? {
+            return format!(in alloc; "{} bytes", self.text.len());
+        }
+        if words::append(&mut self.printed, alloc, asked, said, n)? {
+            return format!(in alloc;
+                "{:?}",
+                String::from_utf8_lossy(alloc, self.printed.bytes())?
+            );
+        }
+        if self.are_two {
+            self.told(alloc, &mut two_threads(), (asked, said), n)
+        } else {
+            self.told(alloc, &mut two_steps(), (asked, said), n)
+        }
+    }
+
     /// Makes the text longer or another one, and answers whether it was asked to: `part TEXT`, `line TEXT` (with its end), `threads COUNT` (so many are asked, and the text is empty),
-    /// and what [`test_bytes::make`] makes.
+    /// and what [`test_lines::bytes::make`] makes.
     fn make(
         &mut self,
         alloc: Global,
@@ -59,7 +79,7 @@ impl Sessions {
                 self.are_two = n.word(0) == 2;
                 self.text.clear();
             }
-            _ => return test_bytes::make(alloc, &mut self.text, asked, n),
+            _ => return test_lines::bytes::make(alloc, &mut self.text, asked, n),
         }
         Ok(true)
     }
@@ -104,15 +124,17 @@ impl Sessions {
             "frame" => packets::framed(alloc, text),
             "arrival" => packets::arrival(alloc, self.text.as_slice(), n),
             "stack" => stacks::stack(alloc, n),
-            _ => String::from_str(alloc, "no case"),
+            _ => words::answer(alloc, asked, said, n),
         }
     }
 }
 
 fn main(rt: HostRuntime) -> io::Result<()> {
     let text = Vec::new(rt.alloc());
+    let printed = Text::new(rt.alloc());
     let mut sessions = Sessions {
         text,
+        printed,
         are_two: false,
     };
     for line in rt.lines(rt.alloc()) {

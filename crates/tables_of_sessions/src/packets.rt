@@ -1,7 +1,8 @@
 //! Packets of a debugger, and dialogs of them.
 
+use crate::lines::ports;
 use rept_dialog::converse;
-use rept_ports::{MemSink, MemSource};
+use rept_ports::MemSource;
 use rept_remote::{Arrival, Packets, push_packet};
 use rept_session::Findings;
 use rept_stub::Setting;
@@ -52,11 +53,12 @@ pub fn dialog<F: Findings>(
         skipped: 0,
         signal: 11,
     };
-    let mut source = MemSource::new(alloc, input, &[])?;
-    let mut sink = MemSink::new(alloc, 4000, &[u64::from(fail)])?;
+    let (mut source, mut sink) = ports(alloc, input, 0, fail)?;
     let ended = converse(alloc, findings, setting, &mut source, &mut sink);
-    let text = String::from_utf8_lossy(alloc, sink.bytes())?;
-    format!(in alloc; "{text} {ended:?}")
+    format!(in alloc;
+        "{} {ended:?}",
+        String::from_utf8_lossy(alloc, sink.bytes())?
+    )
 }
 
 /// What a dialog writes after its last acknowledgment, and how it ends.

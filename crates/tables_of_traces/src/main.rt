@@ -17,7 +17,7 @@ use files::Files;
 use std::alloc::{AllocError, Global};
 use std::io;
 use stretches::Stretches;
-use test_bytes::changed;
+use test_lines::bytes::changed;
 use test_lines::{Numbers, Table, tell};
 
 /// The tables of traces, with the files and the stretches of steps that some of their lines make.

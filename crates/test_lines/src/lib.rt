@@ -2,6 +2,8 @@
 //! after it are taken in their order; all other words are for the reader. A line that begins with `#` says where the values come from.
 #![tactic(auto)]
 
+pub mod bytes;
+pub mod files;
 mod numbers;
 
 pub use numbers::Numbers;

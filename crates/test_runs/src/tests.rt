@@ -8,7 +8,7 @@ use rept_runs::{CrashFiles, RunFault, is_several, one_path, open_run};
 use rept_trace::TraceFault;
 use std::alloc::{AllocError, Global};
 use std::test::Fail;
-use test_files::{core_of_threads, executable};
+use test_lines::files::{core_of_threads, executable};
 
 // addi x0, x0, 0; sb x6, 0(x5); addi x0, x0, 0, twice.
 const CODE: [u32; 4] = [0x13, 0x62_8023, 0x13, 0x13];

@@ -1,8 +1,6 @@
 //! Files that the lines of a table make: numbers that are appended as bytes and words, and bytes that are changed.
-#![tactic(auto)]
-
+use crate::Numbers;
 use std::alloc::{AllocError, Global};
-use test_lines::Numbers;
 
 /// Begins another file, makes it longer or changes it, and answers whether it was asked to: `file`, `words` and `bytes` with the numbers that are appended, `zeros COUNT`,
 /// `again COUNT LENGTH` (the last bytes, of such a length, so many times more), and `put`, of which [`changed`] tells the numbers.
