@@ -13,7 +13,7 @@ use rept_word::OutOfMemory;
 use std::alloc::Global;
 
 /// How a session ended.
-#[derive(Clone, Copy)]
+#[derive(Clone, Copy, Debug)]
 pub enum Served {
     /// At `quit`, or at the end of the input. All answers were written.
     Ended,
