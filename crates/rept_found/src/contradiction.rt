@@ -12,7 +12,7 @@ use rept_report::ConflictKind;
 use rept_session::{Place, ThreadPlace};
 
 /// A contradiction among what follows from a run and a dump, and where it is, as a session names it.
-#[derive(Clone, Copy, Debug, PartialEq, Eq)]
+#[derive(Clone, Copy)]
 pub struct Contradiction {
     /// how many threads the run has
     pub threads: u32,
