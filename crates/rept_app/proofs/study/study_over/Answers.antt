@@ -42,4 +42,3 @@ returns-in-Err-clause-causes g c = λ notes are.
 pub returns-in-Err-clause-impossible : goal.returns-in-Err-clause-impossible
 returns-in-Err-clause-impossible g c = λ notes are.
     refused_excludes (means g.W.Partial.sets g.W.Transfer.moves atomic_rules) (crash_of c.args.dump.now notes) c.args.run.now c.in-Err.refusal (c.in-Err.ensures.refused notes are) _ c.tell.result c.tell.ensures
-
