@@ -3,7 +3,7 @@
 ghost use Rattle.std.specs.Prelude.{◌≡◌, ◌++◌, IfOk, OnOk, codes};
 ghost use Rattle.std.specs.Fmt.{decimal};
 ghost use Rattle.rept_session.specs.Texts.{place_text};
-ghost use Rattle.rept_app.specs.Lines.{line_of, status_of, status_of_path, file_word, elf_fault_text, core_fault_text, map_fault_text, contradiction_text, conflict_text, two_values_text, cell_text, value_text_in};
+ghost use Rattle.rept_app.specs.Lines.{line_of, words_of, status_of, status_of_path, file_word, elf_fault_text, core_fault_text, map_fault_text, contradiction_text, conflict_text, two_values_text, cell_text, value_text_in};
 
 use crate::path_line::push_path_fault;
 use crate::status::Status;
@@ -21,7 +21,7 @@ use rept_word::{OutOfMemory, Text};
 use std::alloc::Global;
 
 /// One of the three files of a crash.
-#[derive(Clone, Copy, Debug, PartialEq, Eq)]
+#[derive(Clone, Copy)]
 pub enum FileKind {
     Exe,
     Core,
@@ -29,7 +29,7 @@ pub enum FileKind {
 }
 
 /// What ends a call, or its session.
-#[derive(Clone, Copy, Debug, PartialEq, Eq)]
+#[derive(Clone, Copy)]
 pub enum Refusal {
     Usage,
     LoadFault(FileKind),
@@ -76,27 +76,32 @@ impl Refusal {
         ensures { IfOk result (λ text. text ≡ line_of self.now) }
     {
         let mut text = Text::new(alloc);
-        match self {
-            Refusal::Usage => {
-                text.push(
-                    b"usage: rept open|bits EXE CORE TRACE [FROM] | rept self SEED STEPS | rept maps CORE TRACE [FROM]",
-                )?
-            }
-            Refusal::LoadFault(file) => push_file(&mut text, b"load-fault ", *file)?,
-            Refusal::NoFile(file) => push_file(&mut text, b"no-file ", *file)?,
-            Refusal::TooLarge(file) => push_file(&mut text, b"too-large ", *file)?,
-            Refusal::Executable(fault) => push_elf_fault(&mut text, b"executable ", fault)?,
-            Refusal::CoreImage(fault) => push_elf_fault(&mut text, b"core-image ", fault)?,
-            Refusal::Core(fault) => push_core_fault(&mut text, fault)?,
-            Refusal::Maps(fault) => push_map_fault(&mut text, fault)?,
-            Refusal::Path(fault) => push_path_fault(&mut text, fault)?,
-            Refusal::Inconsistent(conflict) => push_contradiction(&mut text, conflict)?,
-            Refusal::InputFault => text.push(b"input-fault")?,
-            Refusal::OutOfMemory => text.push(b"out-of-memory")?,
-            Refusal::TooMuchInput => text.push(b"too-much-input")?,
-        }
+        push_words(&mut text, self)?;
         text.push(b"\n")?;
         Ok(text)
+    }
+}
+
+/// The words of the line, without its end.
+fn push_words(text: &mut Text, refusal: &Refusal) -> Result<(), OutOfMemory>
+    ensures { OnOk result (text.new ≡ text.old ++ words_of refusal.now) }
+{
+    match refusal {
+        Refusal::Usage => text.push(
+            b"usage: rept open|bits EXE CORE TRACE [FROM] | rept self SEED STEPS | rept maps CORE TRACE [FROM]",
+        ),
+        Refusal::LoadFault(file) => push_file(text, b"load-fault ", *file),
+        Refusal::NoFile(file) => push_file(text, b"no-file ", *file),
+        Refusal::TooLarge(file) => push_file(text, b"too-large ", *file),
+        Refusal::Executable(fault) => push_elf_fault(text, b"executable ", fault),
+        Refusal::CoreImage(fault) => push_elf_fault(text, b"core-image ", fault),
+        Refusal::Core(fault) => push_core_fault(text, fault),
+        Refusal::Maps(fault) => push_map_fault(text, fault),
+        Refusal::Path(fault) => push_path_fault(text, fault),
+        Refusal::Inconsistent(conflict) => push_contradiction(text, conflict),
+        Refusal::InputFault => text.push(b"input-fault"),
+        Refusal::OutOfMemory => text.push(b"out-of-memory"),
+        Refusal::TooMuchInput => text.push(b"too-much-input"),
     }
 }
 

@@ -26,7 +26,7 @@ use rept_words::Domain;
 use std::alloc::Global;
 
 /// A dialog that was held.
-#[derive(Clone, Copy, Debug)]
+#[derive(Clone, Copy)]
 pub struct Talk {
     /// the number of the packet from which the run was rebuilt
     pub from: u32,
