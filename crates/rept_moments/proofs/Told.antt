@@ -1,13 +1,13 @@
 -- What the tables of several threads tell.
 use Rattle.std.proofs.Common.{◌≡◌, ℕ, suc, ◌+◌, ◌<◌, ◌&&◌, ◌||◌, not, nat_lt, cond, Bool, true, false, List, ◌∷◌, length, Option, Some, None, slice_get, unwrap_or, get_or, refl, sym, ap, ◌∙◌, subst, arith}
 use Rattle.std.specs.Option.{is_some, IsSome}
-use Rattle.std.proofs.lemmas.Bool.{ltb-true, ltb-false}
+use Rattle.std.proofs.lemmas.Bool.{ltb-true, ltb-false, or_right}
 use Rattle.std.proofs.lemmas.Option.{slice_get_past, slice_get-get_or}
 use Rattle.rept_isa.specs.declared.row.StepRow.{StepRow}
 use Rattle.rept_steps.specs.Course.{Course, Row, row_of, rows_of, IsRow, row_at}
 use Rattle.rept_order.specs.Moments.{Moment, stretch, stores}
 use Rattle.rept_order.specs.Moments.Moment.{before, after, at_end}
-use Rattle.rept_order.specs.Times.{not_later}
+use Rattle.rept_order.specs.Times.{dark_before, not_later}
 use Rattle.rept_order.specs.Legs.{leg_row}
 use Rattle.rept_course.specs.Making.{is_still, next_point, lasts, rank, ranked}
 use Rattle.rept_course.specs.Numbered.{row_on}
@@ -45,6 +45,14 @@ pub ahead_told : (C V : Course) (n : Numbered) (k i : ℕ) (o : Option Side) (r 
 ahead_told C V n k i o r view kept place e =
     let last = told_is C C n k o (told C o) refl kept place refl in
     e ∙ ap (λ (m : Moment). not_later C m (before (row_on C i))) last ∙ ap (λ (D : Course). (numbered D).ahead i k) view
+
+pub dark_told : (C V : Course) (n : Numbered) (k : ℕ) (o : Option Side) (r : Bool) → C ≡ V → moments_at C n.list ≡ lasts C (in_order C) → o ≡ at_place n.list k → r ≡ (not (is_some C.dark) || dark_before C (told C o)) → r ≡ (numbered V).dark_past k
+dark_told C V n k o r view kept place e =
+    let last = told_is C C n k o (told C o) refl kept place refl in
+    e ∙ ap (λ (m : Moment). not (is_some C.dark) || dark_before C m) last ∙ ap (λ (D : Course). (numbered D).dark_past k) view
+
+pub dark_told_end : (C V : Course) (n : Numbered) (k : ℕ) → C ≡ V → moments_at C n.list ≡ lasts C (in_order C) → None ≡ at_place n.list k → true ≡ (numbered V).dark_past k
+dark_told_end C V n k view kept place = dark_told C V n k None true view kept place (sym (or_right (not (is_some C.dark)) true refl))
 
 pub merged_here : (C V : Course) (merged xs : List Bool) (g : ℕ) (b d : Bool) → C ≡ V → merged ≡ by_point (merged_at C) (points_in C) → xs ≡ merged → g < points_in V → b ≡ get_or xs g d → b ≡ merged_at V g
 merged_here C V merged xs g b d view are same less read =

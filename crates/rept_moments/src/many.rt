@@ -31,7 +31,7 @@ use crate::side::{Place, Side, Timed};
 use crate::writers::Writers;
 use crate::writing::{both, neither};
 use rept_isa::{StepRow, is_call};
-use rept_order::{Act, Moment};
+use rept_order::Moment;
 use rept_steps::Run;
 use std::alloc::{AllocError as OutOfMemory, Global};
 use std::marker::Model;
@@ -386,9 +386,10 @@ impl<'a> Many<'a> {
         if !self.is_dark() {
             return true;
         }
-        self.points
-            .order()
-            .is_wholly_before(Act::Dark, self.last(m))
+        match self.numbers.at(m) {
+            Some(side) => self.points.is_dark_past(side),
+            None => true,
+        }
     }
 
     /// Whether they lie wholly before the row.
@@ -396,13 +397,10 @@ impl<'a> Many<'a> {
         requires { IsSome ((seen_of self.now).legs.row row) }
         ensures { result ≡ (seen_of self.now).moments.dark_before row }
     {
-        let dark = self.is_dark();
-        let moment = self.points.moment(Side {
+        self.points.is_dark_past(Side {
             point: row,
             is_after: false,
-        });
-        let before = self.points.order().is_wholly_before(Act::Dark, moment);
-        !dark || before
+        })
     }
 
     /// The row that is no call and has these moments before and after it.

@@ -1,6 +1,6 @@
 //! The points of a run, their rows, and the times of these.
 
-ghost use Rattle.std.specs.Prelude.{◌≡◌, ◌+◌, ◌<◌, ◌≤◌, length, IfOk, OnOk};
+ghost use Rattle.std.specs.Prelude.{◌≡◌, ◌+◌, ◌<◌, ◌≤◌, ◌||◌, not, length, IfOk, OnOk};
 ghost use Rattle.std.specs.Option.{is_some, IsSome};
 ghost use Rattle.rept_steps.specs.Course.{row_at, row_of, rows_of, IsSoundCourse};
 ghost use Rattle.rept_steps.specs.Runs.{course_of};
@@ -9,7 +9,7 @@ ghost use Rattle.rept_order.specs.Legs.{points_before, leg_row};
 ghost use Rattle.rept_order.specs.Moments.{stores};
 ghost use Rattle.rept_order.specs.Ordered.{course_in};
 ghost use Rattle.rept_order.specs.Runs.{edge_event, moment_named};
-ghost use Rattle.rept_order.specs.Times.{begin_of, not_later};
+ghost use Rattle.rept_order.specs.Times.{begin_of, dark_before, not_later};
 ghost use Rattle.rept_course.specs.Numbered.{row_on};
 ghost use Rattle.rept_moments.specs.Begins.{stands_by};
 ghost use Rattle.rept_moments.specs.Edges.{edges_at, edges_in, times_at};
@@ -240,14 +240,6 @@ impl<'a> Points<'a> {
         self.places.as_slice().len() as u32
     }
 
-    /// The order of the run.
-    pub fn order(&self) -> Order<'a>
-        ensures course { course_in result ≡ self.now }
-        ensures sound { IsSoundCourse (course_in result) }
-    {
-        Order::new(self.run)
-    }
-
     /// The thread and the number in it.
     pub fn place(&self, point: u32) -> Place
         requires { point < points_in self.now }
@@ -401,6 +393,17 @@ impl<'a> Points<'a> {
         ensures { result ≡ is_some self.now.dark }
     {
         self.run.dark.is_some()
+    }
+
+    /// Whether all that isn't told, if there is any, happens before a moment of a row.
+    pub fn is_dark_past(&self, side: Side) -> bool
+        requires { side.point < points_in self.now }
+        ensures { result ≡ (not (is_some self.now.dark) || dark_before self.now (moment_at_side self.now side)) }
+    {
+        match self.run.dark {
+            Some(dark) => dark < self.begin(side),
+            None => true,
+        }
     }
 
     /// Whether something that isn't told may happen at the time or later.
