@@ -1,15 +1,16 @@
 -- Of two numbers of one thread with the same times rows of other threads lie before the one as before the other, and after it as after that.
 use Rattle.std.proofs.Common.{◌≡◌, ◌≢◌, ℕ, suc, ◌+◌, ◌*◌, ◌<◌, ◌||◌, not, eqb, nat_lt, Bool, true, false, Option, Some, None, inl, inr, refl, sym, ap, ◌∙◌, subst, arith}
 use Rattle.std.specs.Option.{is_some}
-use Rattle.std.proofs.lemmas.Bool.{cases_order, and_parts, eqb-true}
+use Rattle.std.proofs.lemmas.Bool.{cases_order, and_parts, and_from, eq-eqb, eqb-true}
 use Rattle.rept_steps.specs.declared.slice.Slice.{Slice}
-use Rattle.rept_steps.specs.Course.{Course, Row, row_of, IsRow, IsSoundCourse}
-use Rattle.rept_order.specs.Events.{event_slice}
+use Rattle.rept_steps.specs.Course.{Course, Row, row_of, calls, IsRow, IsSoundCourse}
+use Rattle.rept_order.specs.Events.{Event, event_slice}
+use Rattle.rept_order.specs.Events.Part.{whole}
 use Rattle.rept_order.specs.Moments.{Moment, IsMoment, NotLater, Earlier, Stretch, stretch, Falls, stores, ArePause}
 use Rattle.rept_order.specs.Moments.Moment.{before, after, at_end}
 use Rattle.rept_order.specs.Moments.Act.{row}
 use Rattle.rept_order.specs.Moments.ArePause.{between, last}
-use Rattle.rept_order.specs.Runs.{beside_by}
+use Rattle.rept_order.specs.Runs.{edge_part, beside_by}
 use Rattle.rept_order.specs.Times.{ends_by, begin_of, not_later, falls_between}
 use Rattle.rept_order.specs.Legs.{leg_row}
 use Rattle.rept_order.proofs.Falling.{falls_true}
@@ -24,7 +25,7 @@ use Rattle.rept_moments.specs.Ordering.{side, moment_at_side, event_at, in_order
 use Rattle.rept_moments.specs.Numbers.{numbers_of, numbered}
 use Rattle.rept_moments.specs.Numbering.{at_place, Numbered}
 use Rattle.rept_moments.specs.Tables.{moments_at}
-use Rattle.rept_moments.specs.Together.{AreBeside, AreTogether}
+use Rattle.rept_moments.specs.Together.{AreBeside, IsTogether, AreTogether}
 use Rattle.rept_moments.specs.Writers.{end_of}
 use Rattle.rept_moments.proofs.Apart.{are_numbers}
 use Rattle.rept_moments.proofs.Falls.{row_last}
@@ -50,8 +51,61 @@ beside_told C V s u b view thread e holds =
     let parts = and_parts (eqb (begin_at C s) (begin_at C u)) (same_end (end_at C s) (end_at C u)) (sym e ∙ holds) in
     subst (λ (D : Course). AreBeside D s u) view (record { thread = thread; begin = eqb-true (begin_at C s) (begin_at C u) parts.0; end = ends_true (end_at C s) (end_at C u) parts.1 })
 
+same_ends : (o p : Option ℕ) → o ≡ p → same_end o p ≡ true
+same_ends None None e = refl
+same_ends (Some a) (Some b) e = eq-eqb a b (some_same e)
+same_ends None (Some b) e = absurd (none_some e)
+same_ends (Some a) None e = absurd (none_some (sym e))
+
+pub told_beside : (C V : Course) (s u : Side) (b : Bool) → C ≡ V → b ≡ is_alike C s u → AreBeside V s u → b ≡ true
+told_beside C V s u b view e its =
+    let here : AreBeside C s u = subst (λ (D : Course). AreBeside D s u) (sym view) its in
+    e ∙ and_from (eqb (begin_at C s) (begin_at C u)) (same_end (end_at C s) (end_at C u)) (eq-eqb (begin_at C s) (begin_at C u) here.begin) (same_ends (end_at C s) (end_at C u) here.end)
+
 pub last_told : (C V : Course) (n : Numbered) (k : ℕ) (s : Side) → C ≡ V → moments_at C n.list ≡ lasts C (in_order C) → Some s ≡ at_place n.list k → (numbers_of V).last k ≡ moment_at_side V s
 last_told C V n k s view kept place = sym (told_is C V n k (Some s) (moment_at_side V s) view kept place (ap (λ (D : Course). moment_at_side D s) (sym view)))
+
+-- a moment of a row isn't the end, and has the row's times
+not_beside : (r : Row) (b : Bool) → at_end ≡ beside_by r b → ⊥
+not_beside r false e = cc
+not_beside r true e = cc
+
+pub end_apart : (C V : Course) (n : Numbered) (k : ℕ) (s : Side) → C ≡ V → moments_at C n.list ≡ lasts C (in_order C) → None ≡ at_place n.list k → (numbers_of V).last k ≡ moment_at_side V s → ⊥
+end_apart C V n k s view kept place e = not_beside (row_on V s.point) s.is_after (told_is C V n k None at_end view kept place refl ∙ e)
+
+abbrev moment_event : Course → Moment → Event
+moment_event C (before r) = record { row = r; part = edge_part false (calls C r) }
+moment_event C (after r) = record { row = r; part = edge_part true (calls C r) }
+moment_event C at_end = record { row = row_of 0 0; part = whole }
+
+event_by : (C : Course) (r : Row) (b : Bool) → moment_event C (beside_by r b) ≡ record { row = r; part = edge_part b (calls C r) }
+event_by C r false = refl
+event_by C r true = refl
+
+module _ (C : Course) (s u : Side) (e : moment_at_side C s ≡ moment_at_side C u) where
+  one_event : event_at C s ≡ event_at C u
+  one_event = sym (event_by C (row_on C s.point) s.is_after) ∙ ap (moment_event C) e ∙ event_by C (row_on C u.point) u.is_after
+
+  pub beside_same : AreBeside C s u
+  beside_same = record {
+    thread = ap (λ (x : Event). x.row.thread) one_event;
+    begin = ap (begin_of C) one_event;
+    end = ap (λ (x : Event). end_of (event_slice C x)) one_event;
+  }
+
+beside_then : (C : Course) (s u x : Side) → AreBeside C s u → AreBeside C u x → AreBeside C s x
+beside_then C s u x a b = record { thread = a.thread ∙ b.thread; begin = a.begin ∙ b.begin; end = a.end ∙ b.end }
+
+-- which moment of a row it is that has the number doesn't matter
+pub together_beside : (C : Course) (s u : Side) (k : ℕ) → (numbers_of C).last k ≡ moment_at_side C u → IsTogether C s k → AreBeside C s u
+together_beside C s u k e its = beside_then C s its.other u its.beside (beside_same C its.other u (sym its.last ∙ e))
+
+pub together_from : (C : Course) (m k : ℕ) (s : Side) → (numbers_of C).last m ≡ moment_at_side C s → AreTogether C m k → IsTogether C s k
+together_from C m k s e its = record {
+  other = its.together.other;
+  last = its.together.last;
+  beside = beside_then C s its.one its.together.other (beside_same C s its.one (sym e ∙ its.last)) its.together.beside;
+}
 
 -- a slice that ends at the same time ends before the same times
 ends_alike : (o p : Option Slice) (t : ℕ) → end_of o ≡ end_of p → ends_by o t ≡ ends_by p t
@@ -100,10 +154,6 @@ module _ (C : Course) where
       pub ahead_alike : (numbered C).ahead i m ≡ (numbered C).ahead i k
       ahead_alike = ap (λ (x : Moment). not_later C x (before (row_on C i))) its.last ∙ before_alike ∙ ap (λ (x : Moment). not_later C x (before (row_on C i))) (sym its.together.last)
 
-  before_beside : (r : Row) (b : Bool) → at_end ≡ beside_by r b → ⊥
-  before_beside r false e = cc
-  before_beside r true e = cc
-
   module _ (sound : IsSoundCourse C) where
     names : AreNames C (numbers_of C)
     names = are_numbers C sound
@@ -139,7 +189,7 @@ module _ (C : Course) where
           thread = ap thread_in to ∙ sym (ap (λ (r : Row). r.thread) here);
           same = ap after here ∙ sym from;
         }
-    placed_pause n x s is e (last t i all same) = absurd (before_beside (row_on C s.point) s.is_after (sym (ap (λ (y : Stretch). y.to) same) ∙ e))
+    placed_pause n x s is e (last t i all same) = absurd (not_beside (row_on C s.point) s.is_after (sym (ap (λ (y : Stretch). y.to) same) ∙ e))
 
     placed : (n : ℕ) (x : Moment) (s : Side) → IsMoment C x → (numbers_of C).name x ≡ n → (numbers_of C).last n ≡ moment_at_side C s → IsPlaced n x
     placed n x s is named e =

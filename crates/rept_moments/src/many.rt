@@ -1,6 +1,6 @@
 //! The numbers of the moments of several threads.
 
-ghost use Rattle.std.specs.Prelude.{◌≡◌, ◌≤◌, ◌<◌, ◌^◌, ◌+◌, Some, true, length, IfOk, IfSome, IsSome, OnOk};
+ghost use Rattle.std.specs.Prelude.{◌≡◌, ◌↔◌, ◌≤◌, ◌<◌, ◌^◌, ◌+◌, Some, true, length, IfOk, IfSome, IsSome, OnOk};
 ghost use Rattle.rept_steps.specs.Course.{rows_of, IsSoundCourse};
 ghost use Rattle.rept_steps.specs.Runs.{course_of};
 ghost use Rattle.rept_order.specs.Legs.{points_before};
@@ -321,9 +321,9 @@ impl<'a> Many<'a> {
         }
     }
 
-    /// Whether two numbers are of one thread and have the same times: a row of another thread then lies before both or neither, and after both or neither. Of the end it isn't said.
+    /// Whether two numbers are of one thread and have the same times: a row of another thread then lies before both or neither, and after both or neither. The end is together with none.
     pub fn are_together(&self, m: u32, k: u32) -> bool
-        ensures { result ≡ true → AreTogether self.now m k }
+        ensures { result ≡ true ↔ AreTogether self.now m k }
     {
         match self.numbers.at(m) {
             Some(side) => self.is_together(side, k),
@@ -334,7 +334,7 @@ impl<'a> Many<'a> {
     /// The same of a moment of a row, and a number.
     fn is_together(&self, side: Side, k: u32) -> bool
         requires { IsSome ((seen_of self.now).legs.row side.point) }
-        ensures { result ≡ true → IsTogether self.now side k }
+        ensures { result ≡ true ↔ IsTogether self.now side k }
     {
         match self.numbers.at(k) {
             Some(other) => self.are_beside(side, other),
@@ -346,7 +346,7 @@ impl<'a> Many<'a> {
     fn are_beside(&self, one: Side, other: Side) -> bool
         requires one { IsSome ((seen_of self.now).legs.row one.point) }
         requires other { IsSome ((seen_of self.now).legs.row other.point) }
-        ensures { result ≡ true → AreBeside self.now one other }
+        ensures { result ≡ true ↔ AreBeside self.now one other }
     {
         if self.points.thread(one.point) == self.points.thread(other.point) {
             is_alike(&self.points, one, other)

@@ -1,8 +1,11 @@
-use Rattle.std.proofs.Common.{sym, subst, ◌∙◌}
+use Rattle.std.proofs.Common.{◌≡◌, sym, subst, ◌∙◌}
+use Rattle.std.proofs.lemmas.Bool.{false≢true}
 use Rattle.rept_steps.specs.Course.{Course}
 use Rattle.rept_moments.specs.Tables.{AreTables}
+use Rattle.rept_moments.specs.Numbers.{numbers_of}
+use Rattle.rept_moments.specs.Ordering.{moment_at_side}
 use Rattle.rept_moments.proofs.Falls.{leads_placed}
-use Rattle.rept_moments.proofs.Together.{last_told}
+use Rattle.rept_moments.proofs.Together.{end_apart, last_told, together_beside}
 use Rattle.rept_moments.proofs.many.Many.is_together.Goals as goal
 
 pub are_beside-requires-clause-other : goal.are_beside-requires-clause-other
@@ -11,8 +14,9 @@ are_beside-requires-clause-other c =
     leads_placed c.args.self.now t.sound c.self.inside.numbers t.kept c.args.k c.in-Some.other (sym c.at.ensures.is ∙ c.in-Some.is)
 
 pub returns-in-Some : goal.returns-in-Some
-returns-in-Some c = λ yes. record {
-  other = c.in-Some.other;
-  last = last_told c.self.inside.points c.args.self.now c.self.inside.numbers c.args.k c.in-Some.other c.self.view_is c.self.invariant.kept (sym c.in-Some.is ∙ c.at.ensures.is);
-  beside = c.are_beside.ensures yes;
-}
+returns-in-Some c =
+    let last : (numbers_of c.args.self.now).last c.args.k ≡ moment_at_side c.args.self.now c.in-Some.other = last_told c.self.inside.points c.args.self.now c.self.inside.numbers c.args.k c.in-Some.other c.self.view_is c.self.invariant.kept (sym c.in-Some.is ∙ c.at.ensures.is) in
+    (λ yes. record { other = c.in-Some.other; last = last; beside = c.are_beside.ensures.0 yes }, λ its. c.are_beside.ensures.1 (together_beside c.args.self.now c.args.side c.in-Some.other c.args.k last its))
+
+pub returns-in-None : goal.returns-in-None
+returns-in-None c = (λ yes. absurd (false≢true yes), λ its. absurd (end_apart c.self.inside.points c.args.self.now c.self.inside.numbers c.args.k its.other c.self.view_is c.self.invariant.kept (sym c.in-None.is ∙ c.at.ensures.is) its.last))
