@@ -8,7 +8,7 @@ use Rattle.rept_isa.specs.declared.row.StepRow.{StepRow}
 use Rattle.rept_steps.specs.declared.threads.ThreadRows.{ThreadRows}
 use Rattle.rept_steps.specs.Course.{Course, Row, row_of, rows_of, no_thread, IsRow, row_at}
 use Rattle.rept_order.specs.Legs.{Point, points_before, number_of, row_from, leg_row}
-use Rattle.rept_order.specs.Moments.{stores}
+use Rattle.rept_order.specs.Moments.{is_writing, stores}
 use Rattle.rept_order.proofs.Legs.{point_number, thread_inside, leg_leads}
 use Rattle.rept_course.specs.Numbered.{row_on}
 use Rattle.rept_course.proofs.Naming.{some_is, row_inside, are_legs}
@@ -153,6 +153,13 @@ module _ (C : Course) (list : List Place) (firsts : List ℕ) (all : List Edges)
       let long : length xs ≡ length all = ap (λ (ys : List Edges). length ys) same in
       let below : g < length xs = ltb-true g (length xs) (sym less) in
       ap (λ (e : Edges). e.stores) (read ∙ edges_here V g x xs view same (omega arith))
+
+  pub stores_none : (V : Course) (g : ℕ) (xs : List Edges) → C ≡ V → xs ≡ all → length xs ≤ g → false ≡ stores V (row_on V g)
+  stores_none V g xs view same past =
+      let count = edges_count in
+      let places = places_count in
+      let long : length xs ≡ length all = ap (λ (ys : List Edges). length ys) same in
+      ap is_writing (sym (no_row_past g (omega arith))) ∙ ap (λ (D : Course). stores D (row_on D g)) view
 
   pub times_after : (V : Course) (s : Side) (d : Edges) (xs : List Edges) → C ≡ V → xs ≡ all → s.point < points_in V → s.is_after ≡ true → (get_or xs s.point d).after ≡ times_at V s
   times_after V s d xs view same less e = ap (λ (x : Edges). x.after) (edges_here V s.point d xs view same less) ∙ ap (λ (b : Bool). times_at V (record { point = s.point; is_after = b })) (sym e)

@@ -313,23 +313,13 @@ impl<'a> Points<'a> {
         point + 1
     }
 
-    /// Whether the row that leads from the point, if one does, writes memory, by the row itself.
-    fn leads_to_writing(&self, point: u32) -> bool
-        ensures { result ≡ stores self.now (row_on self.now point) }
-    {
-        match self.row(point) {
-            Some(row) => writes_memory(row.instr),
-            None => false,
-        }
-    }
-
     /// Whether the row that leads from the point, if one does, writes memory, whatever is known of it.
     pub fn stores(&self, point: u32) -> bool
         ensures { result ≡ stores self.now (row_on self.now point) }
     {
         match self.edges.get(point as usize) {
             Some(edges) => edges.stores,
-            None => self.leads_to_writing(point),
+            None => false,
         }
     }
 
