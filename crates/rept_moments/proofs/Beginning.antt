@@ -24,6 +24,12 @@ none_some e = cc
 some_same : {A : Type 0} {x y : A} → Some x ≡ Some y → x ≡ y
 some_same e = cc
 
+-- those of one more point
+pub firsts_more : (C : Course) (g : ℕ) (old new : List Begun) → old ≡ firsts_to C g → new ≡ old ++ firsts_at C g → new ≡ firsts_to C (g + 1)
+firsts_more C g old new before e =
+    let one : suc g ≡ g + 1 = omega arith in
+    e ∙ ap (λ (xs : List Begun). xs ++ firsts_at C g) before ∙ ap (firsts_to C) one
+
 -- of two times the sooner one
 pub by_left : (o : Option ℕ) (p : Option ℕ) (e : ℕ) → IsBy o e → IsBy (sooner_end o p) e
 by_left None p e h = absurd h
