@@ -3,17 +3,20 @@
 ghost use Rattle.std.specs.Prelude.{◌≡◌, ◌<◌, ◌^◌, ℕ, List, length, IfOk, IfErr};
 ghost use Rattle.rept_runs.specs.Kind.{is_several};
 ghost use Rattle.rept_ports.specs.Port.{move};
+ghost use Rattle.rept_steps.specs.Runs.{course_of};
+ghost use Rattle.rept_moments.specs.Courses.{IsCourseOf};
 ghost use Rattle.rept_found.specs.Crash.{crash_of, means};
 ghost use Rattle.rept_amo.specs.Atomic.{atomic_rules};
 ghost use Rattle.rept_app.specs.Domains.{means_of};
 ghost use Rattle.rept_app.specs.Reading.{AreNotesOf, HasNotes};
+ghost use Rattle.rept_app.specs.Study.{AreEndsOf};
 ghost use Rattle.rept_app.specs.Told.{crash_run, crash_trace};
 ghost use Rattle.rept_app.specs.TraceRun.{FitsDump};
 ghost use Rattle.rept_debug.specs.Debugged.{IsHeldTrace, IsRefusedRun, IsRefusedTrace, Notices, TalksOver, streams};
 
 use crate::begin::begin_run;
 use crate::notice::noticed;
-use rept_app::{Manner, Refusal, analyse, basis_of};
+use rept_app::{Basis, Manner, Refusal, analyse, basis_of};
 use rept_dialog::{Conversed, converse};
 use rept_dump::Dump;
 use rept_known::Both;
@@ -101,10 +104,29 @@ fn hold_by<W: Transfer, S: Source, K: Sink>(
     ensures refused { (notes : List (List ℕ)) → AreNotesOf dump.now notes → IfErr result (IsRefusedRun (crash_run (means W.sets W.moves atomic_rules) (crash_of dump.now notes) run.now)) }
     ensures unread { IfErr result (λ _. (input.new ≡ input.old) × (out.new ≡ out.old)) }
 {
-    let Ok(basis) = basis_of(alloc, run, dump) else {
-        return Err(Refusal::OutOfMemory);
-    };
-    match analyse::<W>(alloc, run, &basis, dump) {
+    match basis_of(alloc, run, dump) {
+        Ok(basis) => hold_over::<W, S, K>(alloc, run, &basis, dump, input, out),
+        Err(_) => Err(Refusal::OutOfMemory),
+    }
+}
+
+/// The same over what the analysis rests on.
+fn hold_over<W: Transfer, S: Source, K: Sink>(
+    alloc: Global,
+    run: &Run,
+    basis: &Basis<'_>,
+    dump: &Dump<'_>,
+    input: &mut S,
+    out: &mut K,
+) -> Result<Conversed, Refusal>
+    requires fits { FitsDump dump.now run.now }
+    requires course { IsCourseOf (course_of run.now) basis.now.paths.ways }
+    requires ended { AreEndsOf dump.now run.now basis.now.ends }
+    ensures held { (notes : List (List ℕ)) → AreNotesOf dump.now notes → IfOk result (TalksOver (crash_run (means W.sets W.moves atomic_rules) (crash_of dump.now notes) run.now) (move (S.port input.old) (S.port input.new)) (move (K.port out.old) (K.port out.new))) }
+    ensures refused { (notes : List (List ℕ)) → AreNotesOf dump.now notes → IfErr result (IsRefusedRun (crash_run (means W.sets W.moves atomic_rules) (crash_of dump.now notes) run.now)) }
+    ensures unread { IfErr result (λ _. (input.new ≡ input.old) × (out.new ≡ out.old)) }
+{
+    match analyse::<W>(alloc, run, basis, dump) {
         Ok(mut found) => {
             let setting = Setting {
                 skipped: run.skipped,

@@ -1,6 +1,8 @@
-//! The numbers that words spell.
+//! The numbers that words spell, and whether a text is a given word.
 #![tactic(auto)]
 
 pub mod digits;
+pub mod word;
 
 pub use digits::{decimal, hexadecimal, number_in};
+pub use word::is_word;

@@ -3,8 +3,9 @@
 ghost use Rattle.std.specs.Prelude.{◌≡◌};
 ghost use Rattle.rept_request.specs.Requests.{acted, change_begun, move_begun, move_named, query_begun, query_named, thread_begun};
 
-use crate::names::{acted_thread, is_word, thread_after};
+use crate::names::{acted_thread, thread_after};
 use crate::request::{Request, ThreadName, Way};
+use rept_number::is_word;
 
 /// Packets that move.
 pub fn move_named(packet: &[u8]) -> Option<Request>

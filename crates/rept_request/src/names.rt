@@ -2,18 +2,10 @@
 
 ghost use Rattle.std.specs.Prelude.{◌≡◌};
 ghost use Rattle.std.specs.List.{position};
-ghost use Rattle.std.specs.Str.{bytes_eq};
 ghost use Rattle.rept_request.specs.Names.{acted_thread, action_thread, first_action, is_colon, is_semicolon, name_of, thread_after, thread_name};
 
 use crate::request::ThreadName;
-use rept_number::hexadecimal;
-
-/// Whether a text is this one.
-pub fn is_word(text: &[u8], word: &[u8]) -> bool
-    ensures { result ≡ bytes_eq text.now word.now }
-{
-    text == word
-}
+use rept_number::{hexadecimal, is_word};
 
 /// The thread that a word names.
 fn thread_name(word: &[u8]) -> ThreadName

@@ -3,8 +3,8 @@
 ghost use Rattle.std.specs.Prelude.{◌≡◌, ◌<◌};
 ghost use Rattle.rept_session.specs.Registers.{named, plain_index, indexed, register_of};
 
-use crate::words::is_word;
 use rept_isa::Reg;
+use rept_number::is_word;
 
 /// The register that a word names. None exactly where it names none.
 pub fn register_named(word: &[u8]) -> Option<Reg>

@@ -4,7 +4,7 @@ ghost use Rattle.std.specs.Prelude.{◌≡◌};
 ghost use Rattle.rept_session.specs.Commands.{lone_command, single_verb, double_verb, verb_of};
 
 use crate::command::Command;
-use crate::words::is_word;
+use rept_number::is_word;
 
 /// What a first word asks for: a command, or one that still wants its words.
 #[derive(Clone, Copy)]
