@@ -309,3 +309,20 @@ module _ {W : Type 0} (s : AnalysisState W) (a from : ℕ) where
           let within = its.inside m w late lt next in
           let to = its.to in
           alike_if s (passage a m w) (around.even m (omega (arith, begun, late)) (omega (arith, lt, to)) ∙ sym (around.even w within.0 within.1))
+
+-- and from a number that leads nowhere, too
+pub up_to_idle : {W : Type 0} (s : AnalysisState W) (a m : ℕ) → IsCarriedUpTo a m s → AreLinks a m s → IsCarriedUpTo a (m + 1) s
+up_to_idle s a m before here n w lt =
+    elim (cases_lt n m) [
+      | inl early ↦ before n w early
+      | inr late ↦ let same : n ≡ m = omega (arith, late, lt) in subst (λ (k : ℕ). IsCarriedIf (passage a k w) s) (sym same) (here w)
+    ]
+
+-- the same window, around another of its numbers
+pub around_at : {W : Type 0} (s : AnalysisState W) (a number m : ℕ) (known : Window) → IsEvenAround a number known s → known.from ≤ m → m < known.to → IsEvenAround a m known s
+around_at s a number m known around low high = record {
+  from = low;
+  to = high;
+  inside = around.inside;
+  even = λ i from to. around.even i from to ∙ sym (around.even m low high);
+}

@@ -60,6 +60,7 @@ impl Walls {
 
     /// Keeps which row kept a byte from going on from a number.
     pub fn note_stop(&mut self, number: u32, index: usize) {
+        self.last = Some(index);
         let number = number as usize;
         if number < self.stops.len() {
             self.stops[number] = Some(index);

@@ -248,6 +248,9 @@ impl<'a, P: Reaches + Drop, L: LastValues + Drop, B: ByteFacts, W: Transfer, R: 
             None => true,
             Some(pause) => {
                 let _end = self.end();
+                if self.is_walled(a, pause) {
+                    return false;
+                }
                 self.is_carried(a, pause, pause + 1)
             }
         }
@@ -325,6 +328,13 @@ impl<'a, P: Reaches + Drop, L: LastValues + Drop, B: ByteFacts, W: Transfer, R: 
         self.filled == 0
     }
 
+    /// Whether the same is known of a byte at all numbers of a strip, so that nothing is carried in it. Of a run that is one strip it isn't asked.
+    fn is_even_in(&self, a: u32, strip: Strip) -> bool
+        requires { strip.first ≤ (P.timeline self.now.paths).moments.end }
+    {
+        !self.is_whole(strip) && self.even_to(a, strip.first) >= strip.last
+    }
+
     /// The value of a byte over the numbers around one, as far as it is carried in their strip.
     fn carry_around(&mut self, a: u32, point: u32) -> Result<bool, Halt>
         requires writings { AreWritings (state_of (reader P.timeline L.values) W.sets W.moves R.rules B.store self.old) }
@@ -335,7 +345,7 @@ impl<'a, P: Reaches + Drop, L: LastValues + Drop, B: ByteFacts, W: Transfer, R: 
     {
         let number = point.min(self.end());
         let strip = self.strip(number);
-        if !self.is_calm(a, strip) {
+        if self.is_even_in(a, strip) || !self.is_calm(a, strip) {
             return Ok(false);
         }
         let piece = self.piece(a, number, strip);
@@ -747,6 +757,13 @@ impl<'a, P: Reaches + Drop, L: LastValues + Drop, B: ByteFacts, W: Transfer, R: 
                 blocker,
             };
             return Ok((link, like));
+        }
+        if self.blocks(a, m, next, blocker) {
+            let link = Link {
+                has_news: false,
+                blocker,
+            };
+            return Ok((link, next + 1));
         }
         let link = self.carry_link(a, m, next, blocker)?;
         Ok((link, next + 1))

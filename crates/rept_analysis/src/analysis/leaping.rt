@@ -1,11 +1,11 @@
 //! How far a byte's value goes at once, and over all moments.
 
-ghost use Rattle.std.specs.Prelude.{◌≡◌, ◌+◌, ◌<◌, ◌≤◌, ℕ, length, false, true, IfSome, IfOk, IfErr, ⊤};
+ghost use Rattle.std.specs.Prelude.{◌≡◌, ◌+◌, ◌<◌, ◌≤◌, ℕ, length, false, true, IsSome, IfSome, IfOk, IfErr, ⊤};
 ghost use Rattle.rept_reason.specs.declared.fact.Cell.TheVariants.{Byte};
 ghost use Rattle.rept_reach.specs.Reaching.{IsLeaving, IsReachedUp, IsReachedDown};
 ghost use Rattle.rept_report.specs.Timeline.{IsStrip};
 ghost use Rattle.rept_analysis.specs.State.{state_of, reader};
-ghost use Rattle.rept_analysis.specs.Drawing.{Knows, IsTracked, Grows, Drew, IsHalt, AreWritings, IsEven, IsCarriedUpTo, IsCarriedAlong, AllCarried, IsLeapUp, IsLeapDown, IsEvenAround};
+ghost use Rattle.rept_analysis.specs.Drawing.{Knows, IsTracked, Grows, Drew, IsHalt, AreWritings, IsEven, IsCarriedUpTo, IsCarriedAlong, AllCarried, AreLinks, IsCarriedIf, IsHitBy, IsLeapUp, IsLeapDown, IsEvenAround};
 
 use super::Analysis;
 use super::carrying::border;
@@ -148,10 +148,67 @@ impl<'a, P: Reaches + Drop, L: LastValues + Drop, B: ByteFacts, W: Transfer, R: 
         }
         let known = self.even_around(a, from);
         let walled = self.walled_to(a, from, known.to - 1);
-        if walled >= known.to {
-            return walled;
+        self.shut_to(a, walled, known)
+    }
+
+    /// A number from one on that is next to another one, which stands in a window, before which from there on the byte goes nowhere: the same is known in the window, or a row falls between.
+    fn idle_past(&self, a: u32, m: u32, next: u32, known: Window, row: Option<u32>) -> u32
+        requires even { IsEvenAround a m known (state_of (reader P.timeline L.values) W.sets W.moves R.rules B.store self.now) }
+        requires writings { AreWritings (state_of (reader P.timeline L.values) W.sets W.moves R.rules B.store self.now) }
+        requires next { (P.timeline self.now.paths).moments.next m next ≡ true }
+        requires there { IfSome row (λ i. IsSome ((P.timeline self.now.paths).legs.row i)) }
+        requires hits { IfSome row (λ i. IsHitBy a i (state_of (reader P.timeline L.values) W.sets W.moves R.rules B.store self.now)) }
+        ensures order { next ≤ result }
+        ensures idle { (v : ℕ) → next ≤ v → v < result → IsCarriedIf (record { address = a; from = m; to = v }) (state_of (reader P.timeline L.values) W.sets W.moves R.rules B.store self.now) }
+    {
+        if known.from <= next && next < known.to {
+            return known.to;
         }
-        self.leaving_from(walled, known)
+        if self.is_shut(a, m, next, row) { next + 1 } else { next }
+    }
+
+    /// Whether it is seen at once that a byte goes from a number of a window, at all of whose numbers the same is known of it, to none that is next to it: a row of the list that may write it, if
+    /// one is named, falls before those outside.
+    fn is_idle(&self, a: u32, m: u32, known: Window, index: Option<usize>) -> bool
+        requires even { IsEvenAround a m known (state_of (reader P.timeline L.values) W.sets W.moves R.rules B.store self.now) }
+        requires inside { m ≤ (P.timeline self.now.paths).moments.end }
+        requires writings { AreWritings (state_of (reader P.timeline L.values) W.sets W.moves R.rules B.store self.now) }
+        ensures { result ≡ true → AreLinks a m (state_of (reader P.timeline L.values) W.sets W.moves R.rules B.store self.now) }
+    {
+        let end = self.end();
+        let row = self.listed_hit(a, index);
+        let mut least = 0;
+        while least <= end {
+            let Some(next) = self.next_from(m, least) else {
+                return true;
+            };
+            least = self.idle_past(a, m, next, known, row);
+            if least == next {
+                return false;
+            }
+        }
+        true
+    }
+
+    /// A number from one of a window on, at all of whose numbers the same is known of a byte, before which it is carried no further: the same is known at those next to them, too, or a
+    /// row falls between that may write it, as the one of the list that stands at the window's end.
+    fn shut_to(&self, a: u32, from: u32, known: Window) -> u32
+        requires since { known.from ≤ from }
+        requires even { (number : ℕ) × IsEvenAround a number known (state_of (reader P.timeline L.values) W.sets W.moves R.rules B.store self.now) }
+        requires writings { AreWritings (state_of (reader P.timeline L.values) W.sets W.moves R.rules B.store self.now) }
+        ensures order { from ≤ result }
+        ensures up { IsCarriedUpTo a from (state_of (reader P.timeline L.values) W.sets W.moves R.rules B.store self.now) → IsCarriedUpTo a result (state_of (reader P.timeline L.values) W.sets W.moves R.rules B.store self.now) }
+    {
+        let hit = Some(self.listed_before(known.to - 1));
+        let mut number = from;
+        while number < known.to {
+            let leaving = self.leaving_from(number, known);
+            if !self.is_idle(a, leaving, known, hit) {
+                return leaving;
+            }
+            number = leaving + 1;
+        }
+        number
     }
 
     /// Whether a byte is known anywhere, so that it is tracked.
@@ -352,6 +409,7 @@ impl<'a, P: Reaches + Drop, L: LastValues + Drop, B: ByteFacts, W: Transfer, R: 
     {
         let mut learnt = false;
         let mut least = known.from;
+        let mut blocker = self.walls.last();
         while least < known.to {
             let Some(next) = self.next_from(m, least) else {
                 return Ok(learnt);
@@ -359,9 +417,9 @@ impl<'a, P: Reaches + Drop, L: LastValues + Drop, B: ByteFacts, W: Transfer, R: 
             if next >= known.to {
                 return Ok(learnt);
             }
-            let blocker = self.walls.last();
             let done = self.carry_next(a, m, next, blocker)?;
             learnt = learnt | done.0.has_news;
+            blocker = done.0.blocker;
             least = done.1;
         }
         Ok(learnt)
@@ -384,7 +442,7 @@ impl<'a, P: Reaches + Drop, L: LastValues + Drop, B: ByteFacts, W: Transfer, R: 
         if !self.paths.is_dark_past(former.last) {
             return Ok((false, 0));
         }
-        if self.known_byte(former.last, a).is_some() {
+        if self.known_byte(former.last, a).is_some() || self.is_walled(a, former.last) {
             return Ok((false, former.first));
         }
         let new = self.carry_from(a, former.last, known)?;

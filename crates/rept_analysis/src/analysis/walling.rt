@@ -102,7 +102,7 @@ impl<'a, P: Reaches + Drop, L: LastValues + Drop, B: ByteFacts, W: Transfer, R: 
     }
 
     /// Whether the row at an index of the list, if one is named, may write a byte and falls between a number and one that is next to it.
-    fn blocks(&self, a: u32, m: u32, w: u32, index: Option<usize>) -> bool
+    pub(super) fn blocks(&self, a: u32, m: u32, w: u32, index: Option<usize>) -> bool
         requires writings { AreWritings (state_of (reader P.timeline L.values) W.sets W.moves R.rules B.store self.now) }
         requires next { (P.timeline self.now.paths).moments.next m w ≡ true }
         ensures { result ≡ true → IsBlocked (record { address = a; from = m; to = w }) (state_of (reader P.timeline L.values) W.sets W.moves R.rules B.store self.now) }

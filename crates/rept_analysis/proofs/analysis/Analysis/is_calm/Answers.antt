@@ -6,9 +6,6 @@ use Rattle.rept_analysis.proofs.analysis.Analysis.is_calm.Goals as goal
 pub returns-in-None : goal.returns-in-None
 returns-in-None g c = λ _. calm_none (state_of (reader g.P.Paths.timeline g.L.LastValues.values) g.W.Partial.sets g.W.Transfer.moves g.R.RowRules.rules g.B.ByteFacts.store c.args.self.now) c.args.a c.args.strip c.in-None.is
 
-pub returns-in-Some : goal.returns-in-Some
-returns-in-Some g c = λ yes. calm_some (state_of (reader g.P.Paths.timeline g.L.LastValues.values) g.W.Partial.sets g.W.Transfer.moves g.R.RowRules.rules g.B.ByteFacts.store c.args.self.now) c.args.a c.in-Some.pause c.args.strip c.in-Some.is (c.is_carried.ensures.yes yes)
-
 pub overflow_add-pause : goal.overflow_add-pause
 overflow_add-pause g c =
     let its = c.requires.strip.1 in
