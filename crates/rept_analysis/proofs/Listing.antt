@@ -45,7 +45,7 @@ module _ {W : Type 0} (s t : AnalysisState W) (setting : t.path ≡ s.path) (old
 pub writings_after : {W : Type 0} (s t : AnalysisState W) → Grows s t → AreWritings s → AreWritings t
 writings_after s t g h = g.writing h
 
-pub same_writing : {x y : Writing} → Some x ≡ Some y → x ≡ y
+same_writing : {x y : Writing} → Some x ≡ Some y → x ≡ y
 same_writing e = cc
 
 lower_more : {W : Type 0} (s : AnalysisState W) (n : ℕ) (w : Writing) → IsWriting n w s → IsWriting (n + 1) w s

@@ -1,25 +1,30 @@
 -- Whether all that may write a byte lies wholly before a moment, found by the list of the rows that may write.
-use Rattle.std.proofs.Common.{◌≡◌, ℕ, zero, suc, ◌+◌, ◌<◌, ◌≤◌, ◌^◌, Bool, true, false, not, ◌&&◌, ◌||◌, length, Option, Some, None, inl, inr, refl, sym, subst, ◌∙◌, arith, slice_get}
+use Rattle.std.proofs.Common.{◌≡◌, ℕ, zero, suc, ◌+◌, ◌-◌, ◌<◌, ◌≤◌, ◌^◌, ◌⊎◌, Bool, true, false, not, ◌&&◌, ◌||◌, length, Option, Some, None, inl, inr, refl, sym, subst, ◌∙◌, arith, slice_get}
 use Rattle.std.specs.Option.{IsSome}
 use Rattle.std.proofs.lemmas.Bool.{cases_Bool, cases_eq, cases_lt, and_parts, and_from, false_from_ne_true, false≢true}
 use Rattle.std.proofs.lemmas.Option.{slice_get_within}
 use Rattle.rept_alias.specs.Accesses.{call_hits}
 use Rattle.rept_isa.specs.declared.row.StepRow.{StepRow}
 use Rattle.rept_reason.specs.Facts.{Knowledge, told}
+use Rattle.rept_span.specs.Ranges.{Legs}
 use Rattle.rept_view.specs.Seen.{Seen}
-use Rattle.rept_writing.specs.Hits.{IsNextHitBelow}
+use Rattle.rept_reach.specs.Reaching.{IsExtent}
+use Rattle.rept_reach.specs.declared.reaches.Window.{Window}
+use Rattle.rept_writing.specs.Hits.{IsSplitAt, IsFreeSince}
 use Rattle.rept_writing.specs.declared.list.Writing.{Writing}
+use Rattle.rept_report.specs.declared.paths.Line.{Line}
+use Rattle.rept_report.specs.Moments.{Moments, AreMoments}
+use Rattle.rept_report.specs.Timeline.{IsLine}
 use Rattle.rept_report.specs.Setting.{Setting}
-use Rattle.rept_report.specs.Spots.{Spot, spot}
+use Rattle.rept_report.specs.Spots.{spot}
 use Rattle.rept_report.specs.Views.{may_write, registers_at, touched_by}
 use Rattle.rept_report.specs.Implied.{all_past, is_settled}
 use Rattle.rept_report.specs.Log.{oldest}
 use Rattle.rept_report.proofs.Registers.{may_write_same}
 use Rattle.rept_analysis.specs.State.{AnalysisState, all_known, along, timeline_of}
-use Rattle.rept_analysis.specs.Drawing.{IsSpared, IsSettled, IsHitBy, AreHitsPast, IsLateHit}
-use Rattle.rept_analysis.proofs.Along.{there_inside}
+use Rattle.rept_analysis.specs.Drawing.{IsSpared, IsSettled, IsHitBy, AreWritings, AreHitsPast, AreFormerPast, AreLaterPast, IsLateHit}
+use Rattle.rept_analysis.proofs.Along.{some_row, there_inside}
 use Rattle.rept_analysis.proofs.Answering.{filled_all}
-use Rattle.rept_analysis.proofs.Listing.{same_hit, same_writing}
 
 -- a row that may write is there
 row_there : {W : Type 0} (S : Setting W) (o : Option StepRow) (v : Seen) (a : ℕ) → touched_by S o v a ≡ true → IsSome o
@@ -67,29 +72,44 @@ module _ {W : Type 0} (S : Setting W) (K : Knowledge) (m a : ℕ) where
   pub unsettled : (i : ℕ) → i < S.legs.count → may_write S K i a ≡ true → S.moments.past i m ≡ false → false ≡ is_settled S K (spot m a)
   unsettled i inside may open_ = sym (false_from_ne_true (is_settled S K (spot m a)) (λ e. false≢true (sym open_ ∙ all_are S.legs.count (and_parts (S.moments.dark_past m) (past_below S.legs.count) e).1 i inside may)))
 
--- the entries of the list from an index to before another one
-module _ {W : Type 0} (s : AnalysisState W) (k : ℕ) (x : Spot) where
-  pub no_hits : AreHitsPast k k x s
-  no_hits j w found from to hits = absurd (omega (arith, from, to))
+-- what falls at no number from one on, from which numbers lead one by one to the end, lies before that one
+module _ (legs : Legs) (moments : Moments) (laws : AreMoments legs moments) (m : ℕ) (line : Line) (is : IsLine moments m line) (whole : line.last ≡ moments.end) (i : ℕ) (window : Window) (extent : IsExtent moments i window) (low : window.to ≤ m) where
+  past_from_end : (n k : ℕ) → n + k ≡ moments.end → m ≤ k → moments.past i moments.end ≡ true → moments.past i k ≡ true
+  past_from_end zero k far from last = let here : moments.end ≡ k = omega (arith, far) in subst (λ (j : ℕ). moments.past i j ≡ true) here last
+  past_from_end (suc n) k far from last =
+      let first = is.from in
+      let next = (is.joined k (omega (arith, first, from)) (omega (arith, far, whole))).next in
+      let later = past_from_end n (k + 1) (omega (arith, far)) (omega (arith, from)) last in
+      moments_back next later (cases_Bool (moments.falls i k (k + 1)))
+    where
+      moments_back : moments.next k (k + 1) ≡ true → moments.past i (k + 1) ≡ true → (moments.falls i k (k + 1) ≡ true) ⊎ (moments.falls i k (k + 1) ≡ false) → moments.past i k ≡ true
+      moments_back next later (inl falls) = let within = (extent k (k + 1) next falls).0 in absurd (omega (arith, within, low, from))
+      moments_back next later (inr spared) = laws.past_back i k (k + 1) next later spared
 
-  -- none of those from an index on may write the byte
-  pub hits_past_rest : (low end : ℕ) (o : Option ℕ) → ((h : ℕ) → o ≡ Some h → ⊥) → IsNextHitBelow s.work.writing low end x.address o → AreHitsPast k low x s → AreHitsPast k end x s
-  hits_past_rest low end (Some h) never its past = absurd (never h refl)
-  hits_past_rest low end None never its past = λ j w found from to hits.
-      elim (cases_lt j low) [
-        | inl early ↦ past j w found from early hits
-        | inr late ↦ absurd (false≢true (sym (its j late to) ∙ same_hit s.work.writing j x.address w found ∙ hits))
+  pub past_on_line : m ≤ moments.end → (row : StepRow) → legs.row i ≡ Some row → moments.past i m ≡ true
+  past_on_line early row found = past_from_end (moments.end - m) m (omega (arith, early)) (omega arith) (laws.rows_past i row found)
+
+-- the rows of the list by the numbers at which they stand
+module _ {W : Type 0} (s : AnalysisState W) (writings : AreWritings s) (m a : ℕ) where
+  pub over_past : (line : Line) (since : ℕ) → m ≤ s.path.given.moments.end → IsLine s.path.given.moments m line → line.last ≡ s.path.given.moments.end → IsFreeSince s.work.writing m a since → since ≤ m → AreFormerPast (spot m a) s
+  over_past line since early is whole free low k w found before hits =
+      let its = writings.barriers.each k w found in
+      let row = some_row (s.path.given.legs.row w.row) its.there in
+      let to = free k w found before hits in
+      past_on_line s.path.given.legs s.path.given.moments writings.laws.moments m line is whole w.row (record { from = w.from; to = w.to }) its.extent (omega (arith, to, low)) early row.0 row.1
+
+  pub former_past : (split : ℕ) → IsSplitAt s.work.writing m split → AreHitsPast 0 split (spot m a) s → AreFormerPast (spot m a) s
+  former_past split is past k w found low hits =
+      elim (cases_lt k split) [
+        | inl below ↦ past k w found (omega arith) below hits
+        | inr from ↦ let high = is.above k w found from in absurd (omega (arith, low, high))
       ]
 
-  -- the row of the first one that may lies before the moment
-  pub hits_past_more : (low end hit : ℕ) (w : Writing) → IsNextHitBelow s.work.writing low end x.address (Some hit) → slice_get s.work.writing hit ≡ Some w → s.path.given.moments.past w.row x.moment ≡ true → AreHitsPast k low x s → AreHitsPast k (hit + 1) x s
-  hits_past_more low end hit w its at gone past j y found from to hits =
-      elim (cases_lt j low) [
-        | inl early ↦ past j y found from early hits
-        | inr late ↦ elim (cases_eq j hit) [
-          | inl here ↦ subst (λ (z : Writing). s.path.given.moments.past z.row x.moment ≡ true) (same_writing (sym at ∙ subst (λ (n : ℕ). slice_get s.work.writing n ≡ Some y) here found)) gone
-          | inr other ↦ absurd (false≢true (sym (its.1.none_before j late (omega (arith, to, other))) ∙ same_hit s.work.writing j x.address y found ∙ hits))
-        ]
+  pub later_past : (split count : ℕ) → IsSplitAt s.work.writing m split → count ≡ length s.work.writing → AreHitsPast split count (spot m a) s → AreLaterPast (spot m a) s
+  later_past split count is all past k w found high hits =
+      elim (cases_lt k split) [
+        | inl below ↦ let low = is.below k w found below in absurd (omega (arith, low, high))
+        | inr from ↦ let within = slice_get_within s.work.writing k w found in past k w found from (omega (arith, within, all)) hits
       ]
 
 -- where all is learnt, the rows that may write are those of the list
@@ -117,15 +137,14 @@ module _ {W : Type 0} (s : AnalysisState W) (settled : IsSettled s) (a : ℕ) (s
         ]
       ]
 
-  -- all of them lie before the moment, those below an index and the others
-  pub settled_by_list : (m split count : ℕ) (b : Bool) → count ≡ length s.work.writing → AreHitsPast split count (spot m a) s → AreHitsPast 0 split (spot m a) s → b ≡ S.moments.dark_past m → b ≡ is_settled S K (spot m a)
-  settled_by_list m split count b all above below is = settled_from S K m a b is (λ i inside may.
+  -- all of them lie before the moment, those at lower numbers and the others
+  pub settled_by_list : (m : ℕ) (b : Bool) → AreLaterPast (spot m a) s → AreFormerPast (spot m a) s → b ≡ S.moments.dark_past m → b ≡ is_settled S K (spot m a)
+  settled_by_list m b later former is = settled_from S K m a b is (λ i inside may.
       let h = listed_hit i may in
-      let within = slice_get_within s.work.writing h.index h.writing h.found in
       let gone : S.moments.past h.writing.row m ≡ true =
-          elim (cases_lt h.index split) [
-            | inl low ↦ below h.index h.writing h.found (omega arith) low h.hits
-            | inr high ↦ above h.index h.writing h.found high (omega (arith, within, all)) h.hits
+          elim (cases_lt h.writing.at m) [
+            | inl low ↦ former h.index h.writing h.found low h.hits
+            | inr high ↦ later h.index h.writing h.found high h.hits
           ] in
       subst (λ (n : ℕ). S.moments.past n m ≡ true) h.row_is gone)
 

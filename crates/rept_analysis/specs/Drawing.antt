@@ -395,6 +395,14 @@ pub record IsHitBy {W : Type 0} (a row : ℕ) (s : AnalysisState W) : Type 0 whe
 abbrev pub AreHitsPast : {W : Type 0} → ℕ → ℕ → Spot → AnalysisState W → Type 0
 AreHitsPast from to x s = (k : ℕ) (w : Writing) → slice_get s.work.writing k ≡ Some w → from ≤ k → k < to → call_hits w.access x.address ≡ true → s.path.given.moments.past w.row x.moment ≡ true
 
+-- so do those that stand at lower numbers than the moment
+abbrev pub AreFormerPast : {W : Type 0} → Spot → AnalysisState W → Type 0
+AreFormerPast x s = (k : ℕ) (w : Writing) → slice_get s.work.writing k ≡ Some w → w.at < x.moment → call_hits w.access x.address ≡ true → s.path.given.moments.past w.row x.moment ≡ true
+
+-- so do those that stand at this number or higher ones
+abbrev pub AreLaterPast : {W : Type 0} → Spot → AnalysisState W → Type 0
+AreLaterPast x s = (k : ℕ) (w : Writing) → slice_get s.work.writing k ≡ Some w → x.moment ≤ w.at → call_hits w.access x.address ≡ true → s.path.given.moments.past w.row x.moment ≡ true
+
 -- a row of the list may write the byte, and doesn't lie wholly before the moment
 pub record IsLateHit {W : Type 0} (x : Spot) (s : AnalysisState W) : Type 0 where
   pub index : ℕ
