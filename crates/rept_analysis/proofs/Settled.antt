@@ -142,10 +142,10 @@ module _ {W : Type 0} (s : AnalysisState W) (settled : IsSettled s) (a : ℕ) (s
   settled_by_list m b later former is = settled_from S K m a b is (λ i inside may.
       let h = listed_hit i may in
       let gone : S.moments.past h.writing.row m ≡ true =
-          elim (cases_lt h.writing.at m) [
-            | inl low ↦ former h.index h.writing h.found low h.hits
-            | inr high ↦ later h.index h.writing h.found high h.hits
-          ] in
+      elim (cases_lt h.writing.at m) [
+        | inl low ↦ former h.index h.writing h.found low h.hits
+        | inr high ↦ later h.index h.writing h.found high h.hits
+      ] in
       subst (λ (n : ℕ). S.moments.past n m ≡ true) h.row_is gone)
 
   -- one doesn't
