@@ -14,7 +14,7 @@ use Rattle.rept_report.proofs.ViewLaws.{known_more}
 use Rattle.rept_report.proofs.Registers.{quiet_same}
 use Rattle.rept_log.specs.Known.{Known}
 use Rattle.rept_analysis.specs.State.{AnalysisState, all_known, Subject, along}
-use Rattle.rept_analysis.specs.Drawing.{Grows, SameFacts, Continues, IsFitted, IsDrawnAll, IsSettled, IsUncut}
+use Rattle.rept_analysis.specs.Drawing.{Grows, SameFacts, Continues, IsFitted, IsDrawnAll, IsSettled, IsUncut, AreWritings, AreExact}
 use Rattle.rept_analysis.specs.Work.{left}
 use Rattle.rept_analysis.specs.Kept.{IsKept}
 use Rattle.rept_analysis.specs.Refined.{KeepsAnswers, KeepsKnown, IsClashOf, ShowsTo, IsEnded, IsStopped, IsPaused, IsHalted}
@@ -123,8 +123,8 @@ quiet_part s n all quiet =
     let whole : oldest n s.known.log ≡ s.known.log = oldest_all n s.known.log (omega (arith, all)) in
     subst (λ (fs : List Fact). IsQuiet (along s.path) (told fs)) (sym whole) quiet
 
-pub settled_by : {W : Type 0} (s : AnalysisState W) (n : ℕ) → n ≡ length s.known.log → IsQuiet (along s.path) (told (oldest n s.known.log)) → IsFitted s → s.filled ≡ n → IsDrawnAll s → IsSettled s
-settled_by s n all quiet fitted filled drawn = record { quiet = quiet_whole s n all quiet; fitted = fitted; filled = filled ∙ all; drawn = drawn }
+pub settled_by : {W : Type 0} (s : AnalysisState W) (n : ℕ) → n ≡ length s.known.log → IsQuiet (along s.path) (told (oldest n s.known.log)) → IsFitted s → s.filled ≡ n → IsDrawnAll s → AreWritings s → AreExact s → IsSettled s
+settled_by s n all quiet fitted filled drawn writings exact = record { quiet = quiet_whole s n all quiet; fitted = fitted; filled = filled ∙ all; drawn = drawn; writings = writings; exact = exact }
 
 module _ {W : Type 0} (a b c : AnalysisState W) where
   pub ended_after : Continues a b → KeepsKnown a b → IsEnded b c → IsEnded a c

@@ -29,6 +29,7 @@ use Rattle.rept_analysis.specs.State.{AnalysisState, Whole, Reader, setting_of, 
 use Rattle.rept_analysis.specs.Drawing.{IsRowDrawn, IsSettled}
 use Rattle.rept_analysis.specs.Kept.{is_among, answers, IsFinished, IsKept}
 use Rattle.rept_analysis.specs.Reasoned.{front_below, AreSetsOf, IsNotLast}
+use Rattle.rept_analysis.proofs.Barriers.{writings_still}
 use Rattle.rept_analysis.proofs.Passing.{passes_more}
 use Rattle.rept_analysis.proofs.Learning.{known_words}
 use Rattle.rept_analysis.proofs.Answering.{answers_early}
@@ -224,6 +225,8 @@ module _ {W : Type 0} (s : AnalysisState W) (kept : IsKept s) (n : ℕ) where
       carried = λ a m w at. let k = h.drawn.carried a m w at in record { onward = k.onward; back = k.back };
       singles = h.drawn.singles;
     };
+    writings = writings_still s (with_draws s n) refl refl refl (λ p c v e. e) refl (λ x. x) h.writings;
+    exact = h.exact;
   }
 
   pub kept_redrawn : IsKept (with_draws s n)

@@ -26,6 +26,7 @@ use Rattle.rept_analysis.specs.Drawing.{IsClash, IsSettled, IsRowDrawn}
 use Rattle.rept_analysis.specs.Answers.{HasClosure, byte_answer}
 use Rattle.rept_analysis.specs.Kept.{register_answer, IsKept}
 use Rattle.rept_analysis.specs.Refined.{clash_kind}
+use Rattle.rept_analysis.proofs.Barriers.{writings_still}
 use Rattle.rept_analysis.proofs.Passing.{passes_more}
 use Rattle.rept_analysis.proofs.Learning.{trace_known}
 use Rattle.rept_analysis.proofs.Reported.{settled_report}
@@ -197,7 +198,7 @@ module _ {W : Type 0} (s : AnalysisState W) (laws : HasLaws (along s.path)) (kep
     calm = λ u below. quiet_less (along s.path) laws (told (oldest u s.known.log)) (all_known s) (λ p r v e. oldest_less u s.known.log kept.once p (Register r) v e) settled.quiet;
     stopped = kept.stopped;
     finished = λ _. record {
-      settled = record { quiet = settled.quiet; fitted = settled.fitted; filled = settled.filled; drawn = record { last = settled.drawn.last; rows = λ i inside row found. again i row (settled.drawn.rows i inside row found); bytes = settled.drawn.bytes; carried = λ a m w at. let k = settled.drawn.carried a m w at in record { onward = k.onward; back = k.back }; singles = settled.drawn.singles } };
+      settled = record { quiet = settled.quiet; fitted = settled.fitted; filled = settled.filled; drawn = record { last = settled.drawn.last; rows = λ i inside row found. again i row (settled.drawn.rows i inside row found); bytes = settled.drawn.bytes; carried = λ a m w at. let k = settled.drawn.carried a m w at in record { onward = k.onward; back = k.back }; singles = settled.drawn.singles }; writings = writings_still s finished_at refl refl refl (λ p c v e. e) refl (λ h. h) settled.writings; exact = settled.exact };
       report = settled_report s laws kept settled;
       all = refl;
     };

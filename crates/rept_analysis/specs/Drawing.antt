@@ -18,7 +18,7 @@ use Rattle.rept_view.specs.declared.drawn.Drawn.{Drawn}
 use Rattle.rept_view.specs.Rules.{IsRowByte, Fits}
 use Rattle.rept_log.specs.Around.{around}
 use Rattle.rept_report.specs.Setting.{HasLaws, IsLast, IsInstant, way_of}
-use Rattle.rept_report.specs.Spots.{Passage, passage}
+use Rattle.rept_report.specs.Spots.{Passage, passage, Spot}
 use Rattle.rept_report.specs.Views.{instant_of, may_write, Carries}
 use Rattle.rept_report.specs.Conclusions.{HasWords, IsCarried, Concludes}
 use Rattle.rept_report.specs.Conflicts.{IsQuiet}
@@ -96,6 +96,10 @@ pub record AreWritings {W : Type 0} (s : AnalysisState W) : Type 0 where
   pub words : HasWords (all_known s)
   pub fitted : IsFitted s
   pub barriers : AreBarriers s.work.writing s
+
+-- the rows of the list may write all of their addresses, by the facts of which the sets are
+abbrev pub AreExact : {W : Type 0} → AnalysisState W → Type 0
+AreExact s = (k : ℕ) (w : Writing) (a : ℕ) → slice_get s.work.writing k ≡ Some w → a < 2 ^ 32 → call_hits w.access a ≡ true → may_write (along s.path) (told (oldest s.filled s.known.log)) w.row a ≡ true
 
 -- another state of the same analysis, which knows no less
 pub record Grows {W : Type 0} (old new : AnalysisState W) : Type 0 where
@@ -261,12 +265,15 @@ pub record Continues {W : Type 0} (old new : AnalysisState W) : Type 0 where
   pub conflict : new.conflict ≡ old.conflict
   pub answers : oldest new.shown new.known.log ≡ oldest old.shown old.known.log
 
--- all is learnt: no range is empty and no turn wrong, the sets are those of all facts, and each conclusion is known
+-- all is learnt: no range is empty and no turn wrong, the sets are those of all facts, each conclusion is known, and the rows of the list are
+-- those that may write, each with the addresses that it may write
 pub record IsSettled {W : Type 0} (s : AnalysisState W) : Type 0 where
   pub quiet : IsQuiet (along s.path) (all_known s)
   pub fitted : IsFitted s
   pub filled : s.filled ≡ length s.known.log
   pub drawn : IsDrawnAll s
+  pub writings : AreWritings s
+  pub exact : AreExact s
 
 -- the value, if there is one, is known
 abbrev pub IsLearntAt : {W : Type 0} → ℕ → ℕ → Flat → AnalysisState W → Type 0
@@ -357,10 +364,6 @@ IsLed course s = (q : ℕ) → Between course.from course.to q → q ≢ course.
 abbrev pub IsCarriedFrom : {W : Type 0} → ℕ → ℕ → ℕ → AnalysisState W → Type 0
 IsCarriedFrom a from to s = (i : ℕ) → from ≤ i → i < to → IsCarriedAt i a s
 
--- the rows of the list may write all of their addresses, by the facts of which the sets are
-abbrev pub AreExact : {W : Type 0} → AnalysisState W → Type 0
-AreExact s = (k : ℕ) (w : Writing) (a : ℕ) → slice_get s.work.writing k ≡ Some w → a < 2 ^ 32 → call_hits w.access a ≡ true → may_write (along s.path) (told (oldest s.filled s.known.log)) w.row a ≡ true
-
 -- between all moments, where the list is exact
 abbrev pub IsCarriedAlong : {W : Type 0} → ℕ → AnalysisState W → Type 0
 IsCarriedAlong a s = AreExact s → (m w : ℕ) → IsCarriedOver (passage a m w) s
@@ -387,6 +390,26 @@ pub record IsHitBy {W : Type 0} (a row : ℕ) (s : AnalysisState W) : Type 0 whe
   pub found : slice_get s.work.writing index ≡ Some writing
   pub hits : call_hits writing.access a ≡ true
   pub row_is : writing.row ≡ row
+
+-- the rows of the list from an index to before another one that may write the byte lie wholly before a moment
+abbrev pub AreHitsPast : {W : Type 0} → ℕ → ℕ → Spot → AnalysisState W → Type 0
+AreHitsPast from to x s = (k : ℕ) (w : Writing) → slice_get s.work.writing k ≡ Some w → from ≤ k → k < to → call_hits w.access x.address ≡ true → s.path.given.moments.past w.row x.moment ≡ true
+
+-- so do those that stand at lower numbers than the moment
+abbrev pub AreFormerPast : {W : Type 0} → Spot → AnalysisState W → Type 0
+AreFormerPast x s = (k : ℕ) (w : Writing) → slice_get s.work.writing k ≡ Some w → w.at < x.moment → call_hits w.access x.address ≡ true → s.path.given.moments.past w.row x.moment ≡ true
+
+-- so do those that stand at this number or higher ones
+abbrev pub AreLaterPast : {W : Type 0} → Spot → AnalysisState W → Type 0
+AreLaterPast x s = (k : ℕ) (w : Writing) → slice_get s.work.writing k ≡ Some w → x.moment ≤ w.at → call_hits w.access x.address ≡ true → s.path.given.moments.past w.row x.moment ≡ true
+
+-- a row of the list may write the byte, and doesn't lie wholly before the moment
+pub record IsLateHit {W : Type 0} (x : Spot) (s : AnalysisState W) : Type 0 where
+  pub index : ℕ
+  pub writing : Writing
+  pub found : slice_get s.work.writing index ≡ Some writing
+  pub hits : call_hits writing.access x.address ≡ true
+  pub late : s.path.given.moments.past writing.row x.moment ≡ false
 
 -- the index of such a row, or that there is none
 abbrev pub IsBlocker : {W : Type 0} → Passage → AnalysisState W → Option ℕ → Type 0

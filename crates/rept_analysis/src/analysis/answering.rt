@@ -13,12 +13,12 @@ ghost use Rattle.rept_report.specs.Closure.{InClosure};
 ghost use Rattle.rept_report.specs.Soundness.{AlwaysHolds};
 ghost use Rattle.rept_report.specs.Implied.{is_settled, implied};
 ghost use Rattle.rept_report.specs.Spots.{spot};
-ghost use Rattle.rept_report.specs.Timeline.{IsLeastFrom, IsBegun, IsOpen};
+ghost use Rattle.rept_report.specs.Timeline.{IsLine, IsBegun};
 ghost use Rattle.rept_report.specs.Writers.{is_certain, IsWriter};
 ghost use Rattle.rept_report.specs.Log.{oldest};
 ghost use Rattle.rept_analysis.specs.State.{setting_of, state_of, reader};
 ghost use Rattle.rept_report.specs.Why.{fact_of};
-ghost use Rattle.rept_analysis.specs.Drawing.{IsFitted};
+ghost use Rattle.rept_analysis.specs.Drawing.{IsFitted, IsSettled, AreWritings, AreHitsPast, AreFormerPast, AreLaterPast, IsLateHit};
 ghost use Rattle.rept_analysis.specs.Kept.{IsKept, answers};
 ghost use Rattle.rept_analysis.specs.Answers.{HasClosure, byte_answer};
 ghost use Rattle.rept_analysis.specs.Latest.{IsPossibleWriter};
@@ -30,6 +30,7 @@ use rept_isa::Reg;
 use rept_log::LastValues;
 use rept_reach::Reaches;
 use rept_report::Writer;
+use rept_report::paths::Line;
 use rept_span::Transfer;
 use rept_versions::ByteFacts;
 use rept_view::RowRules;
@@ -97,18 +98,6 @@ impl<'a, P: Reaches + Drop, L: LastValues + Drop, B: ByteFacts, W: Transfer, R: 
         }
     }
 
-    /// The least row from one on that doesn't lie wholly before a moment, if there is one.
-    fn open_from(&self, moment: u32, least: u32) -> Option<u32>
-        requires { moment ≤ (P.timeline self.now.paths).moments.end }
-        ensures row { IsLeastFrom (IsOpen (P.timeline self.now.paths) moment) least result }
-        ensures order { IfSome result (λ i. least ≤ i) }
-        ensures inside { IfSome result (λ i. i < (P.timeline self.now.paths).legs.count) }
-        ensures few { (P.timeline self.now.paths).legs.count ≤ 66560 }
-    {
-        let _count = self.count();
-        self.paths.open_from(moment, least)
-    }
-
     /// Whether writers that aren't told, if there are any, lie wholly before a moment.
     fn is_dark_past(&self, moment: u32) -> bool
         ensures { result ≡ (P.timeline self.now.paths).moments.dark_past moment }
@@ -116,28 +105,90 @@ impl<'a, P: Reaches + Drop, L: LastValues + Drop, B: ByteFacts, W: Transfer, R: 
         self.paths.is_dark_past(moment)
     }
 
-    /// Whether all that may write a byte lies wholly before a moment, by these facts.
-    fn is_untouched(&self, moment: u32, a: u32) -> bool
-        requires moment { moment ≤ (P.timeline self.now.paths).moments.end }
-        requires fitted { IsFitted (state_of (reader P.timeline L.values) W.sets W.moves R.rules B.store self.now) }
-        ensures { result ≡ is_settled (setting_of (reader P.timeline L.values) W.sets W.moves R.rules self.now) (told (oldest self.now.filled self.now.known.log)) (spot moment a) }
+    /// Whether the rows from index k to before another one of the list of those that may write lie wholly before a moment, as far as they may
+    /// write a byte.
+    fn are_hits_past(&self, k: usize, end: usize, moment: u32, a: u32) -> bool
+        requires writings { AreWritings (state_of (reader P.timeline L.values) W.sets W.moves R.rules B.store self.now) }
+        requires within { end ≤ length self.now.work.writing }
+        ensures yes { result ≡ true → AreHitsPast k end (spot moment a) (state_of (reader P.timeline L.values) W.sets W.moves R.rules B.store self.now) }
+        ensures no { result ≡ false → IsLateHit (spot moment a) (state_of (reader P.timeline L.values) W.sets W.moves R.rules B.store self.now) }
     {
-        let mut least = 0;
+        let mut low = k;
         loop {
-            let Some(i) = self.open_from(moment, least) else {
-                return self.is_dark_past(moment);
+            let Some(hit) = self.next_hit(low, end, a) else {
+                return true;
             };
-            if self.may_write(i, a) {
+            let row = self.entry(hit).row;
+            if !self.is_past(row, moment) {
                 return false;
             }
-            least = i + 1;
+            low = hit + 1;
         }
     }
 
-    /// The byte of the dump, where it is carried back to a moment, by these facts.
+    /// The numbers around one, one after the other, of which each but the last has the one after it next to it, and no other.
+    fn line_of(&self, number: u32) -> Line
+        requires { number ≤ (P.timeline self.now.paths).moments.end }
+        ensures { IsLine (P.timeline self.now.paths).moments number result }
+    {
+        self.paths.line_of(number)
+    }
+
+    /// Whether numbers lead one by one from a moment to the end, and no row of the list that stands at a lower number and may write a byte falls
+    /// at this number or a later one. Then all these rows lie wholly before the moment. It is so at each moment of one thread.
+    fn is_over(&self, moment: u32, a: u32) -> bool
+        requires moment { moment ≤ (P.timeline self.now.paths).moments.end }
+        requires writings { AreWritings (state_of (reader P.timeline L.values) W.sets W.moves R.rules B.store self.now) }
+        ensures { result ≡ true → AreFormerPast (spot moment a) (state_of (reader P.timeline L.values) W.sets W.moves R.rules B.store self.now) }
+    {
+        self.line_of(moment).last == self.end() && self.free_since(moment, a) <= moment
+    }
+
+    /// Whether the rows of the list that stand at lower numbers lie wholly before a moment, as far as they may write a byte.
+    fn are_former_past(&self, moment: u32, a: u32) -> bool
+        requires moment { moment ≤ (P.timeline self.now.paths).moments.end }
+        requires writings { AreWritings (state_of (reader P.timeline L.values) W.sets W.moves R.rules B.store self.now) }
+        ensures yes { result ≡ true → AreFormerPast (spot moment a) (state_of (reader P.timeline L.values) W.sets W.moves R.rules B.store self.now) }
+        ensures no { result ≡ false → IsLateHit (spot moment a) (state_of (reader P.timeline L.values) W.sets W.moves R.rules B.store self.now) }
+    {
+        if self.is_over(moment, a) {
+            return true;
+        }
+        let split = self.listed_before(moment);
+        self.are_hits_past(0, split, moment, a)
+    }
+
+    /// Whether those that stand at this number or higher ones lie wholly before the moment, as far as they may write the byte.
+    fn are_later_past(&self, moment: u32, a: u32) -> bool
+        requires writings { AreWritings (state_of (reader P.timeline L.values) W.sets W.moves R.rules B.store self.now) }
+        ensures yes { result ≡ true → AreLaterPast (spot moment a) (state_of (reader P.timeline L.values) W.sets W.moves R.rules B.store self.now) }
+        ensures no { result ≡ false → IsLateHit (spot moment a) (state_of (reader P.timeline L.values) W.sets W.moves R.rules B.store self.now) }
+    {
+        let split = self.listed_before(moment);
+        let count = self.writing_count();
+        self.are_hits_past(split, count, moment, a)
+    }
+
+    /// Whether all that may write a byte lies wholly before a moment, where all is learnt. The rows that may write it are those of the list;
+    /// the ones at this number and higher ones are looked at first, since they seldom lie before the moment.
+    fn is_untouched(&self, moment: u32, a: u32) -> bool
+        requires moment { moment ≤ (P.timeline self.now.paths).moments.end }
+        requires settled { IsSettled (state_of (reader P.timeline L.values) W.sets W.moves R.rules B.store self.now) }
+        ensures { result ≡ is_settled (setting_of (reader P.timeline L.values) W.sets W.moves R.rules self.now) (told (oldest self.now.filled self.now.known.log)) (spot moment a) }
+    {
+        if !self.are_later_past(moment, a) {
+            return false;
+        }
+        if !self.are_former_past(moment, a) {
+            return false;
+        }
+        self.is_dark_past(moment)
+    }
+
+    /// The byte of the dump, where it is carried back to a moment, where all is learnt.
     fn implied(&self, moment: u32, a: u32) -> Option<u8>
         requires moment { moment ≤ (P.timeline self.now.paths).moments.end }
-        requires fitted { IsFitted (state_of (reader P.timeline L.values) W.sets W.moves R.rules B.store self.now) }
+        requires settled { IsSettled (state_of (reader P.timeline L.values) W.sets W.moves R.rules B.store self.now) }
         ensures { result ≡ implied (setting_of (reader P.timeline L.values) W.sets W.moves R.rules self.now) (told (oldest self.now.filled self.now.known.log)) moment a }
     {
         let byte = self.dump_byte(a)?;

@@ -49,7 +49,7 @@ returns-clause-settled g c =
     let drew = c.in_ok-learnt.ensures.drew in
     let long = forth a b same (λ (P : Subject g.row.W.Denot) (k : Known). c.len-len.result ≡ length k.log) c.len-len.ensures.value in
     let quiet = forth a b same (λ (P : Subject g.row.W.Denot) (k : Known). IsQuiet (along P) (told (oldest c.len-len.result k.log))) (c.ready-quiet.ensures.quiet c.if-not-quiet.false) in
-    let settled = settled_by b c.len-len.result long quiet (c.ready-quiet.ensures.fitted c.if-not-quiet.false) c.ready-quiet.ensures.limit (drew.closed c.if-not-learnt.true) in
+    let settled = settled_by b c.len-len.result long quiet (c.ready-quiet.ensures.fitted c.if-not-quiet.false) c.ready-quiet.ensures.limit (drew.closed c.if-not-learnt.true) (c.ready-quiet.ensures.writings c.if-not-quiet.false) (c.ready-quiet.ensures.exact c.if-not-quiet.false) in
     subst (λ (x : AnalysisState g.row.W.Denot). IsSettled x) (sym (drew.unchanged c.if-not-learnt.true)) settled
 
 pub sweep-requires-clause-writings : goal.sweep-requires-clause-writings
