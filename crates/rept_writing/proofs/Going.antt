@@ -34,7 +34,7 @@ past_from P low k r past = record {
     greater = grind arith
 
 -- the greater one of two, of which the one or the other holds
-past_left : (P Q R : ℕ → Type 0) (low k x y : ℕ) → ((j : ℕ) → P j → R j) → ((j : ℕ) → R j → P j ⊎ Q j) → y ≤ x → IsPast P low k x → IsPast Q low k y → IsPast R low k x
+pub past_left : (P Q R : ℕ → Type 0) (low k x y : ℕ) → ((j : ℕ) → P j → R j) → ((j : ℕ) → R j → P j ⊎ Q j) → y ≤ x → IsPast P low k x → IsPast Q low k y → IsPast R low k x
 past_left P Q R low k x y p each le first second = record {
   from = first.from;
   before = elim first.before [ inl e ↦ inl e | inr (j, is, less, h) ↦ inr (j, is, less, p j h) ];

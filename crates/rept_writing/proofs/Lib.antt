@@ -8,3 +8,4 @@ pub mod Passing
 pub mod Rising
 pub mod Meeting
 pub mod Bounding
+pub mod Within

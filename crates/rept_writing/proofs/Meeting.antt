@@ -15,7 +15,7 @@ use Rattle.rept_writing.specs.Falling.{AreColumns, IsAround, IsSince, IsSplit}
 use Rattle.rept_writing.proofs.Filing.{first_within, sooner_first}
 use Rattle.rept_writing.proofs.Passing.{at_or_after, place_of}
 
-true≢false : true ≡ false → ⊥
+pub true≢false : true ≡ false → ⊥
 true≢false e = cc
 
 row_is : (list : List Writing) (k : ℕ) (d w : Writing) → slice_get list k ≡ Some w → get_or list k d ≡ w
@@ -148,7 +148,7 @@ next_met list link k from end h none (lt, first) not j since before meets = elim
   ]
 ]
 
-either_kind : (b : Bool) → (b ≡ true) ⊎ (b ≡ false)
+pub either_kind : (b : Bool) → (b ≡ true) ⊎ (b ≡ false)
 either_kind true = inl refl
 either_kind false = inr refl
 

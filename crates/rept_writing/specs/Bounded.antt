@@ -1,5 +1,7 @@
--- The bounds of the addresses that rows of many may write, for each block of these rows. This project's own.
+-- The bounds of the addresses that rows of many may write, for each block of these rows and for all of them, and of those that rows of
+-- one kind may write. This project's own.
 use Rattle.std.specs.Prelude.{◌≡◌, ℕ, ◌<◌, ◌^◌, ◌/◌, ◌&&◌, nat_le, List, length, get_or, Bool, true, Option, Some, None, slice_get}
+use Rattle.rept_alias.specs.Accesses.{call_hits}
 use Rattle.rept_writing.specs.declared.bounds.Bounds.{Bounds}
 use Rattle.rept_writing.specs.declared.list.Writing.{Writing}
 use Rattle.rept_writing.specs.Hits.{hits_at}
@@ -29,6 +31,10 @@ AreBounded list wide blocks = (m a : ℕ) → m < length wide → a < 2 ^ 32 →
 -- each address that one of the rows at these places may write lies in the bounds
 pub record AreWithin (list : List Writing) (wide : List ℕ) (place : ℕ → Type 0) (bounds : Bounds) : Type 0 where
   pub within : (m a : ℕ) → place m → a < 2 ^ 32 → hits_at list (get_or wide m 0) a ≡ true → lies_in bounds a ≡ true
+
+-- each address that a row of one kind, a call or another row, may write lies in the bounds
+abbrev pub AreOfKindWithin : List Writing → Bool → Bounds → Type 0
+AreOfKindWithin list is_call bounds = (j a : ℕ) (w : Writing) → a < 2 ^ 32 → slice_get list j ≡ Some w → w.is_call ≡ is_call → call_hits w.access a ≡ true → lies_in bounds a ≡ true
 
 -- the bounds of one block were widened by some addresses
 pub record IsBlockWidened (is : ℕ → Bool) (n : ℕ) (old new : List Bounds) : Type 0 where

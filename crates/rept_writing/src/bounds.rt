@@ -1,6 +1,7 @@
-//! The bounds of the addresses that rows of many may write, for each block of these rows.
+//! The bounds of the addresses that rows of many may write, for each block of these rows and for all of them, and of those that calls
+//! may write.
 
-ghost use Rattle.std.specs.Prelude.{◌≡◌, ◌<◌, ◌≤◌, ◌+◌, ◌*◌, ◌/◌, [], length};
+ghost use Rattle.std.specs.Prelude.{◌≡◌, ◌<◌, ◌≤◌, ◌+◌, ◌*◌, ◌/◌, [], true, false, length};
 ghost use Rattle.std.specs.List.{All};
 ghost use Rattle.rept_alias.specs.Accesses.{hits, hits_part, call_hits};
 ghost use Rattle.rept_writing.specs.Bounded.{AreBounded, AreWithin, IsBlockWidened, IsWidened, lies_in, may_write};
@@ -21,8 +22,16 @@ pub struct Bounds {
 }
 
 impl Bounds {
+    /// Between them lies none.
+    pub fn none() -> Bounds {
+        Bounds {
+            least: u32::MAX,
+            most: 0,
+        }
+    }
+
     /// Whether an address lies between them.
-    fn has(&self, a: u32) -> bool
+    pub fn has(&self, a: u32) -> bool
         ensures { result ≡ lies_in self.now a }
     {
         self.least <= a && a <= self.most
@@ -103,10 +112,23 @@ fn with_part(bounds: Bounds, part: Option<Access>) -> Bounds
 }
 
 /// Bounds within which the addresses of both parts lie too.
-fn with_row(bounds: Bounds, access: &CallAccess) -> Bounds
+pub fn with_row(bounds: Bounds, access: &CallAccess) -> Bounds
     ensures { IsWidened (call_hits access.now) bounds result }
 {
     with_part(with_part(bounds, access.first), access.second)
+}
+
+/// Bounds within which the addresses of a row lie too, if it is a call.
+pub fn with_call(bounds: Bounds, row: &Writing) -> Bounds
+    ensures call { row.now.is_call ≡ true → IsWidened (call_hits row.now.access) bounds result }
+    ensures other { row.now.is_call ≡ false → result ≡ bounds }
+{
+    let access = row.access;
+    if row.is_call {
+        with_row(bounds, &access)
+    } else {
+        bounds
+    }
 }
 
 /// The bounds of what the rows at some places may write.
@@ -115,15 +137,20 @@ fn bounds_of(list: &[Writing], wide: &[usize], start: usize, end: usize) -> Boun
     requires end { end ≤ length wide.now }
     ensures { AreWithin list.now wide.now (λ m. (start ≤ m) × (m < end)) result }
 {
-    let mut bounds = Bounds {
-        least: u32::MAX,
-        most: 0,
-    };
+    let mut bounds = Bounds::none();
     for m in start..end {
         let access = list[wide[m]].access;
         bounds = with_row(bounds, &access);
     }
     bounds
+}
+
+/// The bounds of what all rows with these indices may write.
+pub fn bounds_of_all(list: &[Writing], indices: &[usize]) -> Bounds
+    requires { All (λ j. j < length list.now) indices.now }
+    ensures { AreWithin list.now indices.now (λ m. m < length indices.now) result }
+{
+    bounds_of(list, indices, 0, indices.len())
 }
 
 /// The bounds of the block before which there are so many others.

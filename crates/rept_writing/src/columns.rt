@@ -5,9 +5,11 @@ ghost use Rattle.std.specs.List.{Contains};
 ghost use Rattle.std.specs.Vec.{vec_capacity};
 ghost use Rattle.rept_alias.specs.Accesses.{call_hits};
 ghost use Rattle.rept_writing.specs.Hits.{IsMeeting};
+ghost use Rattle.rept_writing.specs.Bounded.{AreOfKindWithin};
 ghost use Rattle.rept_writing.specs.Filed.{IsFirst};
 ghost use Rattle.rept_writing.specs.Falling.{AreColumns, AreLeastOnward, AreTaken, IsAround, IsUntil, IsSince, room_of};
 
+use crate::bounds::{Bounds, bounds_of_all};
 use crate::cuts::{below, up_to};
 use crate::list::Writing;
 use std::alloc::{AllocError as OutOfMemory, Global};
@@ -135,6 +137,14 @@ impl Columns {
             }
         }
         None
+    }
+
+    /// The bounds of what the rows of the kind may write.
+    pub fn bounds(&self, list: &[Writing]) -> Bounds
+        requires { AreColumns list.now self.now }
+        ensures { AreOfKindWithin list.now self.now.is_call result }
+    {
+        bounds_of_all(list, self.places.as_slice())
     }
 
     /// A number that is no less than those after which the rows of the kind before an index may fall.

@@ -6,7 +6,7 @@ ghost use Rattle.rept_writing.specs.Hits.{IsMeeting, IsNextHitBelow, IsNextMeeti
 ghost use Rattle.rept_writing.specs.Falling.{FallsAs};
 ghost use Rattle.rept_writing.specs.Filed.{IsFiled, IsFirst, sooner};
 
-use crate::bounds::{Bounds, blocks_of, bound_all, widen};
+use crate::bounds::{Bounds, blocks_of, bound_all, bounds_of_all, widen, with_call, with_row};
 use crate::columns::{Columns, meets};
 use crate::narrow::{Hit, file, next_narrow, past_narrow};
 use crate::wide::{next_wide, past_wide, place_of, scan, scan_back, scan_since, scan_until};
@@ -52,11 +52,15 @@ pub struct Writings {
     wide: Vec<usize>,
     /// the bounds of what these may write, for each block of them
     blocks: Vec<Bounds>,
+    /// the bounds of what all of them may write
+    wide_bounds: Bounds,
+    /// the bounds of what the calls may write
+    call_bounds: Bounds,
     /// the calls, and when they may fall
     calls: Columns,
     /// the same of the others
     others: Columns,
-    /// whether `narrow` is in order, `blocks` are the bounds of `wide`, and `calls` and `others` are those of the list
+    /// whether `narrow` is in order, and the bounds, `calls` and `others` are those of the list
     is_indexed: bool,
     /// how many of the others were replaced since then
     replaced: usize,
@@ -65,11 +69,11 @@ pub struct Writings {
 }
 
 impl Model for Writings {
-    ghost use Rattle.std.specs.Prelude.{◌≡◌, ◌≤◌, true, false};
+    ghost use Rattle.std.specs.Prelude.{◌≡◌, ◌<◌, ◌≤◌, true, false, length};
     ghost use Rattle.std.specs.Vec.{vec_capacity};
     ghost use Rattle.std.specs.List.Sorted.{IsSorted};
     ghost use Rattle.rept_writing.specs.Hits.{Listed};
-    ghost use Rattle.rept_writing.specs.Bounded.{AreBounded};
+    ghost use Rattle.rept_writing.specs.Bounded.{AreBounded, AreOfKindWithin, AreWithin};
     ghost use Rattle.rept_writing.specs.Filed.{IsFiled, hit_cmp};
     ghost use Rattle.rept_writing.specs.Falling.{AreColumns, room_of};
 
@@ -77,7 +81,7 @@ impl Model for Writings {
 
     ghost view = { λ w. record { list = w.list.items; room = vec_capacity w.list } };
 
-    ghost invariant = { λ w. record { filed : IsFiled w.list.items w.narrow.items w.wide.items; sorted : w.is_indexed ≡ true → IsSorted hit_cmp w.narrow.items; room : vec_capacity w.list ≤ vec_capacity w.wide; calls : w.is_indexed ≡ true → AreColumns w.list.items w.calls; others : w.is_indexed ≡ true → AreColumns w.list.items w.others; bounded : w.is_indexed ≡ true → AreBounded w.list.items w.wide.items w.blocks.items; are_calls : w.calls.is_call ≡ true; are_others : w.others.is_call ≡ false; calls_room : vec_capacity w.list ≤ room_of w.calls; others_room : vec_capacity w.list ≤ room_of w.others } };
+    ghost invariant = { λ w. record { filed : IsFiled w.list.items w.narrow.items w.wide.items; sorted : w.is_indexed ≡ true → IsSorted hit_cmp w.narrow.items; room : vec_capacity w.list ≤ vec_capacity w.wide; calls : w.is_indexed ≡ true → AreColumns w.list.items w.calls; others : w.is_indexed ≡ true → AreColumns w.list.items w.others; bounded : w.is_indexed ≡ true → AreBounded w.list.items w.wide.items w.blocks.items; wide_within : w.is_indexed ≡ true → AreWithin w.list.items w.wide.items (λ m. m < length w.wide.items) w.wide_bounds; calls_within : w.is_indexed ≡ true → AreOfKindWithin w.list.items true w.call_bounds; are_calls : w.calls.is_call ≡ true; are_others : w.others.is_call ≡ false; calls_room : vec_capacity w.list ≤ room_of w.calls; others_room : vec_capacity w.list ≤ room_of w.others } };
 }
 
 impl Writings {
@@ -98,6 +102,8 @@ impl Writings {
             narrow,
             wide,
             blocks,
+            wide_bounds: Bounds::none(),
+            call_bounds: Bounds::none(),
             calls,
             others,
             is_indexed: false,
@@ -163,6 +169,8 @@ impl Writings {
         }
         let access = writing.access;
         widen(&mut self.blocks, place, &access);
+        self.wide_bounds = with_row(self.wide_bounds, &access);
+        self.call_bounds = with_call(self.call_bounds, &writing);
         self.list[k] = writing;
         self.replaced = self.replaced.wrapping_add(1);
         true
@@ -183,8 +191,10 @@ impl Writings {
         file_all(self.list.as_slice(), &mut self.narrow, &mut self.wide);
         self.blocks.clear();
         bound_all(self.list.as_slice(), self.wide.as_slice(), &mut self.blocks);
+        self.wide_bounds = bounds_of_all(self.list.as_slice(), self.wide.as_slice());
         self.narrow.sort_unstable();
         self.calls.fill(self.list.as_slice());
+        self.call_bounds = self.calls.bounds(self.list.as_slice());
         self.others.fill(self.list.as_slice());
         self.is_indexed = true;
         self.replaced = 0;
@@ -197,6 +207,9 @@ impl Writings {
         let list = self.list.as_slice();
         if self.is_indexed {
             let narrow = next_narrow(self.narrow.as_slice(), k, end, a, &self.near);
+            if !self.wide_bounds.has(a) {
+                return narrow;
+            }
             let wide = next_wide(
                 list,
                 self.wide.as_slice(),
@@ -219,6 +232,9 @@ impl Writings {
         if self.is_indexed {
             let (low, high) = self.others.around(list, m, w);
             let other = self.meeting_below(k.max(low), high, m, w, a);
+            if !self.call_bounds.has(a) {
+                return other;
+            }
             let call = self.calls.next_meeting(list, k, m, w, a);
             sooner(other, call)
         } else {
@@ -257,6 +273,9 @@ impl Writings {
         let past = self.past_hit(k.saturating_sub(NEAR), number, a);
         let list = self.list.as_slice();
         let since = self.others.last_before(list, past);
+        if !self.call_bounds.has(a) {
+            return since;
+        }
         self.calls.since(list, k, a, since)
     }
 
@@ -272,6 +291,9 @@ impl Writings {
         let next = self.hit_near(k, a);
         let list = self.list.as_slice();
         let until = self.others.first_from(list, next);
+        if !self.call_bounds.has(a) {
+            return until;
+        }
         self.calls.until(list, k, a, until)
     }
 
@@ -307,6 +329,9 @@ impl Writings {
         let k = self.before(number);
         if self.is_indexed {
             let narrow = past_narrow(self.narrow.as_slice(), k, a, &self.near);
+            if !self.wide_bounds.has(a) {
+                return narrow.max(low);
+            }
             let wide = past_wide(
                 list,
                 self.wide.as_slice(),

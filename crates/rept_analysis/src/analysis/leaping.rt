@@ -164,7 +164,11 @@ impl<'a, P: Reaches + Drop, L: LastValues + Drop, B: ByteFacts, W: Transfer, R: 
         if known.from <= next && next < known.to {
             return known.to;
         }
-        if self.is_shut(a, m, next, row) { next + 1 } else { next }
+        if self.is_shut(a, m, next, row) {
+            next + 1
+        } else {
+            next
+        }
     }
 
     /// Whether it is seen at once that a byte goes from a number of a window, at all of whose numbers the same is known of it, to none that is next to it: a row of the list that may write it, if

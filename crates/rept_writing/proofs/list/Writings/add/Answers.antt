@@ -15,6 +15,8 @@ invariant_of-self c = let len : vec_len c.self.inside.list ≡ length c.self.ins
   calls = λ e. absurd (cc);
   others = λ e. absurd (cc);
   bounded = λ e. absurd (cc);
+  wide_within = λ e. absurd (cc);
+  calls_within = λ e. absurd (cc);
   are_calls = c.self.invariant.are_calls;
   are_others = c.self.invariant.are_others;
   calls_room = let a = c.self.invariant.calls_room in omega (arith, a, c.push_reserved.ensures.capacity);

@@ -5,6 +5,7 @@ use Rattle.rept_writing.proofs.Bounding.{bounded_replaced}
 use Rattle.rept_writing.proofs.Keeping.{filed_replaced}
 use Rattle.rept_writing.proofs.Passing.{contains_at}
 use Rattle.rept_writing.proofs.Rising.{columns_replaced}
+use Rattle.rept_writing.proofs.Within.{calls_replaced, within_replaced}
 use Rattle.rept_writing.proofs.list.Writings.replace.Goals as goal
 
 pub invariant_of-self : goal.invariant_of-self
@@ -20,6 +21,8 @@ invariant_of-self c =
       calls = λ on. columns_replaced c.self.inside.list.items c.args.k c.index.result.now c.args.writing c.self.inside.calls inside falls (c.self.invariant.calls on);
       others = λ on. columns_replaced c.self.inside.list.items c.args.k c.index.result.now c.args.writing c.self.inside.others inside falls (c.self.invariant.others on);
       bounded = λ on. bounded_replaced c.self.inside.list.items c.self.inside.narrow.items c.self.inside.wide.items c.args.k place c.args.writing _ _ inside at c.self.invariant.filed c.widen.ensures (c.self.invariant.bounded on);
+      wide_within = λ on. within_replaced c.self.inside.list.items c.args.k c.args.writing inside c.self.inside.wide.items c.self.inside.wide_bounds c.with_row-self-inside.result c.with_row-self-inside.ensures (c.self.invariant.wide_within on);
+      calls_within = λ on. calls_replaced c.self.inside.list.items c.args.k c.args.writing inside c.self.inside.call_bounds c.with_call-self-inside.result c.with_call-self-inside.ensures.call c.with_call-self-inside.ensures.other (c.self.invariant.calls_within on);
       are_calls = c.self.invariant.are_calls;
       are_others = c.self.invariant.are_others;
       calls_room = c.self.invariant.calls_room;
