@@ -1,20 +1,14 @@
 //! Bounds of numbers, from which it is found fast how far those of numbers one after the other lie within others.
 
-ghost use Rattle.std.specs.Prelude.{◌≡◌, ◌≤◌, ◌<◌, ◌+◌, true, length, IfOk};
+ghost use Rattle.std.specs.Prelude.{◌≡◌, ◌≤◌, ◌<◌, ◌+◌, ◌*◌, ◌/◌, ◌^◌, true, [], None, length, slice_index_or, IfOk};
 ghost use Rattle.rept_extents.specs.declared.hulls.Hull.{Hull};
-ghost use Rattle.rept_extents.specs.Hulls.{LiesIn, LieIn, block, wide, vast, AreBlocks};
+ghost use Rattle.rept_extents.specs.Hulls.{LiesIn, LieIn, AreBlocks, AreLevels};
 
 use std::alloc::{AllocError as OutOfMemory, Global};
 use std::marker::Model;
 
-/// So many numbers have bounds together.
-const BLOCK: u32 = 16;
-
-/// And so many, which are 16 blocks.
-const WIDE: u32 = 256;
-
-/// And so many, which are 16 times as many.
-const VAST: u32 = 4096;
+/// So many blocks of a level make one of the next level.
+const FACTOR: u32 = 4;
 
 /// Bounds of numbers.
 #[derive(Clone, Copy)]
@@ -25,25 +19,139 @@ pub struct Hull {
     pub most: u32,
 }
 
-/// The bounds of each number, if it has some, of each 16 of them one after the other, of each 16 such blocks, and of each 16 of those. Contracts see a list.
+/// The bounds of the numbers of each block of a level, where each of them has some. Contracts see a list.
 #[derive(Drop)]
-pub struct Hulls {
-    list: Vec<Option<Hull>>,
-    blocks: Vec<Option<Hull>>,
-    wides: Vec<Option<Hull>>,
-    vasts: Vec<Option<Hull>>,
+struct Level {
+    hulls: Vec<Option<Hull>>,
 }
 
-impl Model for Hulls {
+impl Model for Level {
     ghost use Rattle.std.specs.Prelude.{List, Option};
     ghost use Rattle.rept_extents.specs.declared.hulls.Hull.{Hull};
-    ghost use Rattle.rept_extents.specs.Hulls.{AreBlocks};
 
     ghost Value = { List (Option Hull) };
 
-    ghost view = { λ h. h.list.items };
+    ghost view = { λ l. l.hulls.items };
+}
 
-    ghost invariant = { λ h. record { blocks : AreBlocks h.blocks.items h.list.items; wides : AreBlocks h.wides.items h.blocks.items; vasts : AreBlocks h.vasts.items h.wides.items } };
+impl Level {
+    /// Whether a block has bounds that lie within others.
+    fn has(&self, index: u32, outer: Hull) -> bool
+        ensures { result ≡ true → LiesIn (slice_index_or self.now index None) outer }
+    {
+        match self.hulls.get(index as usize) {
+            Some(hull) => lies_in(*hull, outer),
+            None => false,
+        }
+    }
+}
+
+/// The bounds of each number, if it has some, of each four of them one after the other, of each four such blocks, and so on: a list of levels. Contracts see the list of the numbers.
+#[derive(Drop)]
+pub struct Hulls {
+    levels: Vec<Level>,
+}
+
+impl Model for Hulls {
+    ghost use Rattle.std.specs.Prelude.{List, [], Option, slice_index_or};
+    ghost use Rattle.rept_extents.specs.declared.hulls.Hull.{Hull};
+    ghost use Rattle.rept_extents.specs.Hulls.{AreLevels};
+
+    ghost Value = { List (Option Hull) };
+
+    ghost view = { λ h. slice_index_or h.levels.items 0 [] };
+
+    ghost invariant = { λ h. AreLevels h.levels.items (slice_index_or h.levels.items 0 []) };
+}
+
+/// A block of a level.
+#[derive(Clone, Copy)]
+struct Block {
+    /// At level 0 a block is a single number.
+    level: usize,
+    /// How many blocks of its level come before it.
+    index: u32,
+    /// Its first number.
+    from: u32,
+    /// How many numbers it has.
+    size: u32,
+    ghost some: { 0 < size },
+    ghost sized: { size ≡ 4 ^ level },
+    ghost begins: { from ≡ index * size },
+}
+
+impl Block {
+    /// That of one number.
+    fn of(number: u32) -> Block
+        ensures level { result.level ≡ 0 }
+        ensures from { result.from ≡ number }
+    {
+        Block {
+            level: 0,
+            index: number,
+            from: number,
+            size: 1,
+        }
+    }
+
+    /// The next one of its level.
+    fn after(self) -> Block
+        requires { self.from + self.size < 2 ^ 32 }
+        ensures level { result.level ≡ self.level }
+        ensures from { result.from ≡ self.from + self.size }
+    {
+        Block {
+            level: self.level,
+            index: self.index + 1,
+            from: self.from + self.size,
+            size: self.size,
+        }
+    }
+
+    /// The one before it of its level.
+    fn before(self) -> Block
+        requires { self.size ≤ self.from }
+        ensures level { result.level ≡ self.level }
+        ensures size { result.size ≡ self.size }
+        ensures from { result.from + self.size ≡ self.from }
+    {
+        Block {
+            level: self.level,
+            index: self.index - 1,
+            from: self.from - self.size,
+            size: self.size,
+        }
+    }
+
+    /// The one of the next level that begins at the same number, where there is one and it has no more numbers than there is room for; else this one.
+    fn wider(self, room: u32) -> Block
+        ensures level { result.level ≤ self.level + 1 }
+        ensures from { result.from ≡ self.from }
+    {
+        if self.index % FACTOR != 0 || self.size > room / FACTOR {
+            return self;
+        }
+        Block {
+            level: self.level + 1,
+            index: self.index / FACTOR,
+            from: self.from,
+            size: self.size * FACTOR,
+        }
+    }
+
+    /// The one of the level below that begins at the same number.
+    fn narrower(self) -> Block
+        requires { 0 < self.level }
+        ensures level { result.level + 1 ≡ self.level }
+        ensures from { result.from ≡ self.from }
+    {
+        Block {
+            level: self.level - 1,
+            index: self.index * FACTOR,
+            from: self.from,
+            size: self.size / FACTOR,
+        }
+    }
 }
 
 /// Bounds of both, where both have some.
@@ -73,166 +181,105 @@ fn lies_in(inner: Option<Hull>, outer: Hull) -> bool
     }
 }
 
-/// The bounds of the numbers of a block, where each has some.
+/// The bounds of four numbers one after the other, where each has some.
 fn block_of(list: &[Option<Hull>], from: usize) -> Option<Hull>
-    requires { from + 16 ≤ length list.now }
-    ensures { (outer : Hull) → LiesIn result outer → LieIn list.now (record { from = from; to = from + 16; outer = outer }) }
+    requires { from + 4 ≤ length list.now }
+    ensures { (outer : Hull) → LiesIn result outer → LieIn list.now (record { from = from; to = from + 4; outer = outer }) }
 {
     let mut hull = list[from];
-    for number in from + 1..from + 16 {
+    for number in from + 1..from + 4 {
         hull = both(hull, list[number]);
     }
     hull
 }
 
-/// Those of each block.
+/// Those of each four of them.
 fn blocks_of(alloc: Global, list: &[Option<Hull>]) -> Result<Vec<Option<Hull>>, OutOfMemory>
-    ensures { IfOk result (λ v. AreBlocks v.items list.now) }
+    ensures count { IfOk result (λ v. length v.items ≡ length list.now / 4) }
+    ensures blocks { IfOk result (λ v. AreBlocks 4 v.items list.now) }
 {
     let mut blocks = Vec::new(alloc);
-    for number in 0..list.len() / 16 {
-        blocks.push(block_of(list, number * 16))?;
+    for number in 0..list.len() / 4 {
+        blocks.push(block_of(list, number * 4))?;
     }
     Ok(blocks)
 }
 
+/// The levels of a list, of which the list is the first.
+fn levels_of(alloc: Global, list: Vec<Option<Hull>>) -> Result<Vec<Level>, OutOfMemory>
+    ensures list { IfOk result (λ v. slice_index_or v.items 0 [] ≡ list.items) }
+    ensures levels { IfOk result (λ v. AreLevels v.items list.items) }
+{
+    let mut levels = Vec::new(alloc);
+    let mut hulls = list;
+    while hulls.len() >= 4 {
+        let next = blocks_of(alloc, &hulls)?;
+        levels.push(Level { hulls })?;
+        hulls = next;
+    }
+    levels.push(Level { hulls })?;
+    Ok(levels)
+}
+
 impl Hulls {
-    /// Those of a list. It takes memory for one entry a block.
+    /// Those of a list. It takes memory for a third as many entries again.
     pub fn new(alloc: Global, list: Vec<Option<Hull>>) -> Result<Hulls, OutOfMemory>
         ensures { IfOk result (λ h. h ≡ list.items) }
     {
-        let blocks = blocks_of(alloc, &list)?;
-        let wides = blocks_of(alloc, &blocks)?;
-        let vasts = blocks_of(alloc, &wides)?;
-        Ok(Hulls {
-            list,
-            blocks,
-            wides,
-            vasts,
-        })
-    }
-
-    /// Whether a number has bounds that lie within others.
-    fn has(&self, number: u32, outer: Hull) -> bool
-        ensures { result ≡ true → LieIn self.now (record { from = number; to = number + 1; outer = outer }) }
-    {
-        match self.list.get(number as usize) {
-            Some(hull) => lies_in(*hull, outer),
-            None => false,
-        }
+        let levels = levels_of(alloc, list)?;
+        Ok(Hulls { levels })
     }
 
     /// Whether all numbers of a block have bounds that lie within others.
-    fn has_block(&self, number: u32, outer: Hull) -> bool
-        ensures { result ≡ true → LieIn self.now (block number outer) }
+    fn has(&self, block: Block, outer: Hull) -> bool
+        ensures { result ≡ true → LieIn self.now (record { from = block.from; to = block.from + block.size; outer = outer }) }
     {
-        match self.blocks.get(number as usize) {
-            Some(hull) => lies_in(*hull, outer),
+        match self.levels.get(block.level) {
+            Some(level) => level.has(block.index, outer),
             None => false,
         }
     }
 
-    /// Whether all numbers of 16 blocks one after the other have bounds that lie within others.
-    fn has_wide(&self, number: u32, outer: Hull) -> bool
-        ensures { result ≡ true → LieIn self.now (wide number outer) }
-    {
-        match self.wides.get(number as usize) {
-            Some(hull) => lies_in(*hull, outer),
-            None => false,
-        }
-    }
-
-    /// Whether all numbers of 256 blocks one after the other have bounds that lie within others.
-    fn has_vast(&self, number: u32, outer: Hull) -> bool
-        ensures { result ≡ true → LieIn self.now (vast number outer) }
-    {
-        match self.vasts.get(number as usize) {
-            Some(hull) => lies_in(*hull, outer),
-            None => false,
-        }
-    }
-
-    /// The number up to which a step leads from one that is below another one: the end of the 256 blocks, the 16 blocks or the block that begin there, or the next number. Where the bounds
-    /// don't lie within others it leads nowhere.
-    fn after(&self, number: u32, to: u32, outer: Hull) -> u32
-        requires { number < to }
-        ensures from { number ≤ result }
-        ensures to { result ≤ to }
-        ensures all { LieIn self.now (record { from = number; to = result; outer = outer }) }
-    {
-        if number % VAST == 0 && to - number >= VAST && self.has_vast(number / VAST, outer) {
-            return number + VAST;
-        }
-        if number % WIDE == 0 && to - number >= WIDE && self.has_wide(number / WIDE, outer) {
-            return number + WIDE;
-        }
-        if number % BLOCK == 0 && to - number >= BLOCK && self.has_block(number / BLOCK, outer) {
-            return number + BLOCK;
-        }
-        if self.has(number, outer) {
-            return number + 1;
-        }
-        number
-    }
-
-    /// The number down to which a step leads from one that is above another one, likewise.
-    fn before(&self, number: u32, from: u32, outer: Hull) -> u32
-        requires { from < number }
-        ensures from { from ≤ result }
-        ensures to { result ≤ number }
-        ensures all { LieIn self.now (record { from = result; to = number; outer = outer }) }
-    {
-        if number % VAST == 0 && number - from >= VAST && self.has_vast(number / VAST - 1, outer) {
-            return number - VAST;
-        }
-        if number % WIDE == 0 && number - from >= WIDE && self.has_wide(number / WIDE - 1, outer) {
-            return number - WIDE;
-        }
-        if number % BLOCK == 0
-            && number - from >= BLOCK
-            && self.has_block(number / BLOCK - 1, outer)
-        {
-            return number - BLOCK;
-        }
-        if self.has(number - 1, outer) {
-            return number - 1;
-        }
-        number
-    }
-
-    /// A number, from one on and up to another one, before which all from the one on have bounds that lie within others.
+    /// A number, from one on and up to another one, before which all from the one on have bounds that lie within others. It goes over blocks that grow by a level wherever they may,
+    /// and once a block's bounds don't lie within the others over those of the levels below.
     pub fn up_to(&self, from: u32, to: u32, outer: Hull) -> u32
         requires { from ≤ to }
         ensures from { from ≤ result }
         ensures to { result ≤ to }
         ensures all { LieIn self.now (record { from = from; to = result; outer = outer }) }
     {
-        let mut number = from;
-        while number < to {
-            let next = self.after(number, to, outer);
-            if next == number {
-                return number;
+        let mut block = Block::of(from);
+        while block.from < to {
+            if block.size <= to - block.from && self.has(block, outer) {
+                block = block.after();
+                block = block.wider(to - block.from);
+            } else if block.level > 0 {
+                block = block.narrower();
+            } else {
+                return block.from;
             }
-            number = next;
         }
-        number
+        block.from
     }
 
-    /// A number, from one on and up to another one, from which on all before the other one have bounds that lie within others.
+    /// A number, from one on and up to another one, from which on all before the other one have bounds that lie within others. It goes over blocks likewise.
     pub fn down_to(&self, from: u32, to: u32, outer: Hull) -> u32
         requires { from ≤ to }
         ensures from { from ≤ result }
         ensures to { result ≤ to }
         ensures all { LieIn self.now (record { from = result; to = to; outer = outer }) }
     {
-        let mut number = to;
-        while number > from {
-            let next = self.before(number, from, outer);
-            if next == number {
-                return number;
+        let mut block = Block::of(to);
+        while block.from > from {
+            if block.size <= block.from - from && self.has(block.before(), outer) {
+                block = block.before();
+                block = block.wider(block.from - from);
+            } else if block.level > 0 {
+                block = block.narrower();
+            } else {
+                return block.from;
             }
-            number = next;
         }
-        number
+        block.from
     }
 }

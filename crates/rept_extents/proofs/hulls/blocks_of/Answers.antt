@@ -7,5 +7,5 @@ use Rattle.rept_extents.proofs.hulls.blocks_of.Goals as goal
 pub loop-number-preserved : goal.loop-number-preserved
 loop-number-preserved c = record {
   count = search rules;
-  blocks = subst (λ (xs : List (Option Hull)). AreBlocks xs c.args.list.now) (sym c.in_ok-push.ensures.items) (blocks_more c.args.list.now c.loop-number.blocks.items c.block_of.result c.loop-number.number c.loop-number.invariant.count c.loop-number.invariant.blocks c.block_of.ensures);
+  blocks = subst (λ (xs : List (Option Hull)). AreBlocks 4 xs c.args.list.now) (sym c.in_ok-push.ensures.items) (blocks_more c.args.list.now c.loop-number.blocks.items c.block_of.result c.loop-number.number c.loop-number.invariant.count c.loop-number.invariant.blocks c.block_of.ensures);
 }

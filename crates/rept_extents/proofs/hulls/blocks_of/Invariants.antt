@@ -5,5 +5,5 @@ use Rattle.rept_extents.proofs.hulls.blocks_of.Given as goal
 abbrev pub invariant-loop-number : goal.invariant-loop-number
 invariant-loop-number l = record {
   count : length l.blocks.items ≡ l.number;
-  blocks : AreBlocks l.blocks.items l.list;
+  blocks : AreBlocks 4 l.blocks.items l.list;
 }

@@ -1,13 +1,13 @@
-use Rattle.std.proofs.Common.{◌-◌, ◌≤◌}
+use Rattle.std.proofs.Common.{◌-◌, ◌+◌, ◌*◌, ◌≤◌}
 use Rattle.rept_extents.specs.Hulls.{LieIn}
 use Rattle.rept_extents.proofs.hulls.Hulls.up_to.Given as goal
 
-abbrev pub invariant-loop-number : goal.invariant-loop-number
-invariant-loop-number l = record {
-  from : l.from ≤ l.number;
-  to : l.number ≤ l.to;
-  all : LieIn l.self (record { from = l.from; to = l.number; outer = l.outer });
+abbrev pub invariant-loop-block : goal.invariant-loop-block
+invariant-loop-block l = record {
+  from : l.from ≤ l.block.from;
+  to : l.block.from ≤ l.to;
+  all : LieIn l.self (record { from = l.from; to = l.block.from; outer = l.outer });
 }
 
-abbrev pub decreases-loop-number : goal.decreases-loop-number
-decreases-loop-number l = l.to - l.number
+abbrev pub decreases-loop-block : goal.decreases-loop-block
+decreases-loop-block l = (l.to - l.block.from) * 2 + l.block.level
