@@ -40,7 +40,7 @@ impl Files {
             "code" => self.exe = code_of(alloc, n)?,
             "ends" => {
                 let threads = [(n.word(0), n.word(1)), (n.word(2), n.word(3))];
-                let count = if n.count() < 4 { 1 } else { 2 };
+                let count = (n.count() / 2).min(2);
                 self.core = core_of_threads(alloc, &threads[..count])?;
             }
             "exe" => mem::swap(&mut self.exe, &mut self.trace),
@@ -70,6 +70,10 @@ impl Files {
 
     pub fn exe(&self) -> &[u8] {
         self.exe.as_slice()
+    }
+
+    pub fn core(&self) -> &[u8] {
+        self.core.as_slice()
     }
 
     pub fn trace(&self) -> &[u8] {

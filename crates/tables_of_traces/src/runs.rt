@@ -7,6 +7,7 @@ use crate::files::Files;
 use crate::rows::told;
 use rept_isa::{Instr, StepRow};
 use rept_path::PathFault;
+use rept_runs::{CrashFiles, is_several, one_path, open_run};
 use rept_slices::survey::survey_all;
 use rept_steps::{PushFault, Run, Steps};
 use rept_trace::Streams;
@@ -48,6 +49,27 @@ pub fn run(
     match rebuild_trace(alloc, bytes, &dump) {
         Err(fault) => format!(in alloc; "{fault:?}"),
         Ok(run) => threads(alloc, &run, first),
+    }
+}
+
+/// Whether a trace is one of several streams; and what the files of a crash tell, with how many steps the one path has; or the fault.
+pub fn opened(alloc: Global, files: &Files, trace: &[u8]) -> Result<String, AllocError>
+    requires { length trace.now < 2 ^ 32 }
+{
+    let several = is_several(trace);
+    let files = CrashFiles {
+        exe: files.exe(),
+        core: files.core(),
+        trace,
+        from: 0,
+    };
+    match open_run(alloc, files) {
+        Err(fault) => format!(in alloc; "{several} {fault:?}"),
+        Ok(opened) => {
+            let path = one_path(&opened.run).map(|steps| steps.len());
+            let told = threads(alloc, &opened.run, None)?;
+            format!(in alloc; "{several} path {path:?}, {told}")
+        }
     }
 }
 
