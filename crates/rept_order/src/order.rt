@@ -245,7 +245,7 @@ impl<'a> Order<'a> {
     }
 
     /// Whether the order puts the whole act before the moment.
-    pub fn is_wholly_before(&self, act: Act, m: Moment) -> bool
+    fn is_wholly_before(&self, act: Act, m: Moment) -> bool
         requires { IsSoundCourse (course_in self.now) }
         ensures { result ≡ wholly_before (course_in self.now) (act_named act) (moment_named m) }
     {
@@ -256,7 +256,7 @@ impl<'a> Order<'a> {
     }
 
     /// Whether the order puts the whole act after the moment.
-    pub fn is_wholly_after(&self, act: Act, w: Moment) -> bool
+    fn is_wholly_after(&self, act: Act, w: Moment) -> bool
         requires { IsSoundCourse (course_in self.now) }
         ensures { result ≡ wholly_after (course_in self.now) (act_named act) (moment_named w) }
     {
