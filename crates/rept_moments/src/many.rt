@@ -18,7 +18,7 @@ ghost use Rattle.rept_moments.specs.Between.{own_to, IsOwnBetween};
 ghost use Rattle.rept_moments.specs.Seen.{moment_in, AddsNexts, IsRowAt, IsLastFrom};
 ghost use Rattle.rept_moments.specs.Begins.{following_at, AreBegins};
 ghost use Rattle.rept_moments.specs.Nexts.{is_first_later, none_late, first_offer, offers_at, nexts_of, merged_nexts, point_nexts, side_nexts, last_nexts, ends_to, AddsOthers, Member, IsLaterBy, IsOffer};
-ghost use Rattle.rept_moments.specs.Tables.{moments_at};
+ghost use Rattle.rept_moments.specs.Tables.{moments_at, AreTables};
 ghost use Rattle.rept_moments.specs.Together.{AreBeside, IsTogether, AreTogether};
 
 use crate::begins::{Begins, following, former, is_alike};
@@ -94,6 +94,49 @@ fn keep(numbers: &mut Numbers, side: Side, merged: &[bool]) -> Result<(), OutOfM
     Ok(())
 }
 
+/// What the numbers of a run are told from.
+#[derive(Drop)]
+struct Tables {
+    begins: Begins,
+    numbers: Numbers,
+    merged: Vec<bool>,
+}
+
+/// By each point, whether the moment after its row is one with the thread's next one.
+fn merged_of(alloc: Global, points: &Points<'_>) -> Result<Vec<bool>, OutOfMemory>
+    ensures { IfOk result (λ v. v.items ≡ by_point (merged_at points.now) (points_in points.now)) }
+{
+    let writers = Writers::new(alloc, points)?;
+    merged(alloc, points, &writers)
+}
+
+/// Numbers the moments in the order of their times, but those that are one with a later one.
+fn numbered(alloc: Global, points: &Points<'_>, merged: &[bool]) -> Result<Numbers, OutOfMemory>
+    requires { merged.now ≡ by_point (merged_at points.now) (points_in points.now) }
+    ensures numbered { IfOk result (λ n. moments_at points.now n.list ≡ lasts points.now (in_order points.now)) }
+    ensures points { IfOk result (λ n. n.points ≡ points_in points.now) }
+    ensures few { IfOk result (λ n. length n.list < 2 ^ 32) }
+{
+    let moments = in_time(alloc, points)?;
+    number(alloc, points, moments.as_slice(), merged)
+}
+
+/// The tables of a run.
+fn tables_of(alloc: Global, points: &Points<'_>) -> Result<Tables, OutOfMemory>
+    requires sound { IsSoundCourse points.now }
+    requires few { points_in points.now ≤ 66560 }
+    ensures { IfOk result (λ t. AreTables points.now t.begins t.numbers t.merged.items) }
+{
+    let merged = merged_of(alloc, points)?;
+    let numbers = numbered(alloc, points, merged.as_slice())?;
+    let begins = Begins::new(alloc, points)?;
+    Ok(Tables {
+        begins,
+        numbers,
+        merged,
+    })
+}
+
 impl<'a> Many<'a> {
     ghost use Rattle.rept_moments.specs.Several.{seen_of};
 
@@ -104,11 +147,11 @@ impl<'a> Many<'a> {
         ensures { IfOk result (λ m. m ≡ course_of run.now) }
     {
         let points = Points::new(alloc, run)?;
-        let moments = in_time(alloc, &points)?;
-        let writers = Writers::new(alloc, &points)?;
-        let merged = merged(alloc, &points, &writers)?;
-        let numbers = number(alloc, &points, moments.as_slice(), merged.as_slice())?;
-        let begins = Begins::new(alloc, &points)?;
+        let Tables {
+            begins,
+            numbers,
+            merged,
+        } = tables_of(alloc, &points)?;
         Ok(Many {
             points,
             begins,

@@ -1,6 +1,6 @@
 //! Numbers for moments of rows, in the order in which they are added.
 
-ghost use Rattle.std.specs.Prelude.{◌≡◌, ◌∷◌, [], None, ◌<◌, ◌^◌, length, IfOk, IfSome, OnOk};
+ghost use Rattle.std.specs.Prelude.{◌≡◌, ◌∷◌, [], None, Some, ◌<◌, ◌^◌, length, set, IfOk, IfSome, OnOk};
 ghost use Rattle.rept_moments.specs.Points.{by_point};
 ghost use Rattle.rept_moments.specs.Numbering.{find, at_place, Numbered};
 
@@ -38,6 +38,14 @@ fn blank(alloc: Global, points: u32) -> Result<Vec<Option<u32>>, OutOfMemory>
         list.push(None)?;
     }
     Ok(list)
+}
+
+/// Sets the number of a point.
+fn put(table: &mut Vec<Option<u32>>, point: u32, number: u32)
+    requires { point < length table.old.items }
+    ensures { table.new.items ≡ set table.old.items point (Some number) }
+{
+    table[point as usize] = Some(number);
 }
 
 impl Numbers {
@@ -92,9 +100,9 @@ impl Numbers {
         let number = self.list.as_slice().len() as u32;
         self.list.push(side)?;
         if side.is_after {
-            self.after[side.point as usize] = Some(number);
+            put(&mut self.after, side.point, number);
         } else {
-            self.before[side.point as usize] = Some(number);
+            put(&mut self.before, side.point, number);
         }
         Ok(())
     }
