@@ -14,6 +14,9 @@ use std::marker::Model;
 /// So many places to each side of the last one a search looks first.
 const NEAR: usize = 8;
 
+/// So many last answers are kept: those of the bytes of a word, which are mostly looked at by turns, apart.
+const LANES: usize = 4;
+
 /// What `put` did.
 #[derive(Clone, Copy, PartialEq, Eq, Debug)]
 pub enum Put {
@@ -49,13 +52,20 @@ pub enum Step {
     Joined,
 }
 
+/// The lane of a number: the last two bits of what stands above its lower 32 bits.
+fn lane(k: u64) -> usize
+    ensures { result < 4 }
+{
+    (k / 4_294_967_296 % 4) as usize
+}
+
 /// Spans in order, with room for more. No two of them have a number in common.
 #[derive(Drop)]
 pub struct SpanLine {
     spans: Blocks,
-    // What the last search answered. The next one is mostly for a number close by, and begins around that place.
+    // What the last search in each lane answered. The next one is mostly for a number close by, and begins around that place.
     // It only saves work: no clause says what it keeps.
-    near: Cell<usize>,
+    near: [Cell<usize>; LANES],
 }
 
 impl Model for SpanLine {
@@ -75,7 +85,7 @@ impl SpanLine {
     {
         Ok(SpanLine {
             spans: Blocks::new(alloc, room)?,
-            near: Cell::new(0),
+            near: [Cell::new(0), Cell::new(0), Cell::new(0), Cell::new(0)],
         })
     }
 
@@ -84,12 +94,12 @@ impl SpanLine {
         ensures parts { Parts self.now.spans k result }
         ensures rising { IsRising self.now.spans }
     {
-        let near = self.near.get();
+        let near = self.near[lane(k)].get();
         if self.splits(near, k) {
             return near;
         }
         if near < usize::MAX && self.splits(near + 1, k) {
-            self.near.set(near + 1);
+            self.near[lane(k)].set(near + 1);
             return near + 1;
         }
         self.find_near(k)
@@ -111,7 +121,7 @@ impl SpanLine {
                 high = middle;
             }
         }
-        self.near.set(low);
+        self.near[lane(k)].set(low);
         low
     }
 
@@ -134,7 +144,7 @@ impl SpanLine {
         ensures bound { result ≤ length self.now.spans }
         ensures below { (j : ℕ) → j < result → (nth self.now.spans j).low ≤ k }
     {
-        let first = self.near.get().saturating_sub(NEAR);
+        let first = self.near[lane(k)].get().saturating_sub(NEAR);
         if first < self.count() && self.at(first).low <= k {
             return first + 1;
         }
@@ -146,7 +156,7 @@ impl SpanLine {
         ensures bound { result ≤ length self.now.spans }
         ensures above { (j : ℕ) → result ≤ j → j < length self.now.spans → k < (nth self.now.spans j).low }
     {
-        let last = self.near.get().saturating_add(NEAR);
+        let last = self.near[lane(k)].get().saturating_add(NEAR);
         let len = self.count();
         if last < len && k < self.at(last).low {
             return last;
