@@ -11,6 +11,7 @@ use super::Analysis;
 use super::carrying::border;
 use crate::halt::Halt;
 use crate::leap::Leap;
+use crate::step::Step;
 use rept_log::LastValues;
 use rept_reach::{Reaches, Window};
 use rept_report::paths::Strip;
@@ -431,7 +432,12 @@ impl<'a, P: Reaches + Drop, L: LastValues + Drop, B: ByteFacts, W: Transfer, R: 
 
     /// The value of a byte to the end of the strip before a number from those of a window that are next to it, and down from there, where it isn't known there. Answers whether it was
     /// new, and a number up to which it was looked for: the first one, where writers that aren't told don't lie before that strip's end, since they fall between all that come before.
-    fn carry_former(&mut self, a: u32, first: u32, known: Window) -> Result<(bool, u32), Halt>
+    pub(super) fn carry_former(
+        &mut self,
+        a: u32,
+        first: u32,
+        known: Window,
+    ) -> Result<(bool, u32), Halt>
         requires some { 0 < first }
         requires inside { first ≤ (P.timeline self.old.paths).moments.end }
         requires tracked { IsTracked a (state_of (reader P.timeline L.values) W.sets W.moves R.rules B.store self.old) }
@@ -478,13 +484,15 @@ impl<'a, P: Reaches + Drop, L: LastValues + Drop, B: ByteFacts, W: Transfer, R: 
         let mut from = first;
         let mut low = self.least_former(first);
         while first > low {
-            let former = self.carry_former(a, first, Window { from, to })?;
+            let known = Window { from, to };
+            let former = self.carry_former(a, first, known)?;
+            if former.0 {
+                self.follow(a, Step::Former { first, known })?;
+                from = former.1;
+                low = low.min(self.least_former(former.1));
+            }
             learnt = learnt | former.0;
             first = former.1;
-            if former.0 {
-                from = first;
-                low = low.min(self.least_former(first));
-            }
         }
         Ok(learnt)
     }
@@ -506,7 +514,7 @@ impl<'a, P: Reaches + Drop, L: LastValues + Drop, B: ByteFacts, W: Transfer, R: 
     }
 
     /// The value of a byte in the strip around a number, up from it, and on to the numbers next to it, where it is known there. Answers whether it was new, and its last number.
-    fn carry_later(&mut self, a: u32, first: u32) -> Result<(bool, u32), Halt>
+    pub(super) fn carry_later(&mut self, a: u32, first: u32) -> Result<(bool, u32), Halt>
         requires inside { first ≤ (P.timeline self.old.paths).moments.end }
         requires tracked { IsTracked a (state_of (reader P.timeline L.values) W.sets W.moves R.rules B.store self.old) }
         requires writings { AreWritings (state_of (reader P.timeline L.values) W.sets W.moves R.rules B.store self.old) }
@@ -535,10 +543,16 @@ impl<'a, P: Reaches + Drop, L: LastValues + Drop, B: ByteFacts, W: Transfer, R: 
         ensures halt { IfErr result (λ h. IsHalt (state_of (reader P.timeline L.values) W.sets W.moves R.rules B.store self.new) h) }
     {
         let mut learnt = self.carry_links_on(a, number)?;
+        if learnt {
+            self.follow(a, Step::Onward { number })?;
+        }
         let mut last = number;
         let mut high = self.greatest_next(last);
         while last < high {
             let later = self.carry_later(a, last + 1)?;
+            if later.0 {
+                self.follow(a, Step::Later { first: last + 1 })?;
+            }
             learnt = learnt | later.0;
             last = later.1;
             if later.0 {
@@ -549,7 +563,7 @@ impl<'a, P: Reaches + Drop, L: LastValues + Drop, B: ByteFacts, W: Transfer, R: 
     }
 
     /// The value of a byte up from a number, where it is known there and not at the one after it.
-    fn leap_end(&mut self, a: u32, number: u32) -> Result<bool, Halt>
+    pub(super) fn leap_end(&mut self, a: u32, number: u32) -> Result<bool, Halt>
         requires inside { number ≤ (P.timeline self.old.paths).moments.end }
         requires writings { AreWritings (state_of (reader P.timeline L.values) W.sets W.moves R.rules B.store self.old) }
         requires open { self.old.complete ≡ false }
@@ -582,6 +596,10 @@ impl<'a, P: Reaches + Drop, L: LastValues + Drop, B: ByteFacts, W: Transfer, R: 
             };
             let strip = self.strip(end.min(from.max(stretch.first)));
             let inside = self.carry_strip(a, strip)?;
+            if inside {
+                let number = strip.first;
+                self.follow(a, Step::Onward { number })?;
+            }
             let back = self.carry_back(a, strip.first)?;
             learnt = learnt | inside | back;
             from = strip.last.max(end.min(stretch.last)) + 1;
@@ -607,6 +625,10 @@ impl<'a, P: Reaches + Drop, L: LastValues + Drop, B: ByteFacts, W: Transfer, R: 
             let inside = self.carry_strip(a, strip)?;
             let up = self.leap_end(a, strip.last)?;
             let links = self.carry_links(a, strip.last)?;
+            if inside | up | links {
+                let number = strip.first;
+                self.follow(a, Step::Onward { number })?;
+            }
             learnt = learnt | inside | up | links;
             from = self.uneven_from(a, strip.last + 1);
         }
@@ -627,7 +649,7 @@ impl<'a, P: Reaches + Drop, L: LastValues + Drop, B: ByteFacts, W: Transfer, R: 
         Ok(back | onward)
     }
 
-    /// The value of a tracked byte, where something was learnt of it lately.
+    /// The value of a tracked byte, where something was learnt of it lately, and it isn't like the first one of its word, which it follows.
     fn carry_told(&mut self, k: usize) -> Result<bool, Halt>
         requires within { k < length (state_of (reader P.timeline L.values) W.sets W.moves R.rules B.store self.old).known.store.tracked }
         requires writings { AreWritings (state_of (reader P.timeline L.values) W.sets W.moves R.rules B.store self.old) }
@@ -637,7 +659,7 @@ impl<'a, P: Reaches + Drop, L: LastValues + Drop, B: ByteFacts, W: Transfer, R: 
         ensures halt { IfErr result (λ h. IsHalt (state_of (reader P.timeline L.values) W.sets W.moves R.rules B.store self.new) h) }
     {
         let a = self.address(k);
-        if !self.recent.has(a) {
+        if !self.recent.has(a) || self.is_like_first(a) {
             return Ok(false);
         }
         self.carry_address(a)
@@ -668,9 +690,10 @@ impl<'a, P: Reaches + Drop, L: LastValues + Drop, B: ByteFacts, W: Transfer, R: 
         self.recent.begin();
     }
 
-    /// The values of all tracked bytes.
+    /// The values of all tracked bytes. One that is like the last that was gone over is carried as that one is.
     pub(super) fn carry_tracked(&mut self) -> Result<bool, Halt>
         requires writings { AreWritings (state_of (reader P.timeline L.values) W.sets W.moves R.rules B.store self.old) }
+        requires filled { self.old.filled ≡ length self.old.known.log }
         requires open { self.old.complete ≡ false }
         ensures grows { Grows (state_of (reader P.timeline L.values) W.sets W.moves R.rules B.store self.old) (state_of (reader P.timeline L.values) W.sets W.moves R.rules B.store self.new) }
         ensures drew { IfOk result (λ learnt. Drew (state_of (reader P.timeline L.values) W.sets W.moves R.rules B.store self.old) (state_of (reader P.timeline L.values) W.sets W.moves R.rules B.store self.new) learnt (AllCarried)) }
@@ -678,10 +701,14 @@ impl<'a, P: Reaches + Drop, L: LastValues + Drop, B: ByteFacts, W: Transfer, R: 
     {
         let count = self.tracked_count();
         let mut learnt = false;
+        let mut leader = None;
         for k in 0..count {
             let a = self.address(k);
-            let new = self.carry_onward(a)?;
-            learnt = learnt | new;
+            if !self.is_like_any(leader, a) {
+                let new = self.carry_onward(a)?;
+                learnt = learnt | new;
+                leader = Some(a);
+            }
         }
         Ok(learnt)
     }

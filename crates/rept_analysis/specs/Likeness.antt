@@ -1,0 +1,18 @@
+-- Bytes that go the same ways as another one, so that they needn't be gone over. This project's own.
+use Rattle.std.specs.Prelude.{◌≡◌, ◌≤◌, ℕ, true, Some, slice_get}
+use Rattle.rept_alias.specs.Accesses.{call_hits}
+use Rattle.rept_analysis.specs.State.{AnalysisState}
+use Rattle.rept_writing.specs.declared.list.Writing.{Writing}
+
+-- where of a byte the same is known at two numbers, the same is known of the other one at them
+abbrev pub IsToldBy : {W : Type 0} → ℕ → ℕ → AnalysisState W → Type 0
+IsToldBy a b s = (m w : ℕ) → m ≤ s.path.given.moments.end → w ≤ s.path.given.moments.end → s.known.store.fact m a ≡ s.known.store.fact w a → s.known.store.fact m b ≡ s.known.store.fact w b
+
+-- each row of the list that may write the byte may write the other one
+abbrev pub AreHitsShared : {W : Type 0} → ℕ → ℕ → AnalysisState W → Type 0
+AreHitsShared a b s = (k : ℕ) (w : Writing) → slice_get s.work.writing k ≡ Some w → call_hits w.access a ≡ true → call_hits w.access b ≡ true
+
+-- the other byte goes the same ways: where it may be carried the first may be, and where the first has one value it has one
+pub record IsLike {W : Type 0} (a b : ℕ) (s : AnalysisState W) : Type 0 where
+  pub told : IsToldBy a b s
+  pub hits : AreHitsShared a b s
