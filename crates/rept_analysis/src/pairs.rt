@@ -4,6 +4,7 @@ ghost use Rattle.std.specs.Prelude.{◌≡◌, ℕ, Option, None, Some, length, 
 ghost use Rattle.rept_analysis.specs.Pairs.{beside};
 
 /// Of each value of a byte, the value of another byte that was seen beside it, if one was.
+#[derive(Drop)]
 pub struct Pairs {
     list: [Option<u8>; 256],
 }
