@@ -51,6 +51,10 @@ impl<'a, P: Reaches + Drop, L: LastValues + Drop, B: ByteFacts, W: Transfer, R: 
         ensures halt { IfErr result (λ h. IsHalt (state_of (reader P.timeline L.values) W.sets W.moves R.rules B.store self.new) h) }
     {
         match step {
+            Step::Down { number } => {
+                let down = self.leap_down(a, number)?;
+                Ok(down.0)
+            }
             Step::Former { first, known } => {
                 let former = self.carry_former(a, first, known)?;
                 Ok(former.0)
