@@ -106,6 +106,10 @@ module _ {W : Type 0} (a b c : AnalysisState W) (x y : Bool) (P Q R : AnalysisSt
 pub Drew_as : {W : Type 0} (a b : AnalysisState W) (x : Bool) (P Q : AnalysisState W → Type 0) → Drew a b x P → (P a → Q a) → Drew a b x Q
 Drew_as a b x P Q d f = record { news = d.news; unchanged = d.unchanged; closed = λ e. f (d.closed e); uncut = d.uncut }
 
+-- what is closed may be read of what is known now
+pub Drew_since : {W : Type 0} (a b : AnalysisState W) (x : Bool) (P Q : AnalysisState W → Type 0) → Drew a b x P → (P b → Q b) → Drew a b x Q
+Drew_since a b x P Q d f = record { news = d.news; unchanged = d.unchanged; closed = λ e. subst Q (d.unchanged e) (f (subst P (sym (d.unchanged e)) (d.closed e))); uncut = d.uncut }
+
 -- so where the last call answers whether something was learnt
 pub Drew_if : {W E : Type 0} (a b : AnalysisState W) (r : Result Bool E) (P Q : AnalysisState W → Type 0) → IfOk r (λ x. Drew a b x P) → (P a → Q a) → IfOk r (λ x. Drew a b x Q)
 Drew_if a b (Ok x) P Q d f = Drew_as a b x P Q d f

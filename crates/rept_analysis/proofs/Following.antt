@@ -38,6 +38,7 @@ use Rattle.rept_report.proofs.Places.{oldest_less}
 use Rattle.rept_report.proofs.ViewLaws.{LiesIn, known_fact, known_more, known_word, seen_at_lawful, registers_at_lawful, seen_more, ranges_lie}
 use Rattle.rept_report.proofs.Monotony.{quiet_less, single_value_more, Concludes_more}
 use Rattle.rept_analysis.specs.Cells.{bytes_from, bytes_known, base_known}
+use Rattle.rept_log.specs.Compared.{IsSameAfter, IsNextDiffering}
 use Rattle.rept_log.specs.Known.{Known as LogKnown}
 use Rattle.rept_analysis.specs.State.{AnalysisState, all_known, Subject, along}
 use Rattle.rept_analysis.specs.Moments.{filled_range, moment, moment_lawful}
@@ -75,9 +76,21 @@ module _ {W : Type 0} (s : AnalysisState W) (i : ℕ) (row : StepRow) (found : s
 pub kept_at : {W : Type 0} (s : AnalysisState W) (i r : ℕ) (x : Flat) → x ≡ flat (register_known (told s.known.log) i r) → 0 < r → IsLearntAt (i + 1) r x s → ((v : ℕ) → 0 < r → Knows (i + 1) (Register r) v s → Knows i (Register r) v s) → IsKeptAt i r s
 kept_at s i r x read named on off = record { onward = λ v h. on v (told_known s i r v x read h named) named; back = λ v h. off v named h }
 
--- so it has where the same is known before and after
-pub kept_equal : {W : Type 0} (s : AnalysisState W) (i r : ℕ) (x y : Flat) → x ≡ flat (register_known (told s.known.log) i r) → y ≡ flat (register_known (told s.known.log) (i + 1) r) → x ≡ y → 0 < r → IsKeptAt i r s
-kept_equal s i r x y before after same named = record { onward = λ v h. known_told s (i + 1) r v y after (sym same ∙ told_known s i r v x before h named) named; back = λ v h. known_told s i r v x before (same ∙ told_known s (i + 1) r v y after h named) named }
+-- so it has where the facts tell the same before and after
+pub kept_same : {W : Type 0} (s : AnalysisState W) (i r : ℕ) → IsSameAfter s.known.log i r → IsKeptAt i r s
+kept_same s i r same = record { onward = λ v h. sym same ∙ h; back = λ v h. same ∙ h }
+
+-- all have, where there is no next one that differs
+pub none_differs : (log : List Fact) (i least : ℕ) (x : Option ℕ) → ((r : ℕ) → x ≡ Some r → ⊥) → IsNextDiffering log i least x → (r : ℕ) → least ≤ r → r < 32 → IsSameAfter log i r
+none_differs log i least None none h = h
+none_differs log i least (Some r) none h = absurd (none r refl)
+
+-- all registers have up to one, where the facts tell the same of those from another one on
+pub kept_to : {W : Type 0} (s : AnalysisState W) (row : StepRow) (i least end : ℕ) → ((r : ℕ) → least ≤ r → r < end → IsSameAfter s.known.log i r) → KeptBelow least row i s → KeptBelow end row i s
+kept_to s row i least end same h r named inside kept = elim (cases_lt r least) [
+  | inl lt ↦ h r named lt kept
+  | inr le ↦ kept_same s i r (same r le inside)
+]
 
 pub back_known : {W : Type 0} (s : AnalysisState W) (i r : ℕ) (x : Flat) → x ≡ flat (register_known (told s.known.log) (i + 1) r) → IsLearntAt i r x s → (v : ℕ) → 0 < r → Knows (i + 1) (Register r) v s → Knows i (Register r) v s
 back_known s i r x read learnt v named h = learnt v (told_known s (i + 1) r v x read h named) named

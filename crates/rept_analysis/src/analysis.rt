@@ -11,6 +11,7 @@ ghost use Rattle.rept_reason.specs.Facts.{told, flat, register_known};
 ghost use Rattle.rept_span.specs.Filled.{entry_at};
 ghost use Rattle.rept_dump.specs.Memory.{crash_byte};
 ghost use Rattle.rept_dump.specs.Program.{contents};
+ghost use Rattle.rept_log.specs.Compared.{IsNextDiffering};
 ghost use Rattle.rept_report.specs.declared.conflict.ConflictKind.{ConflictKind};
 ghost use Rattle.rept_report.specs.Conflicts.{IsQuiet};
 ghost use Rattle.rept_report.specs.Log.{oldest};
@@ -268,6 +269,16 @@ impl<'a, P: Reaches + Drop, L: LastValues + Drop, B: ByteFacts, W: Transfer, R: 
     {
         let _paths = &self.paths;
         self.known.known(point, r)
+    }
+
+    /// The first register from one on, other than x0, of which not the same is known at a point and at the one after it, if there is one.
+    fn next_differing(&self, point: u32, least: u8) -> Option<Reg>
+        requires point { point < (P.timeline self.now.paths).legs.count }
+        requires named { 0 < least }
+        ensures { IsNextDiffering self.now.known.log point least result }
+    {
+        let _paths = &self.paths;
+        self.known.next_differing(point, least)
     }
 
     /// What is known of a byte at a point, or nothing where it isn't tracked.

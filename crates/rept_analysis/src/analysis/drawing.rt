@@ -19,10 +19,9 @@ use super::Analysis;
 use crate::halt::Halt;
 use crate::pass::Pass;
 use crate::rows::{address, is_store};
-use rept_isa::{Instr, Reg, StepRow, reads, register, writes};
+use rept_isa::{Instr, Reg, StepRow, reads, writes};
 use rept_log::views::point_at;
 use rept_log::{Around, LastValues};
-use rept_partial::Flat;
 use rept_reach::Reaches;
 use rept_reason::Cell;
 use rept_span::Transfer;
@@ -46,13 +45,6 @@ fn is_with(pass: Pass, cells: u32) -> bool
         Pass::With(known) => known == cells,
         Pass::Never | Pass::Cut => false,
     }
-}
-
-/// Whether the same is known.
-fn is_same(first: Flat, second: Flat) -> bool
-    ensures { IsTrue result ↔ (first ≡ second) }
-{
-    first == second
 }
 
 /// 1 where there is a register.
@@ -96,10 +88,6 @@ impl<'a, P: Reaches + Drop, L: LastValues + Drop, B: ByteFacts, W: Transfer, R: 
         }
         let _count = self.count();
         let before = self.known(i, r);
-        let later = self.known(i + 1, r);
-        if is_same(before, later) {
-            return Ok(false);
-        }
         let onward = self.learn_if(i + 1, r, before)?;
         let after = self.known(i + 1, r);
         let back = self.learn_if(i, r, after)?;
@@ -116,9 +104,14 @@ impl<'a, P: Reaches + Drop, L: LastValues + Drop, B: ByteFacts, W: Transfer, R: 
         ensures halt { IfErr result (λ h. IsHalt (state_of (reader P.timeline L.values) W.sets W.moves R.rules B.store self.new) h) }
     {
         let mut learnt = false;
-        for r in 1..32u8 {
-            let new = self.carry(i, row, register(r))?;
+        let mut least = 1;
+        while least < 32 {
+            let Some(r) = self.next_differing(i, least) else {
+                return Ok(learnt);
+            };
+            let new = self.carry(i, row, r)?;
             learnt = learnt | new;
+            least = r.number() + 1;
         }
         Ok(learnt)
     }

@@ -3,8 +3,8 @@ use Rattle.rept_isa.specs.Operands.{written_by}
 use Rattle.rept_reason.specs.declared.fact.Cell.TheVariants.{Register}
 use Rattle.rept_analysis.specs.State.{state_of, reader}
 use Rattle.rept_analysis.specs.Drawing.{Knows, IsLearntAt, IsKeptAt}
-use Rattle.rept_analysis.proofs.Drawn.{Drew_both, Drew_same, Drew_as, Grows_trans, row_after}
-use Rattle.rept_analysis.proofs.Following.{onward_follows, back_follows, kept_at, back_known, kept_equal}
+use Rattle.rept_analysis.proofs.Drawn.{Drew_both, Drew_as, Grows_trans, row_after}
+use Rattle.rept_analysis.proofs.Following.{onward_follows, back_follows, kept_at, back_known}
 use Rattle.rept_analysis.proofs.analysis.Analysis.carry.Goals as goal
 
 pub learn_if-requires-clause-follows : goal.learn_if-requires-clause-follows
@@ -32,10 +32,6 @@ returns-clause-drew g c =
     Drew_both _ b _ c.in_ok-onward.onward c.in_ok-back.back (IsLearntAt (i + 1) r c.known-before.result) (λ s. (v : ℕ) → 0 < r → Knows (i + 1) (Register r) v s → Knows i (Register r) v s) (λ s. 0 < r → written_by c.args.row.now.instr ≢ Some r → IsKeptAt i r s)
     c.in_ok-onward.ensures.grows c.in_ok-back.ensures.grows c.in_ok-onward.ensures.drew back
     (λ p q named kept. kept_at _ i r c.known-before.result c.known-before.ensures.value named p q)
-
-pub returns-then-is_same-clause-drew : goal.returns-then-is_same-clause-drew
-returns-then-is_same-clause-drew g c =
-    Drew_same (state_of (reader g.P.Paths.timeline g.L.LastValues.values) g.W.Partial.sets g.W.Transfer.moves g.R.RowRules.rules g.B.ByteFacts.store c.args.self.now) (λ s. 0 < c.args.r → written_by c.args.row.now.instr ≢ Some c.args.r → IsKeptAt c.args.i c.args.r s) (λ named kept. kept_equal (state_of (reader g.P.Paths.timeline g.L.LastValues.values) g.W.Partial.sets g.W.Transfer.moves g.R.RowRules.rules g.B.ByteFacts.store c.args.self.now) c.args.i c.args.r c.known-before.result c.known-later.result c.known-before.ensures.value c.known-later.ensures.value (c.if-is_same.ensures.0 refl) named)
 
 pub returns-clause-grows : goal.returns-clause-grows
 returns-clause-grows g c = Grows_trans _ _ _ c.in_ok-onward.ensures.grows c.in_ok-back.ensures.grows

@@ -1,11 +1,16 @@
+use Rattle.std.proofs.Common.{◌<◌, ◌-◌}
 use Rattle.rept_analysis.specs.State.{state_of, reader}
 use Rattle.rept_analysis.specs.Drawing.{Grows, Drew, KeptBelow}
 use Rattle.rept_analysis.proofs.analysis.Analysis.carry_all.Given as goal
 
-abbrev pub invariant-loop-r : goal.invariant-loop-r
-invariant-loop-r g l =
+abbrev pub invariant-loop-least : goal.invariant-loop-least
+invariant-loop-least g l =
     let st = state_of (reader g.P.Paths.timeline g.L.LastValues.values) g.W.Partial.sets g.W.Transfer.moves g.R.RowRules.rules g.B.ByteFacts.store in
     record {
+      named : 0 < l.least;
       grows : Grows (st l.fn.self) (st l.self);
-      drew : Drew (st l.fn.self) (st l.self) l.learnt (KeptBelow l.r l.row l.i);
+      drew : Drew (st l.fn.self) (st l.self) l.learnt (KeptBelow l.least l.row l.i);
     }
+
+abbrev pub decreases-loop-least : goal.decreases-loop-least
+decreases-loop-least g l = 32 - l.least
