@@ -494,10 +494,12 @@ impl<'a, P: Reaches + Drop, L: LastValues + Drop, B: ByteFacts, W: Transfer, R: 
         requires { i < (P.timeline self.now.paths).legs.count }
     {
         let places = R::places(row).min(4);
+        if places == 0 {
+            return false;
+        }
         let (first, second) = reads(&row.instr);
         let operands = one_if(first) + one_if(second) + one_if(writes(&row.instr));
-        let pass = self.pass(i);
-        places > 0 && !is_with(pass, operands + 2 * places) && self.has_recent(i, row)
+        !is_with(self.pass(i), operands + 2 * places) && self.has_recent(i, row)
     }
 
     /// All that row i lets one draw with bytes of which something was learnt lately, and that it was looked at. What its registers keep was carried before.
