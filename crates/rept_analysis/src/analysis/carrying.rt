@@ -69,7 +69,8 @@ fn like_unless(differs: bool, like: u32, from: u32) -> u32
 
 /// A link over which nothing new went.
 fn unchanged(blocker: Option<usize>) -> Link
-    ensures { result ≡ record { has_news = false; blocker = blocker } }
+    ensures news { result.has_news ≡ false }
+    ensures blocker { result.blocker ≡ blocker }
 {
     Link {
         has_news: false,
