@@ -1,7 +1,8 @@
 -- Bytes that go the same ways as another one, so that they needn't be gone over. This project's own.
-use Rattle.std.specs.Prelude.{◌≡◌, ◌≤◌, ℕ, true, Some, slice_get}
+use Rattle.std.specs.Prelude.{◌≡◌, ◌≤◌, ℕ, true, Option, None, Some, length, slice_get}
 use Rattle.rept_alias.specs.Accesses.{call_hits}
-use Rattle.rept_analysis.specs.State.{AnalysisState}
+use Rattle.rept_report.specs.Conflicts.{IsQuiet}
+use Rattle.rept_analysis.specs.State.{AnalysisState, all_known, along}
 use Rattle.rept_writing.specs.declared.list.Writing.{Writing}
 
 -- where of a byte the same is known at two numbers, the same is known of the other one at them
@@ -16,3 +17,13 @@ AreHitsShared a b s = (k : ℕ) (w : Writing) → slice_get s.work.writing k ≡
 pub record IsLike {W : Type 0} (a b : ℕ) (s : AnalysisState W) : Type 0 where
   pub told : IsToldBy a b s
   pub hits : AreHitsShared a b s
+
+-- so does it as a byte that may be named
+abbrev pub IsLikeAny : {W : Type 0} → Option ℕ → ℕ → AnalysisState W → Type 0
+IsLikeAny None b s = ⊥
+IsLikeAny (Some a) b s = IsLike a b s
+
+-- by all that is known no range is empty and no turn wrong, and the sets are those of all that is known
+pub record IsCurrent {W : Type 0} (s : AnalysisState W) : Type 0 where
+  pub quiet : IsQuiet (along s.path) (all_known s)
+  pub filled : s.filled ≡ length s.known.log

@@ -1,7 +1,7 @@
 //! Which value of one byte goes with which of another one.
 
-ghost use Rattle.std.specs.Prelude.{◌≡◌, ℕ, Option, None, Some, length, true, slice_index_or};
-ghost use Rattle.rept_analysis.specs.Pairs.{beside};
+ghost use Rattle.std.specs.Prelude.{◌≡◌, ℕ, Option, None, Some, true, slice_index_or};
+ghost use Rattle.rept_analysis.specs.Pairs.{GoWith};
 
 /// Of each value of a byte, the value of another byte that was seen beside it, if one was.
 #[derive(Drop)]
@@ -17,8 +17,8 @@ impl Pairs {
 
     /// Whether a value of the other byte goes with one of the first, as far as was seen: where none was seen beside it yet, this one is from now on.
     fn goes_with(&mut self, value: u8, other: u8) -> bool
-        ensures kept { (v w : ℕ) → beside self.old (Some v) ≡ Some w → beside self.new (Some v) ≡ Some w }
-        ensures yes { result ≡ true → beside self.new (Some value) ≡ Some other }
+        ensures kept { (v w : ℕ) → slice_index_or self.old.list v None ≡ Some w → slice_index_or self.new.list v None ≡ Some w }
+        ensures yes { result ≡ true → slice_index_or self.new.list value None ≡ Some other }
     {
         match self.list[value as usize] {
             None => {
@@ -31,14 +31,14 @@ impl Pairs {
 
     /// Whether what is known of the other byte goes with what is known of the first: nothing with nothing, and a value with a value.
     pub fn fits(&mut self, first: Option<u8>, other: Option<u8>) -> bool
-        ensures kept { (v w : ℕ) → beside self.old (Some v) ≡ Some w → beside self.new (Some v) ≡ Some w }
-        ensures yes { result ≡ true → beside self.new first ≡ other }
+        ensures kept { (x y : Option ℕ) → GoWith self.old x y → GoWith self.new x y }
+        ensures yes { result ≡ true → GoWith self.new first other }
     {
         match first {
             None => other.is_none(),
             Some(value) => match other {
                 None => false,
-                Some(beside) => self.goes_with(value, beside),
+                Some(second) => self.goes_with(value, second),
             },
         }
     }

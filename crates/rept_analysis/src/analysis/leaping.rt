@@ -6,6 +6,7 @@ ghost use Rattle.rept_reach.specs.Reaching.{IsLeaving, IsReachedUp, IsReachedDow
 ghost use Rattle.rept_report.specs.Timeline.{IsStrip};
 ghost use Rattle.rept_analysis.specs.State.{state_of, reader};
 ghost use Rattle.rept_analysis.specs.Drawing.{Knows, IsTracked, Grows, Drew, IsHalt, AreWritings, IsEven, IsCarriedUpTo, IsCarriedAlong, AllCarried, AreLinks, IsCarriedIf, IsHitBy, IsLeapUp, IsLeapDown, IsEvenAround};
+ghost use Rattle.rept_analysis.specs.Likeness.{IsCurrent};
 
 use super::Analysis;
 use super::carrying::border;
@@ -696,7 +697,7 @@ impl<'a, P: Reaches + Drop, L: LastValues + Drop, B: ByteFacts, W: Transfer, R: 
     /// The values of all tracked bytes. One that is like the last that was gone over is carried as that one is.
     pub(super) fn carry_tracked(&mut self) -> Result<bool, Halt>
         requires writings { AreWritings (state_of (reader P.timeline L.values) W.sets W.moves R.rules B.store self.old) }
-        requires filled { self.old.filled ≡ length self.old.known.log }
+        requires current { IsCurrent (state_of (reader P.timeline L.values) W.sets W.moves R.rules B.store self.old) }
         requires open { self.old.complete ≡ false }
         ensures grows { Grows (state_of (reader P.timeline L.values) W.sets W.moves R.rules B.store self.old) (state_of (reader P.timeline L.values) W.sets W.moves R.rules B.store self.new) }
         ensures drew { IfOk result (λ learnt. Drew (state_of (reader P.timeline L.values) W.sets W.moves R.rules B.store self.old) (state_of (reader P.timeline L.values) W.sets W.moves R.rules B.store self.new) learnt (AllCarried)) }
@@ -707,11 +708,12 @@ impl<'a, P: Reaches + Drop, L: LastValues + Drop, B: ByteFacts, W: Transfer, R: 
         let mut leader = None;
         for k in 0..count {
             let a = self.address(k);
-            if !self.is_like_any(leader, a) {
-                let new = self.carry_onward(a)?;
-                learnt = learnt | new;
-                leader = Some(a);
+            if self.is_like_any(leader, a) {
+                continue;
             }
+            let new = self.carry_onward(a)?;
+            learnt = learnt | new;
+            leader = Some(a);
         }
         Ok(learnt)
     }

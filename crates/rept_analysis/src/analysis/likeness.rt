@@ -1,9 +1,9 @@
 //! Bytes that go the same ways as another one: what is known of them follows from what is known of that one, and the rows that may write that one may write them.
 
-ghost use Rattle.std.specs.Prelude.{◌≡◌, ◌≤◌, ◌×◌, ℕ, length, true, IfSome, Some};
+ghost use Rattle.std.specs.Prelude.{◌≡◌, ◌≤◌, true, IfSome};
 ghost use Rattle.rept_analysis.specs.State.{state_of, reader};
 ghost use Rattle.rept_analysis.specs.Drawing.{AreWritings, IsEven};
-ghost use Rattle.rept_analysis.specs.Likeness.{IsToldBy, AreHitsShared, IsLike};
+ghost use Rattle.rept_analysis.specs.Likeness.{IsToldBy, AreHitsShared, IsLike, IsLikeAny};
 
 use super::Analysis;
 use crate::pairs::Pairs;
@@ -104,7 +104,7 @@ impl<'a, P: Reaches + Drop, L: LastValues + Drop, B: ByteFacts, W: Transfer, R: 
     /// Whether it is seen that a byte is like another one, if one is named.
     pub(super) fn is_like_any(&self, leader: Option<u32>, b: u32) -> bool
         requires writings { AreWritings (state_of (reader P.timeline L.values) W.sets W.moves R.rules B.store self.now) }
-        ensures { result ≡ true → (a : ℕ) × (leader ≡ Some a) × IsLike a b (state_of (reader P.timeline L.values) W.sets W.moves R.rules B.store self.now) }
+        ensures { result ≡ true → IsLikeAny leader b (state_of (reader P.timeline L.values) W.sets W.moves R.rules B.store self.now) }
     {
         match leader {
             None => false,

@@ -1,6 +1,7 @@
-use Rattle.std.proofs.Common.{Bool, subst}
+use Rattle.std.proofs.Common.{Bool, sym, subst}
 use Rattle.rept_analysis.specs.State.{AnalysisState, state_of, reader}
 use Rattle.rept_analysis.specs.Drawing.{Drew, LastKnownBelow, LastBytesKnown, RowsClosed, AllCarried, SinglesKnown, IsDrawnAll}
+use Rattle.rept_analysis.specs.Likeness.{IsCurrent}
 use Rattle.rept_analysis.proofs.Begun.{begun_after}
 use Rattle.rept_analysis.proofs.Drawn.{Drew_second, Drew_loud, Grows_trans}
 use Rattle.rept_analysis.proofs.Listing.{writings_after}
@@ -66,3 +67,6 @@ returns-clause-drew g c =
 
 pub returns-clause-begun : goal.returns-clause-begun
 returns-clause-begun g c = λ h. begun_after (state_of (reader g.P.Paths.timeline g.L.LastValues.values) g.W.Partial.sets g.W.Transfer.moves g.R.RowRules.rules g.B.ByteFacts.store c.sweep_fresh.new.self) (state_of (reader g.P.Paths.timeline g.L.LastValues.values) g.W.Partial.sets g.W.Transfer.moves g.R.RowRules.rules g.B.ByteFacts.store c.draw_back.new.self) (Grows_trans _ _ _ c.in_ok-carried.ensures.grows c.in_ok-rows.ensures.grows) (c.in_ok-fresh.ensures.begun h)
+
+pub carry_tracked-requires-clause-current : goal.carry_tracked-requires-clause-current
+carry_tracked-requires-clause-current g c = subst (λ (x : AnalysisState g.row.W.Denot). IsCurrent x) (sym (c.in_ok-fresh.ensures.drew.unchanged c.if-fresh.false)) c.requires.current
