@@ -403,7 +403,7 @@ impl<'a, P: Reaches + Drop, L: LastValues + Drop, B: ByteFacts, W: Transfer, R: 
         Ok((inside | down.0, down.1))
     }
 
-    /// The value of a byte to a number from those of a window that are next to it.
+    /// The value of a byte to a number from those of a window that are next to it, until it is new.
     fn carry_from(&mut self, a: u32, m: u32, known: Window) -> Result<bool, Halt>
         requires inside { m ≤ (P.timeline self.old.paths).moments.end }
         requires tracked { IsTracked a (state_of (reader P.timeline L.values) W.sets W.moves R.rules B.store self.old) }
@@ -425,10 +425,58 @@ impl<'a, P: Reaches + Drop, L: LastValues + Drop, B: ByteFacts, W: Transfer, R: 
             }
             let done = self.carry_next(a, m, next, blocker)?;
             learnt = learnt | done.0.has_news;
+            if learnt {
+                self.note_open(next);
+                return Ok(learnt);
+            }
             blocker = done.0.blocker;
             least = done.1;
         }
         Ok(learnt)
+    }
+
+    /// So from the first one of them from that on from which a byte came back last, if that is in the window: mostly the others of its word come from there, too.
+    fn carry_open(&mut self, a: u32, m: u32, known: Window) -> Result<bool, Halt>
+        requires inside { m ≤ (P.timeline self.old.paths).moments.end }
+        requires tracked { IsTracked a (state_of (reader P.timeline L.values) W.sets W.moves R.rules B.store self.old) }
+        requires writings { AreWritings (state_of (reader P.timeline L.values) W.sets W.moves R.rules B.store self.old) }
+        requires open { self.old.complete ≡ false }
+        ensures grows { Grows (state_of (reader P.timeline L.values) W.sets W.moves R.rules B.store self.old) (state_of (reader P.timeline L.values) W.sets W.moves R.rules B.store self.new) }
+        ensures drew { IfOk result (λ learnt. Drew (state_of (reader P.timeline L.values) W.sets W.moves R.rules B.store self.old) (state_of (reader P.timeline L.values) W.sets W.moves R.rules B.store self.new) learnt (λ _. ⊤)) }
+        ensures halt { IfErr result (λ h. IsHalt (state_of (reader P.timeline L.values) W.sets W.moves R.rules B.store self.new) h) }
+    {
+        let Some(open) = self.walls.open() else {
+            return Ok(false);
+        };
+        if open < known.from {
+            return Ok(false);
+        }
+        let Some(next) = self.next_from(m, open) else {
+            return Ok(false);
+        };
+        if next >= known.to {
+            return Ok(false);
+        }
+        let blocker = self.walls.last();
+        let done = self.carry_next(a, m, next, blocker)?;
+        Ok(done.0.has_news)
+    }
+
+    /// So from that one, and where that told nothing new, from each of them.
+    fn carry_over(&mut self, a: u32, m: u32, known: Window) -> Result<bool, Halt>
+        requires inside { m ≤ (P.timeline self.old.paths).moments.end }
+        requires tracked { IsTracked a (state_of (reader P.timeline L.values) W.sets W.moves R.rules B.store self.old) }
+        requires writings { AreWritings (state_of (reader P.timeline L.values) W.sets W.moves R.rules B.store self.old) }
+        requires open { self.old.complete ≡ false }
+        ensures grows { Grows (state_of (reader P.timeline L.values) W.sets W.moves R.rules B.store self.old) (state_of (reader P.timeline L.values) W.sets W.moves R.rules B.store self.new) }
+        ensures drew { IfOk result (λ learnt. Drew (state_of (reader P.timeline L.values) W.sets W.moves R.rules B.store self.old) (state_of (reader P.timeline L.values) W.sets W.moves R.rules B.store self.new) learnt (λ _. ⊤)) }
+        ensures halt { IfErr result (λ h. IsHalt (state_of (reader P.timeline L.values) W.sets W.moves R.rules B.store self.new) h) }
+    {
+        let open = self.carry_open(a, m, known)?;
+        if open {
+            return Ok(open);
+        }
+        self.carry_from(a, m, known)
     }
 
     /// The value of a byte to the end of the strip before a number from those of a window that are next to it, and down from there, where it isn't known there. Answers whether it was
@@ -456,7 +504,7 @@ impl<'a, P: Reaches + Drop, L: LastValues + Drop, B: ByteFacts, W: Transfer, R: 
         if self.known_byte(former.last, a).is_some() || self.is_walled(a, former.last) {
             return Ok((false, former.first));
         }
-        let new = self.carry_from(a, former.last, known)?;
+        let new = self.carry_over(a, former.last, known)?;
         if !new {
             return Ok((false, former.first));
         }

@@ -383,6 +383,8 @@ impl<'a, P: Reaches + Drop, L: LastValues + Drop, B: ByteFacts, W: Transfer, R: 
         }
         let carried = self.carry_tracked()?;
         if carried {
+            self.draw_through()?;
+            self.carry_by_turns(PASSES)?;
             return Ok(true);
         }
         let rows = self.draw_back()?;
