@@ -5,6 +5,11 @@ use rept_reach::Window;
 /// What told something new of the first byte of a word, so that the others go the same way.
 #[derive(Clone, Copy)]
 pub enum Step {
+    /// down from a number
+    Down {
+        /// the number
+        number: u32,
+    },
     /// back to the strip before a number, from those of a window
     Former {
         /// the number

@@ -53,6 +53,10 @@ impl<'a, P: Reaches + Drop, L: LastValues + Drop, B: ByteFacts, W: Transfer, R: 
         ensures halt { IfErr result (λ h. IsHalt (state_of (reader P.timeline L.values) W.sets W.moves R.rules B.store self.new) h) }
     {
         match step {
+            Step::Down { number } => {
+                let down = self.leap_down(a, number)?;
+                Ok(down.0)
+            }
             Step::Former { first, known } => {
                 let former = self.carry_former(a, first, known)?;
                 Ok(former.0)
@@ -113,6 +117,21 @@ impl<'a, P: Reaches + Drop, L: LastValues + Drop, B: ByteFacts, W: Transfer, R: 
             return Ok(false);
         }
         self.follow(a, step)
+    }
+
+    /// The value of a byte around a number, down as far as it goes at once; and so with the others of its word, where it was new. Answers whether it was, and the first number of it.
+    pub(super) fn down_together(&mut self, a: u32, number: u32) -> Result<(bool, u32), Halt>
+        requires inside { number ≤ (P.timeline self.old.paths).moments.end }
+        requires writings { AreWritings (state_of (reader P.timeline L.values) W.sets W.moves R.rules B.store self.old) }
+        requires open { self.old.complete ≡ false }
+        ensures grows { Grows (state_of (reader P.timeline L.values) W.sets W.moves R.rules B.store self.old) (state_of (reader P.timeline L.values) W.sets W.moves R.rules B.store self.new) }
+        ensures drew { IfOk result (λ ended. Drew (state_of (reader P.timeline L.values) W.sets W.moves R.rules B.store self.old) (state_of (reader P.timeline L.values) W.sets W.moves R.rules B.store self.new) ended.0 (λ _. ⊤)) }
+        ensures halt { IfErr result (λ h. IsHalt (state_of (reader P.timeline L.values) W.sets W.moves R.rules B.store self.new) h) }
+        ensures down { IfOk result (λ ended. ended.1 ≤ number) }
+    {
+        let down = self.leap_down(a, number)?;
+        let others = self.follow_if(down.0, a, Step::Down { number })?;
+        Ok((down.0 | others, down.1))
     }
 
     /// The value of a byte to the end of the strip before a number from those of a window that are next to it, and down from there, where it isn't known there; and so with the others of its word, where it was

@@ -323,7 +323,7 @@ impl<'a, P: Reaches + Drop, L: LastValues + Drop, B: ByteFacts, W: Transfer, R: 
     }
 
     /// The same down. Answers the first number of it, too.
-    fn leap_down(&mut self, a: u32, number: u32) -> Result<(bool, u32), Halt>
+    pub(super) fn leap_down(&mut self, a: u32, number: u32) -> Result<(bool, u32), Halt>
         requires inside { number ≤ (P.timeline self.old.paths).moments.end }
         requires writings { AreWritings (state_of (reader P.timeline L.values) W.sets W.moves R.rules B.store self.old) }
         requires open { self.old.complete ≡ false }
@@ -477,7 +477,7 @@ impl<'a, P: Reaches + Drop, L: LastValues + Drop, B: ByteFacts, W: Transfer, R: 
         if self.known_byte(number, a).is_none() {
             return Ok(false);
         }
-        let down = self.leap_down(a, number)?;
+        let down = self.down_together(a, number)?;
         let to = self.even_to(a, number) + 1;
         let mut learnt = down.0;
         let mut first = down.1;

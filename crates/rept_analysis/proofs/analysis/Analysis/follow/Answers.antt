@@ -1,7 +1,7 @@
 use Rattle.std.proofs.Common.{ℕ, sym, ap, subst}
 use Rattle.rept_analysis.specs.State.{Subject, AnalysisState, state_of, reader}
 use Rattle.rept_analysis.specs.Steps.{IsStepWithin}
-use Rattle.rept_analysis.proofs.Drawn.{Drew_both, Drew_same, Grows_trans}
+use Rattle.rept_analysis.proofs.Drawn.{Drew_both, Grows_trans}
 use Rattle.rept_analysis.proofs.analysis.Analysis.follow.Goals as goal
 
 pub follow_with-requires-clause-within : goal.follow_with-requires-clause-within
