@@ -526,31 +526,26 @@ impl<'a, P: Reaches + Drop, L: LastValues + Drop, B: ByteFacts, W: Transfer, R: 
         if self.known_byte(number, a).is_none() {
             return Ok(false);
         }
-        let down = self.leap_down(a, number)?;
-        if down.0 {
-            self.follow(a, Step::Down { number })?;
-        }
+        let down = self.down_together(a, number)?;
         let to = self.even_to(a, number) + 1;
         let mut learnt = down.0;
         let mut first = down.1;
         let mut from = first;
         let mut low = self.least_former(first);
         while first > low {
-            let known = Window { from, to };
-            let former = self.carry_former(a, first, known)?;
-            if former.0 {
-                self.follow(a, Step::Former { first, known })?;
-                from = former.1;
-                low = low.min(self.least_former(former.1));
-            }
+            let former = self.former_together(a, first, Window { from, to })?;
             learnt = learnt | former.0;
             first = former.1;
+            if former.0 {
+                from = first;
+                low = low.min(self.least_former(first));
+            }
         }
         Ok(learnt)
     }
 
     /// The value of a byte from a number to those that are next to it, where it is known there.
-    fn carry_links_on(&mut self, a: u32, m: u32) -> Result<bool, Halt>
+    pub(super) fn carry_links_on(&mut self, a: u32, m: u32) -> Result<bool, Halt>
         requires inside { m ≤ (P.timeline self.old.paths).moments.end }
         requires tracked { IsTracked a (state_of (reader P.timeline L.values) W.sets W.moves R.rules B.store self.old) }
         requires writings { AreWritings (state_of (reader P.timeline L.values) W.sets W.moves R.rules B.store self.old) }
@@ -594,17 +589,11 @@ impl<'a, P: Reaches + Drop, L: LastValues + Drop, B: ByteFacts, W: Transfer, R: 
         ensures drew { IfOk result (λ learnt. Drew (state_of (reader P.timeline L.values) W.sets W.moves R.rules B.store self.old) (state_of (reader P.timeline L.values) W.sets W.moves R.rules B.store self.new) learnt (λ _. ⊤)) }
         ensures halt { IfErr result (λ h. IsHalt (state_of (reader P.timeline L.values) W.sets W.moves R.rules B.store self.new) h) }
     {
-        let mut learnt = self.carry_links_on(a, number)?;
-        if learnt {
-            self.follow(a, Step::Onward { number })?;
-        }
+        let mut learnt = self.links_together(a, number)?;
         let mut last = number;
         let mut high = self.greatest_next(last);
         while last < high {
-            let later = self.carry_later(a, last + 1)?;
-            if later.0 {
-                self.follow(a, Step::Later { first: last + 1 })?;
-            }
+            let later = self.later_together(a, last + 1)?;
             learnt = learnt | later.0;
             last = later.1;
             if later.0 {
@@ -647,11 +636,7 @@ impl<'a, P: Reaches + Drop, L: LastValues + Drop, B: ByteFacts, W: Transfer, R: 
                 return Ok(learnt);
             };
             let strip = self.strip(end.min(from.max(stretch.first)));
-            let inside = self.carry_strip(a, strip)?;
-            if inside {
-                let number = strip.first;
-                self.follow(a, Step::Onward { number })?;
-            }
+            let inside = self.strip_together(a, strip)?;
             let back = self.carry_back(a, strip.first)?;
             learnt = learnt | inside | back;
             from = strip.last.max(end.min(stretch.last)) + 1;
@@ -677,11 +662,9 @@ impl<'a, P: Reaches + Drop, L: LastValues + Drop, B: ByteFacts, W: Transfer, R: 
             let inside = self.carry_strip(a, strip)?;
             let up = self.leap_end(a, strip.last)?;
             let links = self.carry_links(a, strip.last)?;
-            if inside | up | links {
-                let number = strip.first;
-                self.follow(a, Step::Onward { number })?;
-            }
-            learnt = learnt | inside | up | links;
+            let number = strip.first;
+            let others = self.follow_if(inside | up | links, a, Step::Onward { number })?;
+            learnt = learnt | inside | up | links | others;
             from = self.uneven_from(a, strip.last + 1);
         }
         Ok(learnt)
