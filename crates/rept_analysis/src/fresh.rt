@@ -2,12 +2,13 @@
 
 use std::alloc::{AllocError as OutOfMemory, Global};
 
-/// Of each row, whether something that it looks at was learnt since it was looked at last, and when that was. It only saves work: no clause says what it
+/// Of each row, whether something that it looks at was learnt since it was looked at last, and when that was; and whether it looks at no bytes. It only saves work: no clause says what it
 /// keeps.
 #[derive(Drop)]
 pub struct Fresh {
     list: Vec<bool>,
     times: Vec<u32>,
+    plain: Vec<bool>,
 }
 
 impl Fresh {
@@ -15,7 +16,8 @@ impl Fresh {
     pub fn new(alloc: Global, count: usize) -> Result<Fresh, OutOfMemory> {
         let list = vec![in alloc; true; count]?;
         let times = vec![in alloc; 0; count]?;
-        Ok(Fresh { list, times })
+        let plain = vec![in alloc; false; count]?;
+        Ok(Fresh { list, times, plain })
     }
 
     /// Whether a row is to be looked at.
@@ -23,6 +25,21 @@ impl Fresh {
         let list = self.list.as_slice();
         let i = i as usize;
         i < list.len() && list[i]
+    }
+
+    /// Whether a row is known to look at no bytes.
+    pub fn is_plain(&self, i: u32) -> bool {
+        let plain = self.plain.as_slice();
+        let i = i as usize;
+        i < plain.len() && plain[i]
+    }
+
+    /// Keeps that it looks at none.
+    pub fn note_plain(&mut self, i: u32) {
+        let i = i as usize;
+        if i < self.plain.len() {
+            self.plain[i] = true;
+        }
     }
 
     /// Keeps whether it is.

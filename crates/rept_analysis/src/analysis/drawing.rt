@@ -490,11 +490,13 @@ impl<'a, P: Reaches + Drop, L: LastValues + Drop, B: ByteFacts, W: Transfer, R: 
     }
 
     /// Whether row i looks at bytes of which not all are known, and of which something was learnt lately, along other rows.
-    fn may_tell(&self, i: u32, row: &StepRow) -> bool
-        requires { i < (P.timeline self.now.paths).legs.count }
+    fn may_tell(&mut self, i: u32, row: &StepRow) -> bool
+        requires { i < (P.timeline self.old.paths).legs.count }
+        ensures { self.new ≡ self.old }
     {
         let places = R::places(row).min(4);
         if places == 0 {
+            self.fresh.note_plain(i);
             return false;
         }
         let (first, second) = reads(&row.instr);
@@ -534,6 +536,9 @@ impl<'a, P: Reaches + Drop, L: LastValues + Drop, B: ByteFacts, W: Transfer, R: 
     {
         if self.fresh.has(i) {
             return self.draw_noted(i);
+        }
+        if self.fresh.is_plain(i) {
+            return Ok(false);
         }
         let Some(row) = self.row(i) else {
             return Ok(false);

@@ -32,7 +32,7 @@ pub returns-then-learnt-clause-grows : goal.returns-then-learnt-clause-grows
 returns-then-learnt-clause-grows g c =
     let st = state_of (reader g.P.Paths.timeline g.L.LastValues.values) g.W.Partial.sets g.W.Transfer.moves g.R.RowRules.rules g.B.ByteFacts.store in
     subst (λ (x : Whole g.row.P.Denot g.row.L.Denot g.row.B.Denot g.row.W.Denot g.row.R.Denot). Grows (st c.args.self.now) (st x)) (sym c.note_open.ensures)
-        (Grows_trans (st c.args.self.now) (st c.loop-least.self) (st c.carry_next.new.self) c.loop-least.invariant.grows c.in_ok-done.ensures.grows)
+    (Grows_trans (st c.args.self.now) (st c.loop-least.self) (st c.carry_next.new.self) c.loop-least.invariant.grows c.in_ok-done.ensures.grows)
 
 pub returns-then-learnt-clause-drew : goal.returns-then-learnt-clause-drew
 returns-then-learnt-clause-drew g c =
@@ -42,4 +42,4 @@ returns-then-learnt-clause-drew g c =
     let u = st c.carry_next.new.self in
     let P : AnalysisState g.row.W.Denot → Type 0 = λ x. (w : ℕ) → c.in-Some.next ≤ w → w < c.in_ok-done.done.1 → IsCarriedIf (passage c.args.a c.args.m w) x in
     subst (λ (x : Whole g.row.P.Denot g.row.L.Denot g.row.B.Denot g.row.W.Denot g.row.R.Denot). Drew s (st x) (c.loop-least.learnt || c.in_ok-done.done.0.has_news) (λ (y : AnalysisState g.row.W.Denot). Unit {0})) (sym c.note_open.ensures)
-        (Drew_both s t u c.loop-least.learnt c.in_ok-done.done.0.has_news (λ (x : AnalysisState g.row.W.Denot). Unit {0}) P (λ (x : AnalysisState g.row.W.Denot). Unit {0}) c.loop-least.invariant.grows c.in_ok-done.ensures.grows c.loop-least.invariant.drew c.in_ok-done.ensures.drew (λ p q. tt))
+    (Drew_both s t u c.loop-least.learnt c.in_ok-done.done.0.has_news (λ (x : AnalysisState g.row.W.Denot). Unit {0}) P (λ (x : AnalysisState g.row.W.Denot). Unit {0}) c.loop-least.invariant.grows c.in_ok-done.ensures.grows c.loop-least.invariant.drew c.in_ok-done.ensures.drew (λ p q. tt))
