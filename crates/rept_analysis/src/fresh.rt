@@ -2,7 +2,7 @@
 
 use std::alloc::{AllocError as OutOfMemory, Global};
 
-/// Of each row, whether something that it looks at was learnt since it was looked at last, and when that was; and whether it looks at no bytes. It only saves work: no clause says what it
+/// Of each row, whether something that it looks at was learnt since it was looked at last, and when that was; and whether bytes tell nothing more of it. It only saves work: no clause says what it
 /// keeps.
 #[derive(Drop)]
 pub struct Fresh {
@@ -27,14 +27,14 @@ impl Fresh {
         i < list.len() && list[i]
     }
 
-    /// Whether a row is known to look at no bytes.
+    /// Whether bytes tell nothing more of a row: it looks at none, or all that it looks at is known and was drawn.
     pub fn is_plain(&self, i: u32) -> bool {
         let plain = self.plain.as_slice();
         let i = i as usize;
         i < plain.len() && plain[i]
     }
 
-    /// Keeps that it looks at none.
+    /// Keeps that they don't.
     pub fn note_plain(&mut self, i: u32) {
         let i = i as usize;
         if i < self.plain.len() {

@@ -495,13 +495,13 @@ impl<'a, P: Reaches + Drop, L: LastValues + Drop, B: ByteFacts, W: Transfer, R: 
         ensures { self.new ≡ self.old }
     {
         let places = R::places(row).min(4);
-        if places == 0 {
+        let (first, second) = reads(&row.instr);
+        let operands = one_if(first) + one_if(second) + one_if(writes(&row.instr));
+        if places == 0 || is_with(self.pass(i), operands + 2 * places) {
             self.fresh.note_plain(i);
             return false;
         }
-        let (first, second) = reads(&row.instr);
-        let operands = one_if(first) + one_if(second) + one_if(writes(&row.instr));
-        !is_with(self.pass(i), operands + 2 * places) && self.has_recent(i, row)
+        self.has_recent(i, row)
     }
 
     /// All that row i lets one draw with bytes of which something was learnt lately, and that it was looked at. What its registers keep was carried before.
