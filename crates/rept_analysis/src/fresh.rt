@@ -2,13 +2,14 @@
 
 use std::alloc::{AllocError as OutOfMemory, Global};
 
-/// Of each row, whether something that it looks at was learnt since it was looked at last, and when that was; and whether bytes tell nothing more of it. It only saves work: no clause says what it
+/// Of each row, whether something that it looks at was learnt since it was looked at last, and when that was; whether bytes tell nothing more of it, and from where on it looks at them. It only saves work: no clause says what it
 /// keeps.
 #[derive(Drop)]
 pub struct Fresh {
     list: Vec<bool>,
     times: Vec<u32>,
     plain: Vec<bool>,
+    starts: Vec<Option<u32>>,
 }
 
 impl Fresh {
@@ -17,7 +18,13 @@ impl Fresh {
         let list = vec![in alloc; true; count]?;
         let times = vec![in alloc; 0; count]?;
         let plain = vec![in alloc; false; count]?;
-        Ok(Fresh { list, times, plain })
+        let starts = vec![in alloc; None; count]?;
+        Ok(Fresh {
+            list,
+            times,
+            plain,
+            starts,
+        })
     }
 
     /// Whether a row is to be looked at.
@@ -39,6 +46,21 @@ impl Fresh {
         let i = i as usize;
         if i < self.plain.len() {
             self.plain[i] = true;
+        }
+    }
+
+    /// The address of the first byte that a row looks at, if it was kept.
+    pub fn start(&self, i: u32) -> Option<u32> {
+        let starts = self.starts.as_slice();
+        let i = i as usize;
+        if i < starts.len() { starts[i] } else { None }
+    }
+
+    /// Keeps it.
+    pub fn note_start(&mut self, i: u32, start: u32) {
+        let i = i as usize;
+        if i < self.starts.len() {
+            self.starts[i] = Some(start);
         }
     }
 
