@@ -12,6 +12,7 @@ pub mod Going
 pub mod Latest
 pub mod Leaping
 pub mod Learning
+pub mod Likeness
 pub mod Listing
 pub mod Measure
 pub mod Passing

@@ -15,3 +15,6 @@ pub mod Answers
 pub mod Latest
 pub mod Refined
 pub mod Reasoned
+pub mod Pairs
+pub mod Likeness
+pub mod Steps

@@ -2,12 +2,14 @@
 
 use std::alloc::{AllocError as OutOfMemory, Global};
 
-/// Of each row, whether something that it looks at was learnt since it was looked at last, and when that was. It only saves work: no clause says what it
+/// Of each row, whether something that it looks at was learnt since it was looked at last, and when that was; whether bytes tell nothing more of it, and from where on it looks at them. It only saves work: no clause says what it
 /// keeps.
 #[derive(Drop)]
 pub struct Fresh {
     list: Vec<bool>,
     times: Vec<u32>,
+    plain: Vec<bool>,
+    starts: Vec<Option<u32>>,
 }
 
 impl Fresh {
@@ -15,7 +17,14 @@ impl Fresh {
     pub fn new(alloc: Global, count: usize) -> Result<Fresh, OutOfMemory> {
         let list = vec![in alloc; true; count]?;
         let times = vec![in alloc; 0; count]?;
-        Ok(Fresh { list, times })
+        let plain = vec![in alloc; false; count]?;
+        let starts = vec![in alloc; None; count]?;
+        Ok(Fresh {
+            list,
+            times,
+            plain,
+            starts,
+        })
     }
 
     /// Whether a row is to be looked at.
@@ -23,6 +32,36 @@ impl Fresh {
         let list = self.list.as_slice();
         let i = i as usize;
         i < list.len() && list[i]
+    }
+
+    /// Whether bytes tell nothing more of a row: it looks at none, or all that it looks at is known and was drawn.
+    pub fn is_plain(&self, i: u32) -> bool {
+        let plain = self.plain.as_slice();
+        let i = i as usize;
+        i < plain.len() && plain[i]
+    }
+
+    /// Keeps that they don't.
+    pub fn note_plain(&mut self, i: u32) {
+        let i = i as usize;
+        if i < self.plain.len() {
+            self.plain[i] = true;
+        }
+    }
+
+    /// The address of the first byte that a row looks at, if it was kept.
+    pub fn start(&self, i: u32) -> Option<u32> {
+        let starts = self.starts.as_slice();
+        let i = i as usize;
+        if i < starts.len() { starts[i] } else { None }
+    }
+
+    /// Keeps it.
+    pub fn note_start(&mut self, i: u32, start: u32) {
+        let i = i as usize;
+        if i < self.starts.len() {
+            self.starts[i] = Some(start);
+        }
     }
 
     /// Keeps whether it is.

@@ -47,6 +47,16 @@ impl Recent {
         mark < marks.len() && marks[mark] > time
     }
 
+    /// So of one of so many bytes from an address on.
+    pub fn has_any_since(&self, start: u32, count: u32, time: u32) -> bool {
+        for k in 0..count {
+            if self.has_since(start.wrapping_add(k), time) {
+                return true;
+            }
+        }
+        false
+    }
+
     /// Whether something was learnt of a byte in the pass over the tracked bytes before this one, or since.
     pub fn has(&self, a: u32) -> bool {
         self.has_since(a, self.since)

@@ -2,12 +2,14 @@
 
 use std::alloc::{AllocError as OutOfMemory, Global};
 
-/// At which row of the list of those that may write a byte stopped last at each number, and at which it stopped last of all. It only saves work: no clause says what it keeps.
+/// At which row of the list of those that may write a byte stopped last at each number, and at which it stopped last of all; and the number from which one came back last. It only saves
+/// work: no clause says what it keeps.
 #[derive(Drop)]
 pub struct Walls {
     list: Vec<Option<usize>>,
     stops: Vec<Option<usize>>,
     last: Option<usize>,
+    open: Option<u32>,
 }
 
 impl Walls {
@@ -19,6 +21,7 @@ impl Walls {
             list,
             stops,
             last: None,
+            open: None,
         })
     }
 
@@ -36,6 +39,16 @@ impl Walls {
     /// The index of the row at which a byte stopped last of all.
     pub fn last(&self) -> Option<usize> {
         self.last
+    }
+
+    /// The number from which a byte came back last.
+    pub fn open(&self) -> Option<u32> {
+        self.open
+    }
+
+    /// Keeps from which number it came.
+    pub fn note_open(&mut self, number: u32) {
+        self.open = Some(number);
     }
 
     /// Keeps at which row a byte stopped at a number.

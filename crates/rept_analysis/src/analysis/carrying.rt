@@ -67,6 +67,17 @@ fn like_unless(differs: bool, like: u32, from: u32) -> u32
     if differs { from } else { like }
 }
 
+/// A link over which nothing new went.
+fn unchanged(blocker: Option<usize>) -> Link
+    ensures news { result.has_news ≡ false }
+    ensures blocker { result.blocker ≡ blocker }
+{
+    Link {
+        has_news: false,
+        blocker,
+    }
+}
+
 /// Whether a value is known, and is that one.
 fn is_value(here: Option<u8>, value: u8) -> bool
     ensures { result ≡ true → here ≡ Some value }
@@ -349,13 +360,24 @@ impl<'a, P: Reaches + Drop, L: LastValues + Drop, B: ByteFacts, W: Transfer, R: 
             return Ok(false);
         }
         let piece = self.piece(a, number, strip);
-        let new = self.carry_segment(a, piece.from, piece.to)?;
-        if !new || self.is_whole(strip) || !self.has_value(a) {
-            return Ok(new);
+        self.carry_segment(a, piece.from, piece.to)
+    }
+
+    /// The value of a byte from the strip around a number back and forth, unless it is like the first one of its word, which it follows.
+    fn carry_away(&mut self, a: u32, point: u32) -> Result<bool, Halt>
+        requires writings { AreWritings (state_of (reader P.timeline L.values) W.sets W.moves R.rules B.store self.old) }
+        requires open { self.old.complete ≡ false }
+        ensures grows { Grows (state_of (reader P.timeline L.values) W.sets W.moves R.rules B.store self.old) (state_of (reader P.timeline L.values) W.sets W.moves R.rules B.store self.new) }
+        ensures drew { IfOk result (λ learnt. Drew (state_of (reader P.timeline L.values) W.sets W.moves R.rules B.store self.old) (state_of (reader P.timeline L.values) W.sets W.moves R.rules B.store self.new) learnt (λ _. ⊤)) }
+        ensures halt { IfErr result (λ h. IsHalt (state_of (reader P.timeline L.values) W.sets W.moves R.rules B.store self.new) h) }
+    {
+        let strip = self.strip(point.min(self.end()));
+        if self.is_whole(strip) || !self.has_value(a) || self.is_like_first(a) {
+            return Ok(false);
         }
-        let _back = self.carry_back(a, strip.first)?;
-        let _forth = self.carry_forth(a, strip.last)?;
-        Ok(true)
+        let back = self.carry_back(a, strip.first)?;
+        let forth = self.carry_forth(a, strip.last)?;
+        Ok(back | forth)
     }
 
     /// So where something was learnt of the byte lately: else it was carried there before.
@@ -372,7 +394,39 @@ impl<'a, P: Reaches + Drop, L: LastValues + Drop, B: ByteFacts, W: Transfer, R: 
         self.carry_around(a, point)
     }
 
-    /// So for so many bytes from an address on; nothing in the first round.
+    /// So for so many bytes from an address on.
+    fn carry_near(&mut self, point: u32, start: u32, count: u32) -> Result<bool, Halt>
+        requires writings { AreWritings (state_of (reader P.timeline L.values) W.sets W.moves R.rules B.store self.old) }
+        requires open { self.old.complete ≡ false }
+        ensures grows { Grows (state_of (reader P.timeline L.values) W.sets W.moves R.rules B.store self.old) (state_of (reader P.timeline L.values) W.sets W.moves R.rules B.store self.new) }
+        ensures drew { IfOk result (λ learnt. Drew (state_of (reader P.timeline L.values) W.sets W.moves R.rules B.store self.old) (state_of (reader P.timeline L.values) W.sets W.moves R.rules B.store self.new) learnt (λ _. ⊤)) }
+        ensures halt { IfErr result (λ h. IsHalt (state_of (reader P.timeline L.values) W.sets W.moves R.rules B.store self.new) h) }
+    {
+        let mut learnt = false;
+        for k in 0..count {
+            let new = self.carry_recent(start.wrapping_add(k), point)?;
+            learnt = learnt | new;
+        }
+        Ok(learnt)
+    }
+
+    /// So back and forth from there.
+    fn carry_far(&mut self, point: u32, start: u32, count: u32) -> Result<bool, Halt>
+        requires writings { AreWritings (state_of (reader P.timeline L.values) W.sets W.moves R.rules B.store self.old) }
+        requires open { self.old.complete ≡ false }
+        ensures grows { Grows (state_of (reader P.timeline L.values) W.sets W.moves R.rules B.store self.old) (state_of (reader P.timeline L.values) W.sets W.moves R.rules B.store self.new) }
+        ensures drew { IfOk result (λ learnt. Drew (state_of (reader P.timeline L.values) W.sets W.moves R.rules B.store self.old) (state_of (reader P.timeline L.values) W.sets W.moves R.rules B.store self.new) learnt (λ _. ⊤)) }
+        ensures halt { IfErr result (λ h. IsHalt (state_of (reader P.timeline L.values) W.sets W.moves R.rules B.store self.new) h) }
+    {
+        let mut learnt = false;
+        for k in 0..count {
+            let new = self.carry_away(start.wrapping_add(k), point)?;
+            learnt = learnt | new;
+        }
+        Ok(learnt)
+    }
+
+    /// So in the strip around a number, and where that told something new, back and forth; nothing in the first round.
     pub(super) fn carry_bytes(&mut self, point: u32, start: u32, count: u32) -> Result<bool, Halt>
         requires writings { AreWritings (state_of (reader P.timeline L.values) W.sets W.moves R.rules B.store self.old) }
         requires open { self.old.complete ≡ false }
@@ -383,13 +437,12 @@ impl<'a, P: Reaches + Drop, L: LastValues + Drop, B: ByteFacts, W: Transfer, R: 
         if self.is_first_round() {
             return Ok(false);
         }
-        let mut learnt = false;
-        for k in 0..count {
-            let a = start.wrapping_add(k);
-            let new = self.carry_recent(a, point)?;
-            learnt = learnt | new;
+        let near = self.carry_near(point, start, count)?;
+        if !near {
+            return Ok(false);
         }
-        Ok(learnt)
+        let far = self.carry_far(point, start, count)?;
+        Ok(near | far)
     }
 
     /// The byte of the dump at a tracked address, over the last rows that may not write it; nothing in the first round.
@@ -407,7 +460,11 @@ impl<'a, P: Reaches + Drop, L: LastValues + Drop, B: ByteFacts, W: Transfer, R: 
         let point = self.end();
         let told = self.draw_last_byte(a)?;
         let carried = self.carry_around(a, point)?;
-        Ok(told | carried)
+        if !carried {
+            return Ok(told);
+        }
+        let away = self.carry_away(a, point)?;
+        Ok(told | carried | away)
     }
 
     /// The value of a byte from a number to the one after it, and back, if it is carried.
@@ -660,18 +717,12 @@ impl<'a, P: Reaches + Drop, L: LastValues + Drop, B: ByteFacts, W: Transfer, R: 
         ensures halt { IfErr result (λ h. IsHalt (state_of (reader P.timeline L.values) W.sets W.moves R.rules B.store self.new) h) }
     {
         if self.is_dark_between(m, w) {
-            return Ok(Link {
-                has_news: false,
-                blocker,
-            });
+            return Ok(unchanged(blocker));
         }
         let found = self.blocker(a, m, w);
         if found.is_some() {
             self.note_stop(m, found);
-            return Ok(Link {
-                has_news: false,
-                blocker: found,
-            });
+            return Ok(unchanged(found));
         }
         let has_news = self.cross(a, m, w)?;
         Ok(Link { has_news, blocker })
@@ -749,21 +800,13 @@ impl<'a, P: Reaches + Drop, L: LastValues + Drop, B: ByteFacts, W: Transfer, R: 
         ensures onward { IfOk result (λ done. next < done.1) }
         ensures halt { IfErr result (λ h. IsHalt (state_of (reader P.timeline L.values) W.sets W.moves R.rules B.store self.new) h) }
     {
+        if self.blocks(a, m, next, blocker) {
+            return Ok((unchanged(blocker), next + 1));
+        }
         let here = self.known_byte(m, a);
         let like = self.like_to(a, here, next);
         if like > next {
-            let link = Link {
-                has_news: false,
-                blocker,
-            };
-            return Ok((link, like));
-        }
-        if self.blocks(a, m, next, blocker) {
-            let link = Link {
-                has_news: false,
-                blocker,
-            };
-            return Ok((link, next + 1));
+            return Ok((unchanged(blocker), like));
         }
         let link = self.carry_link(a, m, next, blocker)?;
         Ok((link, next + 1))

@@ -472,32 +472,41 @@ impl<'a, P: Reaches + Drop, L: LastValues + Drop, B: ByteFacts, W: Transfer, R: 
         Ok(learnt)
     }
 
+    /// Whether something may have been learnt, since row i was looked at, of the bytes that its rules look at: it is sure only where it is kept which these are.
+    fn may_be_recent(&self, i: u32) -> bool {
+        match self.fresh.start(i) {
+            None => true,
+            Some(start) => self.recent.has_any_since(start, 4, self.fresh.time(i)),
+        }
+    }
+
     /// Whether something was learnt of one of the bytes that row i's rules look at since it was looked at.
-    fn has_recent(&self, i: u32, row: &StepRow) -> bool
-        requires { i < (P.timeline self.now.paths).legs.count }
+    fn has_recent(&mut self, i: u32, row: &StepRow) -> bool
+        requires { i < (P.timeline self.old.paths).legs.count }
+        ensures { self.new ≡ self.old }
     {
         let Some(base) = self.row_base(i, row) else {
             return false;
         };
         let start = address(base, &row.instr);
-        let time = self.fresh.time(i);
-        for k in 0..R::places(row).min(4) {
-            if self.recent.has_since(start.wrapping_add(k), time) {
-                return true;
-            }
-        }
-        false
+        self.fresh.note_start(i, start);
+        self.recent
+            .has_any_since(start, R::places(row).min(4), self.fresh.time(i))
     }
 
     /// Whether row i looks at bytes of which not all are known, and of which something was learnt lately, along other rows.
-    fn may_tell(&self, i: u32, row: &StepRow) -> bool
-        requires { i < (P.timeline self.now.paths).legs.count }
+    fn may_tell(&mut self, i: u32, row: &StepRow) -> bool
+        requires { i < (P.timeline self.old.paths).legs.count }
+        ensures { self.new ≡ self.old }
     {
         let places = R::places(row).min(4);
         let (first, second) = reads(&row.instr);
         let operands = one_if(first) + one_if(second) + one_if(writes(&row.instr));
-        let pass = self.pass(i);
-        places > 0 && !is_with(pass, operands + 2 * places) && self.has_recent(i, row)
+        if places == 0 || is_with(self.pass(i), operands + 2 * places) {
+            self.fresh.note_plain(i);
+            return false;
+        }
+        self.has_recent(i, row)
     }
 
     /// All that row i lets one draw with bytes of which something was learnt lately, and that it was looked at. What its registers keep was carried before.
@@ -532,6 +541,9 @@ impl<'a, P: Reaches + Drop, L: LastValues + Drop, B: ByteFacts, W: Transfer, R: 
     {
         if self.fresh.has(i) {
             return self.draw_noted(i);
+        }
+        if self.fresh.is_plain(i) || !self.may_be_recent(i) {
+            return Ok(false);
         }
         let Some(row) = self.row(i) else {
             return Ok(false);

@@ -6,11 +6,13 @@ ghost use Rattle.rept_reach.specs.Reaching.{IsLeaving, IsReachedUp, IsReachedDow
 ghost use Rattle.rept_report.specs.Timeline.{IsStrip};
 ghost use Rattle.rept_analysis.specs.State.{state_of, reader};
 ghost use Rattle.rept_analysis.specs.Drawing.{Knows, IsTracked, Grows, Drew, IsHalt, AreWritings, IsEven, IsCarriedUpTo, IsCarriedAlong, AllCarried, AreLinks, IsCarriedIf, IsHitBy, IsLeapUp, IsLeapDown, IsEvenAround};
+ghost use Rattle.rept_analysis.specs.Likeness.{IsCurrent};
 
 use super::Analysis;
 use super::carrying::border;
 use crate::halt::Halt;
 use crate::leap::Leap;
+use crate::step::Step;
 use rept_log::LastValues;
 use rept_reach::{Reaches, Window};
 use rept_report::paths::Strip;
@@ -322,7 +324,7 @@ impl<'a, P: Reaches + Drop, L: LastValues + Drop, B: ByteFacts, W: Transfer, R: 
     }
 
     /// The same down. Answers the first number of it, too.
-    fn leap_down(&mut self, a: u32, number: u32) -> Result<(bool, u32), Halt>
+    pub(super) fn leap_down(&mut self, a: u32, number: u32) -> Result<(bool, u32), Halt>
         requires inside { number ≤ (P.timeline self.old.paths).moments.end }
         requires writings { AreWritings (state_of (reader P.timeline L.values) W.sets W.moves R.rules B.store self.old) }
         requires open { self.old.complete ≡ false }
@@ -401,7 +403,7 @@ impl<'a, P: Reaches + Drop, L: LastValues + Drop, B: ByteFacts, W: Transfer, R: 
         Ok((inside | down.0, down.1))
     }
 
-    /// The value of a byte to a number from those of a window that are next to it.
+    /// The value of a byte to a number from those of a window that are next to it, until it is new.
     fn carry_from(&mut self, a: u32, m: u32, known: Window) -> Result<bool, Halt>
         requires inside { m ≤ (P.timeline self.old.paths).moments.end }
         requires tracked { IsTracked a (state_of (reader P.timeline L.values) W.sets W.moves R.rules B.store self.old) }
@@ -423,15 +425,68 @@ impl<'a, P: Reaches + Drop, L: LastValues + Drop, B: ByteFacts, W: Transfer, R: 
             }
             let done = self.carry_next(a, m, next, blocker)?;
             learnt = learnt | done.0.has_news;
+            if learnt {
+                self.note_open(next);
+                return Ok(learnt);
+            }
             blocker = done.0.blocker;
             least = done.1;
         }
         Ok(learnt)
     }
 
+    /// So from the first one of them from that on from which a byte came back last, if that is in the window: mostly the others of its word come from there, too.
+    fn carry_open(&mut self, a: u32, m: u32, known: Window) -> Result<bool, Halt>
+        requires inside { m ≤ (P.timeline self.old.paths).moments.end }
+        requires tracked { IsTracked a (state_of (reader P.timeline L.values) W.sets W.moves R.rules B.store self.old) }
+        requires writings { AreWritings (state_of (reader P.timeline L.values) W.sets W.moves R.rules B.store self.old) }
+        requires open { self.old.complete ≡ false }
+        ensures grows { Grows (state_of (reader P.timeline L.values) W.sets W.moves R.rules B.store self.old) (state_of (reader P.timeline L.values) W.sets W.moves R.rules B.store self.new) }
+        ensures drew { IfOk result (λ learnt. Drew (state_of (reader P.timeline L.values) W.sets W.moves R.rules B.store self.old) (state_of (reader P.timeline L.values) W.sets W.moves R.rules B.store self.new) learnt (λ _. ⊤)) }
+        ensures halt { IfErr result (λ h. IsHalt (state_of (reader P.timeline L.values) W.sets W.moves R.rules B.store self.new) h) }
+    {
+        let Some(open) = self.walls.open() else {
+            return Ok(false);
+        };
+        if open < known.from {
+            return Ok(false);
+        }
+        let Some(next) = self.next_from(m, open) else {
+            return Ok(false);
+        };
+        if next >= known.to {
+            return Ok(false);
+        }
+        let blocker = self.walls.last();
+        let done = self.carry_next(a, m, next, blocker)?;
+        Ok(done.0.has_news)
+    }
+
+    /// So from that one, and where that told nothing new, from each of them.
+    fn carry_over(&mut self, a: u32, m: u32, known: Window) -> Result<bool, Halt>
+        requires inside { m ≤ (P.timeline self.old.paths).moments.end }
+        requires tracked { IsTracked a (state_of (reader P.timeline L.values) W.sets W.moves R.rules B.store self.old) }
+        requires writings { AreWritings (state_of (reader P.timeline L.values) W.sets W.moves R.rules B.store self.old) }
+        requires open { self.old.complete ≡ false }
+        ensures grows { Grows (state_of (reader P.timeline L.values) W.sets W.moves R.rules B.store self.old) (state_of (reader P.timeline L.values) W.sets W.moves R.rules B.store self.new) }
+        ensures drew { IfOk result (λ learnt. Drew (state_of (reader P.timeline L.values) W.sets W.moves R.rules B.store self.old) (state_of (reader P.timeline L.values) W.sets W.moves R.rules B.store self.new) learnt (λ _. ⊤)) }
+        ensures halt { IfErr result (λ h. IsHalt (state_of (reader P.timeline L.values) W.sets W.moves R.rules B.store self.new) h) }
+    {
+        let open = self.carry_open(a, m, known)?;
+        if open {
+            return Ok(open);
+        }
+        self.carry_from(a, m, known)
+    }
+
     /// The value of a byte to the end of the strip before a number from those of a window that are next to it, and down from there, where it isn't known there. Answers whether it was
     /// new, and a number up to which it was looked for: the first one, where writers that aren't told don't lie before that strip's end, since they fall between all that come before.
-    fn carry_former(&mut self, a: u32, first: u32, known: Window) -> Result<(bool, u32), Halt>
+    pub(super) fn carry_former(
+        &mut self,
+        a: u32,
+        first: u32,
+        known: Window,
+    ) -> Result<(bool, u32), Halt>
         requires some { 0 < first }
         requires inside { first ≤ (P.timeline self.old.paths).moments.end }
         requires tracked { IsTracked a (state_of (reader P.timeline L.values) W.sets W.moves R.rules B.store self.old) }
@@ -449,7 +504,7 @@ impl<'a, P: Reaches + Drop, L: LastValues + Drop, B: ByteFacts, W: Transfer, R: 
         if self.known_byte(former.last, a).is_some() || self.is_walled(a, former.last) {
             return Ok((false, former.first));
         }
-        let new = self.carry_from(a, former.last, known)?;
+        let new = self.carry_over(a, former.last, known)?;
         if !new {
             return Ok((false, former.first));
         }
@@ -471,14 +526,14 @@ impl<'a, P: Reaches + Drop, L: LastValues + Drop, B: ByteFacts, W: Transfer, R: 
         if self.known_byte(number, a).is_none() {
             return Ok(false);
         }
-        let down = self.leap_down(a, number)?;
+        let down = self.down_together(a, number)?;
         let to = self.even_to(a, number) + 1;
         let mut learnt = down.0;
         let mut first = down.1;
         let mut from = first;
         let mut low = self.least_former(first);
         while first > low {
-            let former = self.carry_former(a, first, Window { from, to })?;
+            let former = self.former_together(a, first, Window { from, to })?;
             learnt = learnt | former.0;
             first = former.1;
             if former.0 {
@@ -490,7 +545,7 @@ impl<'a, P: Reaches + Drop, L: LastValues + Drop, B: ByteFacts, W: Transfer, R: 
     }
 
     /// The value of a byte from a number to those that are next to it, where it is known there.
-    fn carry_links_on(&mut self, a: u32, m: u32) -> Result<bool, Halt>
+    pub(super) fn carry_links_on(&mut self, a: u32, m: u32) -> Result<bool, Halt>
         requires inside { m ≤ (P.timeline self.old.paths).moments.end }
         requires tracked { IsTracked a (state_of (reader P.timeline L.values) W.sets W.moves R.rules B.store self.old) }
         requires writings { AreWritings (state_of (reader P.timeline L.values) W.sets W.moves R.rules B.store self.old) }
@@ -506,7 +561,7 @@ impl<'a, P: Reaches + Drop, L: LastValues + Drop, B: ByteFacts, W: Transfer, R: 
     }
 
     /// The value of a byte in the strip around a number, up from it, and on to the numbers next to it, where it is known there. Answers whether it was new, and its last number.
-    fn carry_later(&mut self, a: u32, first: u32) -> Result<(bool, u32), Halt>
+    pub(super) fn carry_later(&mut self, a: u32, first: u32) -> Result<(bool, u32), Halt>
         requires inside { first ≤ (P.timeline self.old.paths).moments.end }
         requires tracked { IsTracked a (state_of (reader P.timeline L.values) W.sets W.moves R.rules B.store self.old) }
         requires writings { AreWritings (state_of (reader P.timeline L.values) W.sets W.moves R.rules B.store self.old) }
@@ -534,11 +589,11 @@ impl<'a, P: Reaches + Drop, L: LastValues + Drop, B: ByteFacts, W: Transfer, R: 
         ensures drew { IfOk result (λ learnt. Drew (state_of (reader P.timeline L.values) W.sets W.moves R.rules B.store self.old) (state_of (reader P.timeline L.values) W.sets W.moves R.rules B.store self.new) learnt (λ _. ⊤)) }
         ensures halt { IfErr result (λ h. IsHalt (state_of (reader P.timeline L.values) W.sets W.moves R.rules B.store self.new) h) }
     {
-        let mut learnt = self.carry_links_on(a, number)?;
+        let mut learnt = self.links_together(a, number)?;
         let mut last = number;
         let mut high = self.greatest_next(last);
         while last < high {
-            let later = self.carry_later(a, last + 1)?;
+            let later = self.later_together(a, last + 1)?;
             learnt = learnt | later.0;
             last = later.1;
             if later.0 {
@@ -549,7 +604,7 @@ impl<'a, P: Reaches + Drop, L: LastValues + Drop, B: ByteFacts, W: Transfer, R: 
     }
 
     /// The value of a byte up from a number, where it is known there and not at the one after it.
-    fn leap_end(&mut self, a: u32, number: u32) -> Result<bool, Halt>
+    pub(super) fn leap_end(&mut self, a: u32, number: u32) -> Result<bool, Halt>
         requires inside { number ≤ (P.timeline self.old.paths).moments.end }
         requires writings { AreWritings (state_of (reader P.timeline L.values) W.sets W.moves R.rules B.store self.old) }
         requires open { self.old.complete ≡ false }
@@ -581,7 +636,7 @@ impl<'a, P: Reaches + Drop, L: LastValues + Drop, B: ByteFacts, W: Transfer, R: 
                 return Ok(learnt);
             };
             let strip = self.strip(end.min(from.max(stretch.first)));
-            let inside = self.carry_strip(a, strip)?;
+            let inside = self.strip_together(a, strip)?;
             let back = self.carry_back(a, strip.first)?;
             learnt = learnt | inside | back;
             from = strip.last.max(end.min(stretch.last)) + 1;
@@ -607,7 +662,9 @@ impl<'a, P: Reaches + Drop, L: LastValues + Drop, B: ByteFacts, W: Transfer, R: 
             let inside = self.carry_strip(a, strip)?;
             let up = self.leap_end(a, strip.last)?;
             let links = self.carry_links(a, strip.last)?;
-            learnt = learnt | inside | up | links;
+            let number = strip.first;
+            let others = self.follow_if(inside | up | links, a, Step::Onward { number })?;
+            learnt = learnt | inside | up | links | others;
             from = self.uneven_from(a, strip.last + 1);
         }
         Ok(learnt)
@@ -627,7 +684,7 @@ impl<'a, P: Reaches + Drop, L: LastValues + Drop, B: ByteFacts, W: Transfer, R: 
         Ok(back | onward)
     }
 
-    /// The value of a tracked byte, where something was learnt of it lately.
+    /// The value of a tracked byte, where something was learnt of it lately, and it isn't like the first one of its word, which it follows.
     fn carry_told(&mut self, k: usize) -> Result<bool, Halt>
         requires within { k < length (state_of (reader P.timeline L.values) W.sets W.moves R.rules B.store self.old).known.store.tracked }
         requires writings { AreWritings (state_of (reader P.timeline L.values) W.sets W.moves R.rules B.store self.old) }
@@ -637,7 +694,7 @@ impl<'a, P: Reaches + Drop, L: LastValues + Drop, B: ByteFacts, W: Transfer, R: 
         ensures halt { IfErr result (λ h. IsHalt (state_of (reader P.timeline L.values) W.sets W.moves R.rules B.store self.new) h) }
     {
         let a = self.address(k);
-        if !self.recent.has(a) {
+        if !self.recent.has(a) || self.is_like_first(a) {
             return Ok(false);
         }
         self.carry_address(a)
@@ -668,9 +725,10 @@ impl<'a, P: Reaches + Drop, L: LastValues + Drop, B: ByteFacts, W: Transfer, R: 
         self.recent.begin();
     }
 
-    /// The values of all tracked bytes.
+    /// The values of all tracked bytes. One that is like the last that was gone over is carried as that one is.
     pub(super) fn carry_tracked(&mut self) -> Result<bool, Halt>
         requires writings { AreWritings (state_of (reader P.timeline L.values) W.sets W.moves R.rules B.store self.old) }
+        requires current { IsCurrent (state_of (reader P.timeline L.values) W.sets W.moves R.rules B.store self.old) }
         requires open { self.old.complete ≡ false }
         ensures grows { Grows (state_of (reader P.timeline L.values) W.sets W.moves R.rules B.store self.old) (state_of (reader P.timeline L.values) W.sets W.moves R.rules B.store self.new) }
         ensures drew { IfOk result (λ learnt. Drew (state_of (reader P.timeline L.values) W.sets W.moves R.rules B.store self.old) (state_of (reader P.timeline L.values) W.sets W.moves R.rules B.store self.new) learnt (AllCarried)) }
@@ -678,10 +736,15 @@ impl<'a, P: Reaches + Drop, L: LastValues + Drop, B: ByteFacts, W: Transfer, R: 
     {
         let count = self.tracked_count();
         let mut learnt = false;
+        let mut leader = None;
         for k in 0..count {
             let a = self.address(k);
+            if self.is_like_any(leader, a) {
+                continue;
+            }
             let new = self.carry_onward(a)?;
             learnt = learnt | new;
+            leader = Some(a);
         }
         Ok(learnt)
     }

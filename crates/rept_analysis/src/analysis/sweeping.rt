@@ -7,7 +7,8 @@ ghost use Rattle.rept_report.specs.Setting.{IsLast};
 ghost use Rattle.rept_report.specs.Timeline.{IsLastFrom};
 ghost use Rattle.rept_analysis.specs.Begun.{HasEndsAlone, HasEndsFirst, LearnsEndsFirst};
 ghost use Rattle.rept_analysis.specs.State.{setting_of, state_of, reader};
-ghost use Rattle.rept_analysis.specs.Drawing.{IsTracked, Grows, Drew, IsHalt, IsFitted, LastKnownAt, LastPointKnown, AreWritings, AreExact, IsUncut, RowsClosed, LastByteKnown, LastBytesKnown, SingleKnown, PointSingles, SinglesKnown, IsDrawnAll, LastKnownBelow};
+ghost use Rattle.rept_analysis.specs.Drawing.{IsTracked, Grows, Drew, IsHalt, IsFitted, LastKnownAt, LastPointKnown, AreWritings, AreExact, IsUncut, RowsClosed, LastByteKnown, LastBytesKnown, SingleKnown, PointSingles, SinglesKnown, AllCarried, IsDrawnAll, LastKnownBelow};
+ghost use Rattle.rept_analysis.specs.Likeness.{IsCurrent};
 
 use super::Analysis;
 use crate::halt::Halt;
@@ -364,10 +365,30 @@ impl<'a, P: Reaches + Drop, L: LastValues + Drop, B: ByteFacts, W: Transfer, R: 
         Ok(last | rows | bytes | singles)
     }
 
+    /// The values of all tracked bytes; where that told something new, rows and bytes by turns, so that the sets aren't filled for each.
+    fn carry_through(&mut self) -> Result<bool, Halt>
+        requires writings { AreWritings (state_of (reader P.timeline L.values) W.sets W.moves R.rules B.store self.old) }
+        requires current { IsCurrent (state_of (reader P.timeline L.values) W.sets W.moves R.rules B.store self.old) }
+        requires open { self.old.complete ≡ false }
+        requires uncut { IsUncut (state_of (reader P.timeline L.values) W.sets W.moves R.rules B.store self.old) }
+        ensures grows { Grows (state_of (reader P.timeline L.values) W.sets W.moves R.rules B.store self.old) (state_of (reader P.timeline L.values) W.sets W.moves R.rules B.store self.new) }
+        ensures drew { IfOk result (λ learnt. Drew (state_of (reader P.timeline L.values) W.sets W.moves R.rules B.store self.old) (state_of (reader P.timeline L.values) W.sets W.moves R.rules B.store self.new) learnt (AllCarried)) }
+        ensures halt { IfErr result (λ h. IsHalt (state_of (reader P.timeline L.values) W.sets W.moves R.rules B.store self.new) h) }
+    {
+        let carried = self.carry_tracked()?;
+        if !carried {
+            return Ok(carried);
+        }
+        let rows = self.draw_through()?;
+        let bytes = self.carry_by_turns(PASSES)?;
+        Ok(carried | rows | bytes)
+    }
+
     /// All rules once, and with all bytes and rows where those that may tell something new tell nothing.
     pub(super) fn sweep(&mut self) -> Result<bool, Halt>
         requires writings { AreWritings (state_of (reader P.timeline L.values) W.sets W.moves R.rules B.store self.old) }
         requires exact { AreExact (state_of (reader P.timeline L.values) W.sets W.moves R.rules B.store self.old) }
+        requires current { IsCurrent (state_of (reader P.timeline L.values) W.sets W.moves R.rules B.store self.old) }
         requires open { self.old.complete ≡ false }
         requires uncut { IsUncut (state_of (reader P.timeline L.values) W.sets W.moves R.rules B.store self.old) }
         ensures grows { Grows (state_of (reader P.timeline L.values) W.sets W.moves R.rules B.store self.old) (state_of (reader P.timeline L.values) W.sets W.moves R.rules B.store self.new) }
@@ -379,7 +400,7 @@ impl<'a, P: Reaches + Drop, L: LastValues + Drop, B: ByteFacts, W: Transfer, R: 
         if fresh {
             return Ok(true);
         }
-        let carried = self.carry_tracked()?;
+        let carried = self.carry_through()?;
         if carried {
             return Ok(true);
         }

@@ -160,6 +160,13 @@ impl<'a, P: Reaches + Drop, L: LastValues + Drop, B: ByteFacts, W: Transfer, R: 
         }
     }
 
+    /// Keeps from which number a byte came back to one to which it is next.
+    pub(super) fn note_open(&mut self, number: u32)
+        ensures { self.new ≡ self.old }
+    {
+        self.walls.note_open(number);
+    }
+
     /// Keeps which row of the list, if one is named, kept a byte from going on from a number to one that is next to it.
     pub(super) fn note_stop(&mut self, m: u32, index: Option<usize>)
         ensures { self.new ≡ self.old }

@@ -9,25 +9,25 @@ loop-low-init g c =
     let inside = c.requires.inside in
     record { grows = c.in_ok-down.ensures.grows; drew = c.in_ok-down.ensures.drew; inside = omega (arith, down, inside) }
 
-pub carry_former-requires-clause-inside : goal.carry_former-requires-clause-inside
-carry_former-requires-clause-inside g c =
+pub former_together-requires-clause-inside : goal.former_together-requires-clause-inside
+former_together-requires-clause-inside g c =
     let inside = c.loop-low.invariant.inside in
     let end = ap (λ (P : Subject g.row.W.Denot). P.given.moments.end) c.loop-low.invariant.grows.path in
     omega (arith, inside, end)
 
-pub carry_former-requires-clause-writings : goal.carry_former-requires-clause-writings
-carry_former-requires-clause-writings g c = c.loop-low.invariant.grows.writing c.requires.writings
+pub former_together-requires-clause-writings : goal.former_together-requires-clause-writings
+former_together-requires-clause-writings g c = c.loop-low.invariant.grows.writing c.requires.writings
 
 pub returns-in_err-former-clause-grows : goal.returns-in_err-former-clause-grows
-returns-in_err-former-clause-grows g c = Grows_trans _ _ _ c.loop-low.invariant.grows c.carry_former.ensures.grows
+returns-in_err-former-clause-grows g c = Grows_trans _ _ _ c.loop-low.invariant.grows c.former_together.ensures.grows
 
 pub loop-low-preserved : goal.loop-low-preserved
 loop-low-preserved g c =
     let down = c.in_ok-former.ensures.down in
     let inside = c.loop-low.invariant.inside in
     record {
-      grows = Grows_trans (state_of (reader g.P.Paths.timeline g.L.LastValues.values) g.W.Partial.sets g.W.Transfer.moves g.R.RowRules.rules g.B.ByteFacts.store c.args.self.now) (state_of (reader g.P.Paths.timeline g.L.LastValues.values) g.W.Partial.sets g.W.Transfer.moves g.R.RowRules.rules g.B.ByteFacts.store c.loop-low.self) (state_of (reader g.P.Paths.timeline g.L.LastValues.values) g.W.Partial.sets g.W.Transfer.moves g.R.RowRules.rules g.B.ByteFacts.store c.carry_former.new.self) c.loop-low.invariant.grows c.in_ok-former.ensures.grows;
-      drew = Drew_both (state_of (reader g.P.Paths.timeline g.L.LastValues.values) g.W.Partial.sets g.W.Transfer.moves g.R.RowRules.rules g.B.ByteFacts.store c.args.self.now) (state_of (reader g.P.Paths.timeline g.L.LastValues.values) g.W.Partial.sets g.W.Transfer.moves g.R.RowRules.rules g.B.ByteFacts.store c.loop-low.self) (state_of (reader g.P.Paths.timeline g.L.LastValues.values) g.W.Partial.sets g.W.Transfer.moves g.R.RowRules.rules g.B.ByteFacts.store c.carry_former.new.self) c.loop-low.learnt c.in_ok-former.former.0 (λ (x : AnalysisState g.row.W.Denot). Unit {0}) (λ (x : AnalysisState g.row.W.Denot). Unit {0}) (λ (x : AnalysisState g.row.W.Denot). Unit {0}) c.loop-low.invariant.grows c.in_ok-former.ensures.grows c.loop-low.invariant.drew c.in_ok-former.ensures.drew (λ p q. tt);
+      grows = Grows_trans (state_of (reader g.P.Paths.timeline g.L.LastValues.values) g.W.Partial.sets g.W.Transfer.moves g.R.RowRules.rules g.B.ByteFacts.store c.args.self.now) (state_of (reader g.P.Paths.timeline g.L.LastValues.values) g.W.Partial.sets g.W.Transfer.moves g.R.RowRules.rules g.B.ByteFacts.store c.loop-low.self) (state_of (reader g.P.Paths.timeline g.L.LastValues.values) g.W.Partial.sets g.W.Transfer.moves g.R.RowRules.rules g.B.ByteFacts.store c.former_together.new.self) c.loop-low.invariant.grows c.in_ok-former.ensures.grows;
+      drew = Drew_both (state_of (reader g.P.Paths.timeline g.L.LastValues.values) g.W.Partial.sets g.W.Transfer.moves g.R.RowRules.rules g.B.ByteFacts.store c.args.self.now) (state_of (reader g.P.Paths.timeline g.L.LastValues.values) g.W.Partial.sets g.W.Transfer.moves g.R.RowRules.rules g.B.ByteFacts.store c.loop-low.self) (state_of (reader g.P.Paths.timeline g.L.LastValues.values) g.W.Partial.sets g.W.Transfer.moves g.R.RowRules.rules g.B.ByteFacts.store c.former_together.new.self) c.loop-low.learnt c.in_ok-former.former.0 (λ (x : AnalysisState g.row.W.Denot). Unit {0}) (λ (x : AnalysisState g.row.W.Denot). Unit {0}) (λ (x : AnalysisState g.row.W.Denot). Unit {0}) c.loop-low.invariant.grows c.in_ok-former.ensures.grows c.loop-low.invariant.drew c.in_ok-former.ensures.drew (λ p q. tt);
       inside = omega (arith, down, inside);
     }
 
@@ -36,7 +36,7 @@ loop-low-preserved-then-former g c =
     let down = c.in_ok-former.ensures.down in
     let inside = c.loop-low.invariant.inside in
     record {
-      grows = Grows_trans (state_of (reader g.P.Paths.timeline g.L.LastValues.values) g.W.Partial.sets g.W.Transfer.moves g.R.RowRules.rules g.B.ByteFacts.store c.args.self.now) (state_of (reader g.P.Paths.timeline g.L.LastValues.values) g.W.Partial.sets g.W.Transfer.moves g.R.RowRules.rules g.B.ByteFacts.store c.loop-low.self) (state_of (reader g.P.Paths.timeline g.L.LastValues.values) g.W.Partial.sets g.W.Transfer.moves g.R.RowRules.rules g.B.ByteFacts.store c.carry_former.new.self) c.loop-low.invariant.grows c.in_ok-former.ensures.grows;
-      drew = Drew_both (state_of (reader g.P.Paths.timeline g.L.LastValues.values) g.W.Partial.sets g.W.Transfer.moves g.R.RowRules.rules g.B.ByteFacts.store c.args.self.now) (state_of (reader g.P.Paths.timeline g.L.LastValues.values) g.W.Partial.sets g.W.Transfer.moves g.R.RowRules.rules g.B.ByteFacts.store c.loop-low.self) (state_of (reader g.P.Paths.timeline g.L.LastValues.values) g.W.Partial.sets g.W.Transfer.moves g.R.RowRules.rules g.B.ByteFacts.store c.carry_former.new.self) c.loop-low.learnt c.in_ok-former.former.0 (λ (x : AnalysisState g.row.W.Denot). Unit {0}) (λ (x : AnalysisState g.row.W.Denot). Unit {0}) (λ (x : AnalysisState g.row.W.Denot). Unit {0}) c.loop-low.invariant.grows c.in_ok-former.ensures.grows c.loop-low.invariant.drew c.in_ok-former.ensures.drew (λ p q. tt);
+      grows = Grows_trans (state_of (reader g.P.Paths.timeline g.L.LastValues.values) g.W.Partial.sets g.W.Transfer.moves g.R.RowRules.rules g.B.ByteFacts.store c.args.self.now) (state_of (reader g.P.Paths.timeline g.L.LastValues.values) g.W.Partial.sets g.W.Transfer.moves g.R.RowRules.rules g.B.ByteFacts.store c.loop-low.self) (state_of (reader g.P.Paths.timeline g.L.LastValues.values) g.W.Partial.sets g.W.Transfer.moves g.R.RowRules.rules g.B.ByteFacts.store c.former_together.new.self) c.loop-low.invariant.grows c.in_ok-former.ensures.grows;
+      drew = Drew_both (state_of (reader g.P.Paths.timeline g.L.LastValues.values) g.W.Partial.sets g.W.Transfer.moves g.R.RowRules.rules g.B.ByteFacts.store c.args.self.now) (state_of (reader g.P.Paths.timeline g.L.LastValues.values) g.W.Partial.sets g.W.Transfer.moves g.R.RowRules.rules g.B.ByteFacts.store c.loop-low.self) (state_of (reader g.P.Paths.timeline g.L.LastValues.values) g.W.Partial.sets g.W.Transfer.moves g.R.RowRules.rules g.B.ByteFacts.store c.former_together.new.self) c.loop-low.learnt c.in_ok-former.former.0 (λ (x : AnalysisState g.row.W.Denot). Unit {0}) (λ (x : AnalysisState g.row.W.Denot). Unit {0}) (λ (x : AnalysisState g.row.W.Denot). Unit {0}) c.loop-low.invariant.grows c.in_ok-former.ensures.grows c.loop-low.invariant.drew c.in_ok-former.ensures.drew (λ p q. tt);
       inside = omega (arith, down, inside);
     }

@@ -1,20 +1,26 @@
+use Rattle.std.proofs.Common.{Bool, subst}
 use Rattle.rept_analysis.specs.State.{AnalysisState, state_of, reader}
+use Rattle.rept_analysis.specs.Drawing.{Drew}
 use Rattle.rept_analysis.proofs.Drawn.{Drew_both, Drew_same, Grows_trans}
 use Rattle.rept_analysis.proofs.Listing.{writings_after}
 use Rattle.rept_analysis.proofs.analysis.Analysis.carry_bytes.Goals as goal
 
-pub carry_recent-requires-clause-writings : goal.carry_recent-requires-clause-writings
-carry_recent-requires-clause-writings g c = writings_after (state_of (reader g.P.Paths.timeline g.L.LastValues.values) g.W.Partial.sets g.W.Transfer.moves g.R.RowRules.rules g.B.ByteFacts.store c.args.self.now) (state_of (reader g.P.Paths.timeline g.L.LastValues.values) g.W.Partial.sets g.W.Transfer.moves g.R.RowRules.rules g.B.ByteFacts.store c.loop-k.self) c.loop-k.invariant.grows c.requires.writings
-
-pub returns-in_err-new-clause-grows : goal.returns-in_err-new-clause-grows
-returns-in_err-new-clause-grows g c = Grows_trans _ _ _ c.loop-k.invariant.grows c.carry_recent.ensures.grows
-
-pub loop-k-preserved : goal.loop-k-preserved
-loop-k-preserved g c = record {
-  grows = Grows_trans _ _ _ c.loop-k.invariant.grows c.in_ok-new.ensures.grows;
-  drew = Drew_both (state_of (reader g.P.Paths.timeline g.L.LastValues.values) g.W.Partial.sets g.W.Transfer.moves g.R.RowRules.rules g.B.ByteFacts.store c.args.self.now) (state_of (reader g.P.Paths.timeline g.L.LastValues.values) g.W.Partial.sets g.W.Transfer.moves g.R.RowRules.rules g.B.ByteFacts.store c.loop-k.self) _ c.loop-k.learnt c.in_ok-new.new (λ (x : AnalysisState g.row.W.Denot). Unit {0}) (λ (x : AnalysisState g.row.W.Denot). Unit {0}) (λ (x : AnalysisState g.row.W.Denot). Unit {0})
-      c.loop-k.invariant.grows c.in_ok-new.ensures.grows c.loop-k.invariant.drew c.in_ok-new.ensures.drew (λ p q. tt);
-}
-
 pub returns-then-is_first_round-clause-drew : goal.returns-then-is_first_round-clause-drew
 returns-then-is_first_round-clause-drew g c = Drew_same (state_of (reader g.P.Paths.timeline g.L.LastValues.values) g.W.Partial.sets g.W.Transfer.moves g.R.RowRules.rules g.B.ByteFacts.store c.args.self.now) (λ (x : AnalysisState g.row.W.Denot). Unit {0}) tt
+
+pub returns-then-not-near-clause-drew : goal.returns-then-not-near-clause-drew
+returns-then-not-near-clause-drew g c = subst (λ (learnt : Bool). Drew (state_of (reader g.P.Paths.timeline g.L.LastValues.values) g.W.Partial.sets g.W.Transfer.moves g.R.RowRules.rules g.B.ByteFacts.store c.args.self.now) (state_of (reader g.P.Paths.timeline g.L.LastValues.values) g.W.Partial.sets g.W.Transfer.moves g.R.RowRules.rules g.B.ByteFacts.store c.carry_near.new.self) learnt (λ (x : AnalysisState g.row.W.Denot). Unit {0})) c.if-not-near.true c.in_ok-near.ensures.drew
+
+pub carry_far-requires-clause-writings : goal.carry_far-requires-clause-writings
+carry_far-requires-clause-writings g c = writings_after (state_of (reader g.P.Paths.timeline g.L.LastValues.values) g.W.Partial.sets g.W.Transfer.moves g.R.RowRules.rules g.B.ByteFacts.store c.args.self.now) (state_of (reader g.P.Paths.timeline g.L.LastValues.values) g.W.Partial.sets g.W.Transfer.moves g.R.RowRules.rules g.B.ByteFacts.store c.carry_near.new.self) c.in_ok-near.ensures.grows c.requires.writings
+
+pub returns-in_err-far-clause-grows : goal.returns-in_err-far-clause-grows
+returns-in_err-far-clause-grows g c = Grows_trans _ _ _ c.in_ok-near.ensures.grows c.carry_far.ensures.grows
+
+pub returns-clause-grows : goal.returns-clause-grows
+returns-clause-grows g c = Grows_trans _ _ _ c.in_ok-near.ensures.grows c.in_ok-far.ensures.grows
+
+pub returns-clause-drew : goal.returns-clause-drew
+returns-clause-drew g c =
+    Drew_both (state_of (reader g.P.Paths.timeline g.L.LastValues.values) g.W.Partial.sets g.W.Transfer.moves g.R.RowRules.rules g.B.ByteFacts.store c.args.self.now) (state_of (reader g.P.Paths.timeline g.L.LastValues.values) g.W.Partial.sets g.W.Transfer.moves g.R.RowRules.rules g.B.ByteFacts.store c.carry_near.new.self) (state_of (reader g.P.Paths.timeline g.L.LastValues.values) g.W.Partial.sets g.W.Transfer.moves g.R.RowRules.rules g.B.ByteFacts.store c.carry_far.new.self) c.in_ok-near.near c.in_ok-far.far (λ (x : AnalysisState g.row.W.Denot). Unit {0}) (λ (x : AnalysisState g.row.W.Denot). Unit {0}) (λ (x : AnalysisState g.row.W.Denot). Unit {0})
+    c.in_ok-near.ensures.grows c.in_ok-far.ensures.grows c.in_ok-near.ensures.drew c.in_ok-far.ensures.drew (λ p q. tt)

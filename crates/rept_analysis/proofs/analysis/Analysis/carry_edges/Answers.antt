@@ -1,6 +1,5 @@
 use Rattle.std.proofs.Common.{◌||◌, ap, arith}
 use Rattle.rept_analysis.specs.State.{Subject, AnalysisState, state_of, reader}
-use Rattle.rept_analysis.specs.Drawing.{IsCarriedIn}
 use Rattle.rept_analysis.proofs.Drawn.{Drew_both, Drew_same, Grows_itself, Grows_trans}
 use Rattle.rept_analysis.proofs.Going.{strip_at}
 use Rattle.rept_analysis.proofs.analysis.Analysis.carry_edges.Goals as goal
@@ -8,11 +7,11 @@ use Rattle.rept_analysis.proofs.analysis.Analysis.carry_edges.Goals as goal
 pub loop-from-init : goal.loop-from-init
 loop-from-init g c = record { grows = Grows_itself _; drew = Drew_same _ (λ (x : AnalysisState g.row.W.Denot). Unit {0}) tt; end_is = c.end-end.ensures.value }
 
-pub carry_strip-requires-clause-strip : goal.carry_strip-requires-clause-strip
-carry_strip-requires-clause-strip g c = let its = c.strip-strip.ensures in let low = its.from in let high = its.to in strip_at _ _ c.strip-strip.result.first c.strip-strip.result its (omega arith) (omega (arith, low, high))
+pub strip_together-requires-clause-strip : goal.strip_together-requires-clause-strip
+strip_together-requires-clause-strip g c = let its = c.strip-strip.ensures in let low = its.from in let high = its.to in strip_at _ _ c.strip-strip.result.first c.strip-strip.result its (omega arith) (omega (arith, low, high))
 
-pub carry_strip-requires-clause-writings : goal.carry_strip-requires-clause-writings
-carry_strip-requires-clause-writings g c = c.loop-from.invariant.grows.writing c.requires.writings
+pub strip_together-requires-clause-writings : goal.strip_together-requires-clause-writings
+strip_together-requires-clause-writings g c = c.loop-from.invariant.grows.writing c.requires.writings
 
 pub carry_back-requires-clause-writings : goal.carry_back-requires-clause-writings
 carry_back-requires-clause-writings g c = c.in_ok-inside.ensures.grows.writing (c.loop-from.invariant.grows.writing c.requires.writings)
@@ -27,17 +26,17 @@ carry_back-requires-clause-inside g c =
     omega (arith, low, high, inside, end)
 
 pub returns-in_err-inside-clause-grows : goal.returns-in_err-inside-clause-grows
-returns-in_err-inside-clause-grows g c = Grows_trans _ _ _ c.loop-from.invariant.grows c.carry_strip.ensures.grows
+returns-in_err-inside-clause-grows g c = Grows_trans _ _ _ c.loop-from.invariant.grows c.strip_together.ensures.grows
 
 pub returns-in_err-back-clause-grows : goal.returns-in_err-back-clause-grows
 returns-in_err-back-clause-grows g c = Grows_trans _ _ _ (Grows_trans _ _ _ c.loop-from.invariant.grows c.in_ok-inside.ensures.grows) c.carry_back.ensures.grows
 
 pub loop-from-preserved : goal.loop-from-preserved
 loop-from-preserved g c =
-    let to = Grows_trans (state_of (reader g.P.Paths.timeline g.L.LastValues.values) g.W.Partial.sets g.W.Transfer.moves g.R.RowRules.rules g.B.ByteFacts.store c.args.self.now) (state_of (reader g.P.Paths.timeline g.L.LastValues.values) g.W.Partial.sets g.W.Transfer.moves g.R.RowRules.rules g.B.ByteFacts.store c.loop-from.self) (state_of (reader g.P.Paths.timeline g.L.LastValues.values) g.W.Partial.sets g.W.Transfer.moves g.R.RowRules.rules g.B.ByteFacts.store c.carry_strip.new.self) c.loop-from.invariant.grows c.in_ok-inside.ensures.grows in
-    let inside = Drew_both (state_of (reader g.P.Paths.timeline g.L.LastValues.values) g.W.Partial.sets g.W.Transfer.moves g.R.RowRules.rules g.B.ByteFacts.store c.args.self.now) (state_of (reader g.P.Paths.timeline g.L.LastValues.values) g.W.Partial.sets g.W.Transfer.moves g.R.RowRules.rules g.B.ByteFacts.store c.loop-from.self) (state_of (reader g.P.Paths.timeline g.L.LastValues.values) g.W.Partial.sets g.W.Transfer.moves g.R.RowRules.rules g.B.ByteFacts.store c.carry_strip.new.self) c.loop-from.learnt c.in_ok-inside.inside (λ (x : AnalysisState g.row.W.Denot). Unit {0}) (IsCarriedIn c.args.a c.strip-strip.result) (λ (x : AnalysisState g.row.W.Denot). Unit {0}) c.loop-from.invariant.grows c.in_ok-inside.ensures.grows c.loop-from.invariant.drew c.in_ok-inside.ensures.drew (λ p q. tt) in
+    let to = Grows_trans (state_of (reader g.P.Paths.timeline g.L.LastValues.values) g.W.Partial.sets g.W.Transfer.moves g.R.RowRules.rules g.B.ByteFacts.store c.args.self.now) (state_of (reader g.P.Paths.timeline g.L.LastValues.values) g.W.Partial.sets g.W.Transfer.moves g.R.RowRules.rules g.B.ByteFacts.store c.loop-from.self) (state_of (reader g.P.Paths.timeline g.L.LastValues.values) g.W.Partial.sets g.W.Transfer.moves g.R.RowRules.rules g.B.ByteFacts.store c.strip_together.new.self) c.loop-from.invariant.grows c.in_ok-inside.ensures.grows in
+    let inside = Drew_both (state_of (reader g.P.Paths.timeline g.L.LastValues.values) g.W.Partial.sets g.W.Transfer.moves g.R.RowRules.rules g.B.ByteFacts.store c.args.self.now) (state_of (reader g.P.Paths.timeline g.L.LastValues.values) g.W.Partial.sets g.W.Transfer.moves g.R.RowRules.rules g.B.ByteFacts.store c.loop-from.self) (state_of (reader g.P.Paths.timeline g.L.LastValues.values) g.W.Partial.sets g.W.Transfer.moves g.R.RowRules.rules g.B.ByteFacts.store c.strip_together.new.self) c.loop-from.learnt c.in_ok-inside.inside (λ (x : AnalysisState g.row.W.Denot). Unit {0}) (λ (x : AnalysisState g.row.W.Denot). Unit {0}) (λ (x : AnalysisState g.row.W.Denot). Unit {0}) c.loop-from.invariant.grows c.in_ok-inside.ensures.grows c.loop-from.invariant.drew c.in_ok-inside.ensures.drew (λ p q. tt) in
     record {
-      grows = Grows_trans (state_of (reader g.P.Paths.timeline g.L.LastValues.values) g.W.Partial.sets g.W.Transfer.moves g.R.RowRules.rules g.B.ByteFacts.store c.args.self.now) (state_of (reader g.P.Paths.timeline g.L.LastValues.values) g.W.Partial.sets g.W.Transfer.moves g.R.RowRules.rules g.B.ByteFacts.store c.carry_strip.new.self) (state_of (reader g.P.Paths.timeline g.L.LastValues.values) g.W.Partial.sets g.W.Transfer.moves g.R.RowRules.rules g.B.ByteFacts.store c.carry_back.new.self) to c.in_ok-back.ensures.grows;
-      drew = Drew_both (state_of (reader g.P.Paths.timeline g.L.LastValues.values) g.W.Partial.sets g.W.Transfer.moves g.R.RowRules.rules g.B.ByteFacts.store c.args.self.now) (state_of (reader g.P.Paths.timeline g.L.LastValues.values) g.W.Partial.sets g.W.Transfer.moves g.R.RowRules.rules g.B.ByteFacts.store c.carry_strip.new.self) (state_of (reader g.P.Paths.timeline g.L.LastValues.values) g.W.Partial.sets g.W.Transfer.moves g.R.RowRules.rules g.B.ByteFacts.store c.carry_back.new.self) (c.loop-from.learnt || c.in_ok-inside.inside) c.in_ok-back.back (λ (x : AnalysisState g.row.W.Denot). Unit {0}) (λ (x : AnalysisState g.row.W.Denot). Unit {0}) (λ (x : AnalysisState g.row.W.Denot). Unit {0}) to c.in_ok-back.ensures.grows inside c.in_ok-back.ensures.drew (λ p q. tt);
+      grows = Grows_trans (state_of (reader g.P.Paths.timeline g.L.LastValues.values) g.W.Partial.sets g.W.Transfer.moves g.R.RowRules.rules g.B.ByteFacts.store c.args.self.now) (state_of (reader g.P.Paths.timeline g.L.LastValues.values) g.W.Partial.sets g.W.Transfer.moves g.R.RowRules.rules g.B.ByteFacts.store c.strip_together.new.self) (state_of (reader g.P.Paths.timeline g.L.LastValues.values) g.W.Partial.sets g.W.Transfer.moves g.R.RowRules.rules g.B.ByteFacts.store c.carry_back.new.self) to c.in_ok-back.ensures.grows;
+      drew = Drew_both (state_of (reader g.P.Paths.timeline g.L.LastValues.values) g.W.Partial.sets g.W.Transfer.moves g.R.RowRules.rules g.B.ByteFacts.store c.args.self.now) (state_of (reader g.P.Paths.timeline g.L.LastValues.values) g.W.Partial.sets g.W.Transfer.moves g.R.RowRules.rules g.B.ByteFacts.store c.strip_together.new.self) (state_of (reader g.P.Paths.timeline g.L.LastValues.values) g.W.Partial.sets g.W.Transfer.moves g.R.RowRules.rules g.B.ByteFacts.store c.carry_back.new.self) (c.loop-from.learnt || c.in_ok-inside.inside) c.in_ok-back.back (λ (x : AnalysisState g.row.W.Denot). Unit {0}) (λ (x : AnalysisState g.row.W.Denot). Unit {0}) (λ (x : AnalysisState g.row.W.Denot). Unit {0}) to c.in_ok-back.ensures.grows inside c.in_ok-back.ensures.drew (λ p q. tt);
       end_is = c.loop-from.invariant.end_is;
     }

@@ -7,7 +7,7 @@ use Rattle.rept_analysis.proofs.analysis.Analysis.carry_former.Goals as goal
 pub carry_under-requires-clause-strip : goal.carry_under-requires-clause-strip
 carry_under-requires-clause-strip g c =
     let s = (state_of (reader g.P.Paths.timeline g.L.LastValues.values) g.W.Partial.sets g.W.Transfer.moves g.R.RowRules.rules g.B.ByteFacts.store c.args.self.now) in
-    let t = (state_of (reader g.P.Paths.timeline g.L.LastValues.values) g.W.Partial.sets g.W.Transfer.moves g.R.RowRules.rules g.B.ByteFacts.store c.carry_from.new.self) in
+    let t = (state_of (reader g.P.Paths.timeline g.L.LastValues.values) g.W.Partial.sets g.W.Transfer.moves g.R.RowRules.rules g.B.ByteFacts.store c.carry_over.new.self) in
     let former = c.strip-former.result in
     let its = c.strip-former.ensures in
     let low = its.from in
@@ -23,6 +23,6 @@ returns-clause-grows g c = Grows_trans _ _ _ c.in_ok-new.ensures.grows c.in_ok-u
 pub returns-clause-drew : goal.returns-clause-drew
 returns-clause-drew g c =
     let s = (state_of (reader g.P.Paths.timeline g.L.LastValues.values) g.W.Partial.sets g.W.Transfer.moves g.R.RowRules.rules g.B.ByteFacts.store c.args.self.now) in
-    let t = (state_of (reader g.P.Paths.timeline g.L.LastValues.values) g.W.Partial.sets g.W.Transfer.moves g.R.RowRules.rules g.B.ByteFacts.store c.carry_from.new.self) in
+    let t = (state_of (reader g.P.Paths.timeline g.L.LastValues.values) g.W.Partial.sets g.W.Transfer.moves g.R.RowRules.rules g.B.ByteFacts.store c.carry_over.new.self) in
     let u = (state_of (reader g.P.Paths.timeline g.L.LastValues.values) g.W.Partial.sets g.W.Transfer.moves g.R.RowRules.rules g.B.ByteFacts.store c.carry_under.new.self) in
     Drew_further s t u c.in_ok-new.new c.in_ok-under.under.0 (λ (x : AnalysisState g.row.W.Denot). Unit {0}) (λ (x : AnalysisState g.row.W.Denot). Unit {0}) (λ (x : AnalysisState g.row.W.Denot). Unit {0}) c.in_ok-under.ensures.grows c.if-not-new.false c.in_ok-new.ensures.drew c.in_ok-under.ensures.drew

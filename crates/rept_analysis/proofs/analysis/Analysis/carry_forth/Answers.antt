@@ -15,18 +15,18 @@ loop-last-init g c =
       inside = omega (arith, inside);
     }
 
-pub carry_later-requires-clause-writings : goal.carry_later-requires-clause-writings
-carry_later-requires-clause-writings g c = c.loop-last.invariant.grows.writing c.requires.writings
+pub later_together-requires-clause-writings : goal.later_together-requires-clause-writings
+later_together-requires-clause-writings g c = c.loop-last.invariant.grows.writing c.requires.writings
 
-pub carry_later-requires-clause-inside : goal.carry_later-requires-clause-inside
-carry_later-requires-clause-inside g c =
+pub later_together-requires-clause-inside : goal.later_together-requires-clause-inside
+later_together-requires-clause-inside g c =
     let less = c.loop-last-test.true in
     let high = c.loop-last.invariant.high in
     let end = ap (λ (P : Subject g.row.W.Denot). P.given.moments.end) c.loop-last.invariant.grows.path in
     omega (arith, less, high, end)
 
 pub returns-in_err-later-clause-grows : goal.returns-in_err-later-clause-grows
-returns-in_err-later-clause-grows g c = Grows_trans _ _ _ c.loop-last.invariant.grows c.carry_later.ensures.grows
+returns-in_err-later-clause-grows g c = Grows_trans _ _ _ c.loop-last.invariant.grows c.later_together.ensures.grows
 
 pub loop-last-preserved : goal.loop-last-preserved
 loop-last-preserved g c =
@@ -35,8 +35,8 @@ loop-last-preserved g c =
     let end = ap (λ (P : Subject g.row.W.Denot). P.given.moments.end) c.loop-last.invariant.grows.path in
     let same = ap (λ (P : Subject g.row.W.Denot). P.given.moments.end) c.in_ok-later.ensures.grows.path in
     record {
-      grows = Grows_trans (state_of (reader g.P.Paths.timeline g.L.LastValues.values) g.W.Partial.sets g.W.Transfer.moves g.R.RowRules.rules g.B.ByteFacts.store c.args.self.now) (state_of (reader g.P.Paths.timeline g.L.LastValues.values) g.W.Partial.sets g.W.Transfer.moves g.R.RowRules.rules g.B.ByteFacts.store c.loop-last.self) (state_of (reader g.P.Paths.timeline g.L.LastValues.values) g.W.Partial.sets g.W.Transfer.moves g.R.RowRules.rules g.B.ByteFacts.store c.carry_later.new.self) c.loop-last.invariant.grows c.in_ok-later.ensures.grows;
-      drew = Drew_both (state_of (reader g.P.Paths.timeline g.L.LastValues.values) g.W.Partial.sets g.W.Transfer.moves g.R.RowRules.rules g.B.ByteFacts.store c.args.self.now) (state_of (reader g.P.Paths.timeline g.L.LastValues.values) g.W.Partial.sets g.W.Transfer.moves g.R.RowRules.rules g.B.ByteFacts.store c.loop-last.self) (state_of (reader g.P.Paths.timeline g.L.LastValues.values) g.W.Partial.sets g.W.Transfer.moves g.R.RowRules.rules g.B.ByteFacts.store c.carry_later.new.self) c.loop-last.learnt c.in_ok-later.later.0 (λ (x : AnalysisState g.row.W.Denot). Unit {0}) (λ (x : AnalysisState g.row.W.Denot). Unit {0}) (λ (x : AnalysisState g.row.W.Denot). Unit {0}) c.loop-last.invariant.grows c.in_ok-later.ensures.grows c.loop-last.invariant.drew c.in_ok-later.ensures.drew (λ p q. tt);
+      grows = Grows_trans (state_of (reader g.P.Paths.timeline g.L.LastValues.values) g.W.Partial.sets g.W.Transfer.moves g.R.RowRules.rules g.B.ByteFacts.store c.args.self.now) (state_of (reader g.P.Paths.timeline g.L.LastValues.values) g.W.Partial.sets g.W.Transfer.moves g.R.RowRules.rules g.B.ByteFacts.store c.loop-last.self) (state_of (reader g.P.Paths.timeline g.L.LastValues.values) g.W.Partial.sets g.W.Transfer.moves g.R.RowRules.rules g.B.ByteFacts.store c.later_together.new.self) c.loop-last.invariant.grows c.in_ok-later.ensures.grows;
+      drew = Drew_both (state_of (reader g.P.Paths.timeline g.L.LastValues.values) g.W.Partial.sets g.W.Transfer.moves g.R.RowRules.rules g.B.ByteFacts.store c.args.self.now) (state_of (reader g.P.Paths.timeline g.L.LastValues.values) g.W.Partial.sets g.W.Transfer.moves g.R.RowRules.rules g.B.ByteFacts.store c.loop-last.self) (state_of (reader g.P.Paths.timeline g.L.LastValues.values) g.W.Partial.sets g.W.Transfer.moves g.R.RowRules.rules g.B.ByteFacts.store c.later_together.new.self) c.loop-last.learnt c.in_ok-later.later.0 (λ (x : AnalysisState g.row.W.Denot). Unit {0}) (λ (x : AnalysisState g.row.W.Denot). Unit {0}) (λ (x : AnalysisState g.row.W.Denot). Unit {0}) c.loop-last.invariant.grows c.in_ok-later.ensures.grows c.loop-last.invariant.drew c.in_ok-later.ensures.drew (λ p q. tt);
       high = omega (arith, high, end, same);
       inside = omega (arith, up, end);
     }
@@ -50,8 +50,8 @@ loop-last-preserved-then-later g c =
     let end = ap (λ (P : Subject g.row.W.Denot). P.given.moments.end) c.loop-last.invariant.grows.path in
     let same = ap (λ (P : Subject g.row.W.Denot). P.given.moments.end) c.in_ok-later.ensures.grows.path in
     record {
-      grows = Grows_trans (state_of (reader g.P.Paths.timeline g.L.LastValues.values) g.W.Partial.sets g.W.Transfer.moves g.R.RowRules.rules g.B.ByteFacts.store c.args.self.now) (state_of (reader g.P.Paths.timeline g.L.LastValues.values) g.W.Partial.sets g.W.Transfer.moves g.R.RowRules.rules g.B.ByteFacts.store c.loop-last.self) (state_of (reader g.P.Paths.timeline g.L.LastValues.values) g.W.Partial.sets g.W.Transfer.moves g.R.RowRules.rules g.B.ByteFacts.store c.carry_later.new.self) c.loop-last.invariant.grows c.in_ok-later.ensures.grows;
-      drew = Drew_both (state_of (reader g.P.Paths.timeline g.L.LastValues.values) g.W.Partial.sets g.W.Transfer.moves g.R.RowRules.rules g.B.ByteFacts.store c.args.self.now) (state_of (reader g.P.Paths.timeline g.L.LastValues.values) g.W.Partial.sets g.W.Transfer.moves g.R.RowRules.rules g.B.ByteFacts.store c.loop-last.self) (state_of (reader g.P.Paths.timeline g.L.LastValues.values) g.W.Partial.sets g.W.Transfer.moves g.R.RowRules.rules g.B.ByteFacts.store c.carry_later.new.self) c.loop-last.learnt c.in_ok-later.later.0 (λ (x : AnalysisState g.row.W.Denot). Unit {0}) (λ (x : AnalysisState g.row.W.Denot). Unit {0}) (λ (x : AnalysisState g.row.W.Denot). Unit {0}) c.loop-last.invariant.grows c.in_ok-later.ensures.grows c.loop-last.invariant.drew c.in_ok-later.ensures.drew (λ p q. tt);
+      grows = Grows_trans (state_of (reader g.P.Paths.timeline g.L.LastValues.values) g.W.Partial.sets g.W.Transfer.moves g.R.RowRules.rules g.B.ByteFacts.store c.args.self.now) (state_of (reader g.P.Paths.timeline g.L.LastValues.values) g.W.Partial.sets g.W.Transfer.moves g.R.RowRules.rules g.B.ByteFacts.store c.loop-last.self) (state_of (reader g.P.Paths.timeline g.L.LastValues.values) g.W.Partial.sets g.W.Transfer.moves g.R.RowRules.rules g.B.ByteFacts.store c.later_together.new.self) c.loop-last.invariant.grows c.in_ok-later.ensures.grows;
+      drew = Drew_both (state_of (reader g.P.Paths.timeline g.L.LastValues.values) g.W.Partial.sets g.W.Transfer.moves g.R.RowRules.rules g.B.ByteFacts.store c.args.self.now) (state_of (reader g.P.Paths.timeline g.L.LastValues.values) g.W.Partial.sets g.W.Transfer.moves g.R.RowRules.rules g.B.ByteFacts.store c.loop-last.self) (state_of (reader g.P.Paths.timeline g.L.LastValues.values) g.W.Partial.sets g.W.Transfer.moves g.R.RowRules.rules g.B.ByteFacts.store c.later_together.new.self) c.loop-last.learnt c.in_ok-later.later.0 (λ (x : AnalysisState g.row.W.Denot). Unit {0}) (λ (x : AnalysisState g.row.W.Denot). Unit {0}) (λ (x : AnalysisState g.row.W.Denot). Unit {0}) c.loop-last.invariant.grows c.in_ok-later.ensures.grows c.loop-last.invariant.drew c.in_ok-later.ensures.drew (λ p q. tt);
       high = omega (arith, high, most, reached, end, same);
       inside = omega (arith, up, end);
     }

@@ -11,7 +11,7 @@ pub returns-then-is_dark_between-clause-drew : goal.returns-then-is_dark_between
 returns-then-is_dark_between-clause-drew g c =
     let s = (state_of (reader g.P.Paths.timeline g.L.LastValues.values) g.W.Partial.sets g.W.Transfer.moves g.R.RowRules.rules g.B.ByteFacts.store c.args.self.now) in
     let x = passage c.args.a c.args.m c.args.w in
-    Drew_same s (IsCarriedIf x) (blocked_if s x (blocked_dark s x (sym c.is_dark_between.ensures ∙ c.if-is_dark_between.true)))
+    rw c.unchanged.ensures.news (Drew_same s (IsCarriedIf x) (blocked_if s x (blocked_dark s x (sym c.is_dark_between.ensures ∙ c.if-is_dark_between.true))))
 
 pub returns-then-is_some-clause-grows : goal.returns-then-is_some-clause-grows
 returns-then-is_some-clause-grows g c =
@@ -21,8 +21,8 @@ pub returns-then-is_some-clause-drew : goal.returns-then-is_some-clause-drew
 returns-then-is_some-clause-drew g c =
     let s = (state_of (reader g.P.Paths.timeline g.L.LastValues.values) g.W.Partial.sets g.W.Transfer.moves g.R.RowRules.rules g.B.ByteFacts.store c.args.self.now) in
     let x = passage c.args.a c.args.m c.args.w in
-    subst (λ (y : Whole g.row.P.Denot g.row.L.Denot g.row.B.Denot g.row.W.Denot g.row.R.Denot). Drew s (state_of (reader g.P.Paths.timeline g.L.LastValues.values) g.W.Partial.sets g.W.Transfer.moves g.R.RowRules.rules g.B.ByteFacts.store y) false (IsCarriedIf x)) (sym c.note_stop.ensures)
-    (Drew_same s (IsCarriedIf x) (blocked_if s x (blocked_some s c.requires.writings c.args.a (omega arith) c.args.m c.args.w c.blocker-found.result (sym c.is_some.ensures ∙ c.if-is_some.true) c.blocker-found.ensures)))
+    rw c.unchanged-then-is_some.ensures.news (subst (λ (y : Whole g.row.P.Denot g.row.L.Denot g.row.B.Denot g.row.W.Denot g.row.R.Denot). Drew s (state_of (reader g.P.Paths.timeline g.L.LastValues.values) g.W.Partial.sets g.W.Transfer.moves g.R.RowRules.rules g.B.ByteFacts.store y) false (IsCarriedIf x)) (sym c.note_stop.ensures)
+    (Drew_same s (IsCarriedIf x) (blocked_if s x (blocked_some s c.requires.writings c.args.a (omega arith) c.args.m c.args.w c.blocker-found.result (sym c.is_some.ensures ∙ c.if-is_some.true) c.blocker-found.ensures))))
 
 pub cross-requires-clause-bridged : goal.cross-requires-clause-bridged
 cross-requires-clause-bridged g c = bridged_not_some (state_of (reader g.P.Paths.timeline g.L.LastValues.values) g.W.Partial.sets g.W.Transfer.moves g.R.RowRules.rules g.B.ByteFacts.store c.args.self.now) c.requires.writings c.args.a (omega arith) c.args.m c.args.w c.blocker-found.result c.requires.next (sym c.is_dark_between.ensures ∙ c.if-is_dark_between.false) (sym c.is_some.ensures ∙ c.if-is_some.false) c.blocker-found.ensures

@@ -10,13 +10,13 @@ pub returns-then-like-next-clause-drew : goal.returns-then-like-next-clause-drew
 returns-then-like-next-clause-drew g c =
     let s = (state_of (reader g.P.Paths.timeline g.L.LastValues.values) g.W.Partial.sets g.W.Transfer.moves g.R.RowRules.rules g.B.ByteFacts.store c.args.self.now) in
     let P : AnalysisState g.row.W.Denot → Type 0 = λ x. (w : ℕ) → c.args.next ≤ w → w < c.like_to-like.result → IsCarriedIf (passage c.args.a c.args.m w) x in
-    Drew_same s P (λ w low high. alike_if s (passage c.args.a c.args.m w) (sym (c.like_to-like.ensures.alike w low high ∙ c.known_byte-here.ensures)))
+    rw c.unchanged-then-like-next.ensures.news (Drew_same s P (λ w low high. alike_if s (passage c.args.a c.args.m w) (sym (c.like_to-like.ensures.alike w low high ∙ c.known_byte-here.ensures))))
 
 pub returns-then-blocks-clause-drew : goal.returns-then-blocks-clause-drew
 returns-then-blocks-clause-drew g c =
     let s = (state_of (reader g.P.Paths.timeline g.L.LastValues.values) g.W.Partial.sets g.W.Transfer.moves g.R.RowRules.rules g.B.ByteFacts.store c.args.self.now) in
     let P : AnalysisState g.row.W.Denot → Type 0 = λ x. (w : ℕ) → c.args.next ≤ w → w < c.args.next + 1 → IsCarriedIf (passage c.args.a c.args.m w) x in
-    Drew_same s P (λ w low high. one_link s c.args.a c.args.m c.args.next w low high (blocked_if s (passage c.args.a c.args.m c.args.next) (c.blocks-2.ensures c.if-blocks.true)))
+    rw c.unchanged.ensures.news (Drew_same s P (λ w low high. one_link s c.args.a c.args.m c.args.next w low high (blocked_if s (passage c.args.a c.args.m c.args.next) (c.blocks-2.ensures c.if-blocks.true))))
 
 pub returns-clause-drew : goal.returns-clause-drew
 returns-clause-drew g c =

@@ -38,7 +38,21 @@ pub carry_links-requires-clause-tracked : goal.carry_links-requires-clause-track
 carry_links-requires-clause-tracked g c = c.in_ok-up.ensures.grows.tracked c.args.a (c.in_ok-inside.ensures.grows.tracked c.args.a (c.loop-from.invariant.grows.tracked c.args.a c.requires.tracked))
 
 pub uneven_from-from-requires : goal.uneven_from-from-requires
-uneven_from-from-requires g c = record { writings = c.in_ok-links.ensures.grows.writing (c.in_ok-up.ensures.grows.writing (c.in_ok-inside.ensures.grows.writing (c.loop-from.invariant.grows.writing c.requires.writings))) }
+uneven_from-from-requires g c = record { writings = c.in_ok-others.ensures.grows.writing (c.in_ok-links.ensures.grows.writing (c.in_ok-up.ensures.grows.writing (c.in_ok-inside.ensures.grows.writing (c.loop-from.invariant.grows.writing c.requires.writings)))) }
+
+pub follow_if-requires-clause-within : goal.follow_if-requires-clause-within
+follow_if-requires-clause-within g c =
+    let its = c.strip-strip.ensures in
+    let low = its.from in
+    let high = its.to in
+    let inside = its.inside in
+    let end = ap (λ (P : Subject g.row.W.Denot). P.given.moments.end) c.in_ok-inside.ensures.grows.path in
+    let same = ap (λ (P : Subject g.row.W.Denot). P.given.moments.end) c.in_ok-up.ensures.grows.path in
+    let still = ap (λ (P : Subject g.row.W.Denot). P.given.moments.end) c.in_ok-links.ensures.grows.path in
+    omega (arith, low, high, inside, end, same, still)
+
+pub follow_if-requires-clause-writings : goal.follow_if-requires-clause-writings
+follow_if-requires-clause-writings g c = c.in_ok-links.ensures.grows.writing (c.in_ok-up.ensures.grows.writing (c.in_ok-inside.ensures.grows.writing (c.loop-from.invariant.grows.writing c.requires.writings)))
 
 pub returns-in_err-inside-clause-grows : goal.returns-in_err-inside-clause-grows
 returns-in_err-inside-clause-grows g c = Grows_trans _ _ _ c.loop-from.invariant.grows c.carry_strip.ensures.grows
@@ -49,6 +63,9 @@ returns-in_err-up-clause-grows g c = Grows_trans _ _ _ (Grows_trans _ _ _ c.loop
 pub returns-in_err-links-clause-grows : goal.returns-in_err-links-clause-grows
 returns-in_err-links-clause-grows g c = Grows_trans _ _ _ (Grows_trans _ _ _ (Grows_trans _ _ _ c.loop-from.invariant.grows c.in_ok-inside.ensures.grows) c.in_ok-up.ensures.grows) c.carry_links.ensures.grows
 
+pub returns-in_err-others-clause-grows : goal.returns-in_err-others-clause-grows
+returns-in_err-others-clause-grows g c = Grows_trans _ _ _ (Grows_trans _ _ _ (Grows_trans _ _ _ (Grows_trans _ _ _ c.loop-from.invariant.grows c.in_ok-inside.ensures.grows) c.in_ok-up.ensures.grows) c.in_ok-links.ensures.grows) c.follow_if.ensures.grows
+
 pub loop-from-preserved : goal.loop-from-preserved
 loop-from-preserved g c =
     let s = (state_of (reader g.P.Paths.timeline g.L.LastValues.values) g.W.Partial.sets g.W.Transfer.moves g.R.RowRules.rules g.B.ByteFacts.store c.args.self.now) in
@@ -56,6 +73,7 @@ loop-from-preserved g c =
     let u = (state_of (reader g.P.Paths.timeline g.L.LastValues.values) g.W.Partial.sets g.W.Transfer.moves g.R.RowRules.rules g.B.ByteFacts.store c.carry_strip.new.self) in
     let x = (state_of (reader g.P.Paths.timeline g.L.LastValues.values) g.W.Partial.sets g.W.Transfer.moves g.R.RowRules.rules g.B.ByteFacts.store c.leap_end.new.self) in
     let v = (state_of (reader g.P.Paths.timeline g.L.LastValues.values) g.W.Partial.sets g.W.Transfer.moves g.R.RowRules.rules g.B.ByteFacts.store c.carry_links.new.self) in
+    let w = (state_of (reader g.P.Paths.timeline g.L.LastValues.values) g.W.Partial.sets g.W.Transfer.moves g.R.RowRules.rules g.B.ByteFacts.store c.follow_if.new.self) in
     let a = c.args.a in
     let from = c.loop-from.from in
     let strip = c.strip-strip.result in
@@ -70,9 +88,11 @@ loop-from-preserved g c =
     let links = Drew_both s x v (c.loop-from.learnt || c.in_ok-inside.inside || c.in_ok-up.up) c.in_ok-links.links R (AreLinks a strip.last) (IsCarriedUpTo a (strip.last + 1)) further c.in_ok-links.ensures.grows up c.in_ok-links.ensures.drew
     (λ p q. up_to_more s a from from strip p.1.0 (p.1.0).from p.0 p.1.1 q) in
     let Q : AnalysisState g.row.W.Denot → Type 0 = λ y. IsCarriedUpTo a (strip.last + 1) y → IsCarriedUpTo a c.uneven_from-from.result y in
+    let reached = Grows_trans s x v further c.in_ok-links.ensures.grows in
+    let others = Drew_both s v w (c.loop-from.learnt || c.in_ok-inside.inside || c.in_ok-up.up || c.in_ok-links.links) c.in_ok-others.others (IsCarriedUpTo a (strip.last + 1)) (λ (y : AnalysisState g.row.W.Denot). Unit {0}) (IsCarriedUpTo a (strip.last + 1)) reached c.in_ok-others.ensures.grows links c.in_ok-others.ensures.drew (λ p q. p) in
     record {
-      grows = Grows_trans s x v further c.in_ok-links.ensures.grows;
-      drew = Drew_first s v v (c.loop-from.learnt || c.in_ok-inside.inside || c.in_ok-up.up || c.in_ok-links.links) false (IsCarriedUpTo a (strip.last + 1)) Q (IsCarriedUpTo a c.uneven_from-from.result) (Grows_itself v) refl links (Drew_same v Q c.uneven_from-from.ensures.up) (λ p q. q p);
+      grows = Grows_trans s v w reached c.in_ok-others.ensures.grows;
+      drew = Drew_first s w w (c.loop-from.learnt || c.in_ok-inside.inside || c.in_ok-up.up || c.in_ok-links.links || c.in_ok-others.others) false (IsCarriedUpTo a (strip.last + 1)) Q (IsCarriedUpTo a c.uneven_from-from.result) (Grows_itself w) refl others (Drew_same w Q c.uneven_from-from.ensures.up) (λ p q. q p);
       end_is = i.end_is;
     }
 

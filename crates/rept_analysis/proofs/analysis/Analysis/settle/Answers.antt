@@ -1,4 +1,4 @@
-use Rattle.std.proofs.Common.{arith, ◌≡◌, ◌<◌, ℕ, length, inr, sym, ap, subst}
+use Rattle.std.proofs.Common.{arith, ◌≡◌, ◌<◌, ℕ, length, inr, sym, ap, subst, ◌∙◌}
 use Rattle.rept_reason.specs.Facts.{told}
 use Rattle.rept_report.specs.Conflicts.{IsQuiet}
 use Rattle.rept_report.specs.Log.{oldest}
@@ -9,7 +9,7 @@ use Rattle.rept_analysis.specs.Begun.{HasEndsFirst}
 use Rattle.rept_analysis.specs.Measure.{measure}
 use Rattle.rept_analysis.proofs.Begun.{any_err, begins_like}
 use Rattle.rept_analysis.proofs.Measure.{news_less}
-use Rattle.rept_analysis.proofs.Ending.{forth, back_to, measure_same, same_continues, grows_continues, Continues_itself, Continues_trans, quiet_part, settled_by, spent_like, spent_after, uncut_like, known_like, known_after}
+use Rattle.rept_analysis.proofs.Ending.{forth, back_to, measure_same, same_continues, grows_continues, Continues_itself, Continues_trans, quiet_part, quiet_whole, settled_by, spent_like, spent_after, uncut_like, known_like, known_after}
 use Rattle.rept_analysis.proofs.analysis.Analysis.settle.Goals as goal
 
 pub loop-len-init : goal.loop-len-init
@@ -87,3 +87,12 @@ returns-in_err-learnt-clause-halted g c = λ h. any_err c.from_residual.result (
 
 pub returns-clause-begins : goal.returns-clause-begins
 returns-clause-begins g c = λ h. inr (c.in_ok-learnt.ensures.begun (begins_like (state_of (reader g.P.Paths.timeline g.L.LastValues.values) g.W.Partial.sets g.W.Transfer.moves g.R.RowRules.rules g.B.ByteFacts.store c.loop-len.self) (state_of (reader g.P.Paths.timeline g.L.LastValues.values) g.W.Partial.sets g.W.Transfer.moves g.R.RowRules.rules g.B.ByteFacts.store c.ready-quiet.new.self) c.ready-quiet.ensures.same.path (ap (λ (k : Known). k.log) c.ready-quiet.ensures.same.known) (c.loop-len.invariant.begins h)))
+
+pub sweep-requires-clause-current : goal.sweep-requires-clause-current
+sweep-requires-clause-current g c =
+    let a = state_of (reader g.P.Paths.timeline g.L.LastValues.values) g.W.Partial.sets g.W.Transfer.moves g.R.RowRules.rules g.B.ByteFacts.store c.loop-len.self in
+    let b = state_of (reader g.P.Paths.timeline g.L.LastValues.values) g.W.Partial.sets g.W.Transfer.moves g.R.RowRules.rules g.B.ByteFacts.store c.ready-quiet.new.self in
+    let same = c.ready-quiet.ensures.same in
+    let long = forth a b same (λ (P : Subject g.row.W.Denot) (k : Known). c.len-len.result ≡ length k.log) c.len-len.ensures.value in
+    let quiet = forth a b same (λ (P : Subject g.row.W.Denot) (k : Known). IsQuiet (along P) (told (oldest c.len-len.result k.log))) (c.ready-quiet.ensures.quiet c.if-not-quiet.false) in
+    record { quiet = quiet_whole b c.len-len.result long quiet; filled = c.ready-quiet.ensures.limit ∙ long }

@@ -1,6 +1,7 @@
-use Rattle.std.proofs.Common.{Bool, subst}
+use Rattle.std.proofs.Common.{Bool, sym, subst}
 use Rattle.rept_analysis.specs.State.{AnalysisState, state_of, reader}
 use Rattle.rept_analysis.specs.Drawing.{Drew, LastKnownBelow, LastBytesKnown, RowsClosed, AllCarried, SinglesKnown, IsDrawnAll}
+use Rattle.rept_analysis.specs.Likeness.{IsCurrent}
 use Rattle.rept_analysis.proofs.Begun.{begun_after}
 use Rattle.rept_analysis.proofs.Drawn.{Drew_second, Drew_loud, Grows_trans}
 use Rattle.rept_analysis.proofs.Listing.{writings_after}
@@ -13,14 +14,14 @@ returns-then-fresh-clause-drew g c =
     let P : AnalysisState g.row.W.Denot → Type 0 = λ x. LastKnownBelow 32 x × LastBytesKnown x × SinglesKnown x in
     subst (λ (x : Bool). Drew a b x IsDrawnAll) c.if-fresh.true (Drew_loud a b c.in_ok-fresh.fresh P IsDrawnAll c.if-fresh.true c.in_ok-fresh.ensures.drew)
 
-pub carry_tracked-requires-clause-writings : goal.carry_tracked-requires-clause-writings
-carry_tracked-requires-clause-writings g c = writings_after (state_of (reader g.P.Paths.timeline g.L.LastValues.values) g.W.Partial.sets g.W.Transfer.moves g.R.RowRules.rules g.B.ByteFacts.store c.args.self.now) (state_of (reader g.P.Paths.timeline g.L.LastValues.values) g.W.Partial.sets g.W.Transfer.moves g.R.RowRules.rules g.B.ByteFacts.store c.sweep_fresh.new.self) c.in_ok-fresh.ensures.grows c.requires.writings
+pub carry_through-requires-clause-writings : goal.carry_through-requires-clause-writings
+carry_through-requires-clause-writings g c = writings_after (state_of (reader g.P.Paths.timeline g.L.LastValues.values) g.W.Partial.sets g.W.Transfer.moves g.R.RowRules.rules g.B.ByteFacts.store c.args.self.now) (state_of (reader g.P.Paths.timeline g.L.LastValues.values) g.W.Partial.sets g.W.Transfer.moves g.R.RowRules.rules g.B.ByteFacts.store c.sweep_fresh.new.self) c.in_ok-fresh.ensures.grows c.requires.writings
 
 pub returns-in_err-carried-clause-grows : goal.returns-in_err-carried-clause-grows
-returns-in_err-carried-clause-grows g c = Grows_trans _ _ _ c.in_ok-fresh.ensures.grows c.carry_tracked.ensures.grows
+returns-in_err-carried-clause-grows g c = Grows_trans _ _ _ c.in_ok-fresh.ensures.grows c.carry_through.ensures.grows
 
 pub returns-in_err-carried-clause-begun : goal.returns-in_err-carried-clause-begun
-returns-in_err-carried-clause-begun g c = λ h. begun_after (state_of (reader g.P.Paths.timeline g.L.LastValues.values) g.W.Partial.sets g.W.Transfer.moves g.R.RowRules.rules g.B.ByteFacts.store c.sweep_fresh.new.self) (state_of (reader g.P.Paths.timeline g.L.LastValues.values) g.W.Partial.sets g.W.Transfer.moves g.R.RowRules.rules g.B.ByteFacts.store c.carry_tracked.new.self) c.carry_tracked.ensures.grows (c.in_ok-fresh.ensures.begun h)
+returns-in_err-carried-clause-begun g c = λ h. begun_after (state_of (reader g.P.Paths.timeline g.L.LastValues.values) g.W.Partial.sets g.W.Transfer.moves g.R.RowRules.rules g.B.ByteFacts.store c.sweep_fresh.new.self) (state_of (reader g.P.Paths.timeline g.L.LastValues.values) g.W.Partial.sets g.W.Transfer.moves g.R.RowRules.rules g.B.ByteFacts.store c.carry_through.new.self) c.carry_through.ensures.grows (c.in_ok-fresh.ensures.begun h)
 
 pub returns-then-carried-clause-grows : goal.returns-then-carried-clause-grows
 returns-then-carried-clause-grows g c = Grows_trans _ _ _ c.in_ok-fresh.ensures.grows c.in_ok-carried.ensures.grows
@@ -29,17 +30,17 @@ pub returns-then-carried-clause-drew : goal.returns-then-carried-clause-drew
 returns-then-carried-clause-drew g c =
     let a = state_of (reader g.P.Paths.timeline g.L.LastValues.values) g.W.Partial.sets g.W.Transfer.moves g.R.RowRules.rules g.B.ByteFacts.store c.args.self.now in
     let b = state_of (reader g.P.Paths.timeline g.L.LastValues.values) g.W.Partial.sets g.W.Transfer.moves g.R.RowRules.rules g.B.ByteFacts.store c.sweep_fresh.new.self in
-    let d = state_of (reader g.P.Paths.timeline g.L.LastValues.values) g.W.Partial.sets g.W.Transfer.moves g.R.RowRules.rules g.B.ByteFacts.store c.carry_tracked.new.self in
+    let d = state_of (reader g.P.Paths.timeline g.L.LastValues.values) g.W.Partial.sets g.W.Transfer.moves g.R.RowRules.rules g.B.ByteFacts.store c.carry_through.new.self in
     let P : AnalysisState g.row.W.Denot → Type 0 = λ x. LastKnownBelow 32 x × LastBytesKnown x × SinglesKnown x in
     let Q : AnalysisState g.row.W.Denot → Type 0 = λ x. P x × AllCarried x in
     let both = Drew_second a b d c.in_ok-fresh.fresh c.in_ok-carried.carried P AllCarried Q c.if-fresh.false c.in_ok-fresh.ensures.grows c.in_ok-fresh.ensures.drew c.in_ok-carried.ensures.drew (λ p q. (p, q)) in
     subst (λ (x : Bool). Drew a d x IsDrawnAll) c.if-carried.true (Drew_loud a d c.in_ok-carried.carried Q IsDrawnAll c.if-carried.true both)
 
 pub returns-then-carried-clause-begun : goal.returns-then-carried-clause-begun
-returns-then-carried-clause-begun g c = λ h. begun_after (state_of (reader g.P.Paths.timeline g.L.LastValues.values) g.W.Partial.sets g.W.Transfer.moves g.R.RowRules.rules g.B.ByteFacts.store c.sweep_fresh.new.self) (state_of (reader g.P.Paths.timeline g.L.LastValues.values) g.W.Partial.sets g.W.Transfer.moves g.R.RowRules.rules g.B.ByteFacts.store c.carry_tracked.new.self) c.in_ok-carried.ensures.grows (c.in_ok-fresh.ensures.begun h)
+returns-then-carried-clause-begun g c = λ h. begun_after (state_of (reader g.P.Paths.timeline g.L.LastValues.values) g.W.Partial.sets g.W.Transfer.moves g.R.RowRules.rules g.B.ByteFacts.store c.sweep_fresh.new.self) (state_of (reader g.P.Paths.timeline g.L.LastValues.values) g.W.Partial.sets g.W.Transfer.moves g.R.RowRules.rules g.B.ByteFacts.store c.carry_through.new.self) c.in_ok-carried.ensures.grows (c.in_ok-fresh.ensures.begun h)
 
 pub draw_back-requires-clause-writings : goal.draw_back-requires-clause-writings
-draw_back-requires-clause-writings g c = writings_after (state_of (reader g.P.Paths.timeline g.L.LastValues.values) g.W.Partial.sets g.W.Transfer.moves g.R.RowRules.rules g.B.ByteFacts.store c.args.self.now) (state_of (reader g.P.Paths.timeline g.L.LastValues.values) g.W.Partial.sets g.W.Transfer.moves g.R.RowRules.rules g.B.ByteFacts.store c.carry_tracked.new.self) (Grows_trans _ _ _ c.in_ok-fresh.ensures.grows c.in_ok-carried.ensures.grows) c.requires.writings
+draw_back-requires-clause-writings g c = writings_after (state_of (reader g.P.Paths.timeline g.L.LastValues.values) g.W.Partial.sets g.W.Transfer.moves g.R.RowRules.rules g.B.ByteFacts.store c.args.self.now) (state_of (reader g.P.Paths.timeline g.L.LastValues.values) g.W.Partial.sets g.W.Transfer.moves g.R.RowRules.rules g.B.ByteFacts.store c.carry_through.new.self) (Grows_trans _ _ _ c.in_ok-fresh.ensures.grows c.in_ok-carried.ensures.grows) c.requires.writings
 
 pub draw_back-requires-clause-uncut : goal.draw_back-requires-clause-uncut
 draw_back-requires-clause-uncut g c = c.in_ok-carried.ensures.drew.uncut (c.in_ok-fresh.ensures.drew.uncut c.requires.uncut)
@@ -57,7 +58,7 @@ pub returns-clause-drew : goal.returns-clause-drew
 returns-clause-drew g c =
     let a = state_of (reader g.P.Paths.timeline g.L.LastValues.values) g.W.Partial.sets g.W.Transfer.moves g.R.RowRules.rules g.B.ByteFacts.store c.args.self.now in
     let b = state_of (reader g.P.Paths.timeline g.L.LastValues.values) g.W.Partial.sets g.W.Transfer.moves g.R.RowRules.rules g.B.ByteFacts.store c.sweep_fresh.new.self in
-    let d = state_of (reader g.P.Paths.timeline g.L.LastValues.values) g.W.Partial.sets g.W.Transfer.moves g.R.RowRules.rules g.B.ByteFacts.store c.carry_tracked.new.self in
+    let d = state_of (reader g.P.Paths.timeline g.L.LastValues.values) g.W.Partial.sets g.W.Transfer.moves g.R.RowRules.rules g.B.ByteFacts.store c.carry_through.new.self in
     let e = state_of (reader g.P.Paths.timeline g.L.LastValues.values) g.W.Partial.sets g.W.Transfer.moves g.R.RowRules.rules g.B.ByteFacts.store c.draw_back.new.self in
     let P : AnalysisState g.row.W.Denot → Type 0 = λ x. LastKnownBelow 32 x × LastBytesKnown x × SinglesKnown x in
     let Q : AnalysisState g.row.W.Denot → Type 0 = λ x. P x × AllCarried x in
@@ -66,3 +67,9 @@ returns-clause-drew g c =
 
 pub returns-clause-begun : goal.returns-clause-begun
 returns-clause-begun g c = λ h. begun_after (state_of (reader g.P.Paths.timeline g.L.LastValues.values) g.W.Partial.sets g.W.Transfer.moves g.R.RowRules.rules g.B.ByteFacts.store c.sweep_fresh.new.self) (state_of (reader g.P.Paths.timeline g.L.LastValues.values) g.W.Partial.sets g.W.Transfer.moves g.R.RowRules.rules g.B.ByteFacts.store c.draw_back.new.self) (Grows_trans _ _ _ c.in_ok-carried.ensures.grows c.in_ok-rows.ensures.grows) (c.in_ok-fresh.ensures.begun h)
+
+pub carry_through-requires-clause-current : goal.carry_through-requires-clause-current
+carry_through-requires-clause-current g c = subst (λ (x : AnalysisState g.row.W.Denot). IsCurrent x) (sym (c.in_ok-fresh.ensures.drew.unchanged c.if-fresh.false)) c.requires.current
+
+pub carry_through-requires-clause-uncut : goal.carry_through-requires-clause-uncut
+carry_through-requires-clause-uncut g c = c.in_ok-fresh.ensures.drew.uncut c.requires.uncut

@@ -1,6 +1,6 @@
 use Rattle.rept_analysis.specs.State.{AnalysisState, state_of, reader}
 use Rattle.rept_analysis.specs.Drawing.{Grows, Drew}
-use Rattle.rept_analysis.proofs.analysis.Analysis.carry_bytes.Given as goal
+use Rattle.rept_analysis.proofs.analysis.Analysis.carry_far.Given as goal
 
 abbrev pub invariant-loop-k : goal.invariant-loop-k
 invariant-loop-k g l =
