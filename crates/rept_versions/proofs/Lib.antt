@@ -8,3 +8,4 @@ pub mod Steps
 pub mod Points
 pub mod Rows
 pub mod Nexts
+pub mod Firsts

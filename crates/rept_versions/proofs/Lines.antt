@@ -79,10 +79,6 @@ value_in_gap ss k i parts below = value_none ss k (λ j lt from to. elim (cases_
 pub gap_after : (ss : List Span) → IsRising ss → (k i : ℕ) → suc i ≤ length ss → (nth ss i).high < k → EndBelow ss (suc i) k
 gap_after ss rising k i le lt j before = elim (cases_lt j i) [ inl less ↦ omega (arith, rising.apart j i less (omega (arith, le)), rising.whole i (omega (arith, le)), lt) | inr more ↦ (let e : j ≡ i = omega (arith, more, before) in rw e lt) ]
 
--- what begins at or below k, up to a place
-pub more_below : (ss : List Span) → IsRising ss → (k i : ℕ) → i < length ss → (nth ss i).low ≤ k → (j : ℕ) → j < i + 1 → (nth ss j).low ≤ k
-more_below ss rising k i lt le j before = elim (cases_lt j i) [ inl less ↦ omega (arith, rising.apart j i less lt, rising.whole j (omega (arith, less, lt)), le) | inr more ↦ (let e : j ≡ i = omega (arith, more, before) in rw e le) ]
-
 -- what has k tells what is read there, and no other
 pub value_lies : (ss : List Span) → IsRising ss → (k i : ℕ) → LiesInSpan ss k i → value_at ss k ≡ Some (nth ss i).value
 value_lies ss rising k i lies = value_here ss i k (ends_below ss rising i k lies.within lies.from) lies.within lies.from lies.to

@@ -41,6 +41,3 @@ module _ (ss : List Span) (rising : IsRising ss) (joined : AreSpansJoined ss) wh
     begins = begins i at;
     ends = ends i at;
   }
-
-  pub next_none : (i k : ℕ) → Misses ss k i → i ≡ length ss → (q : ℕ) → k ≤ q → value_at ss q ≡ None
-  next_none i k m e q le = value_none ss q (λ j in_range from to. omega (arith, m.below j (omega (arith, in_range, e)), le, to))

@@ -39,6 +39,18 @@ pub record Parts (ss : List Span) (k i : ℕ) : Type 0 where
   pub below : (j : ℕ) → j < i → (nth ss j).low ≤ k
   pub above : (j : ℕ) → i ≤ j → j < length ss → k < (nth ss j).low
 
+-- spans before place i end below k, and the others at k or later
+pub record IsFirst (ss : List Span) (k i : ℕ) : Type 0 where
+  pub bound : i ≤ length ss
+  pub below : (j : ℕ) → j < i → (nth ss j).high < k
+  pub above : (j : ℕ) → i ≤ j → j < length ss → k ≤ (nth ss j).high
+
+-- s is the first span that ends at k or later, and stands at place i
+pub record FirstAt (ss : List Span) (k i : ℕ) (s : Span) : Type 0 where
+  pub within : i < length ss
+  pub span : s ≡ nth ss i
+  pub first : IsFirst ss k i
+
 abbrev pub raised : List Span → ℕ → ℕ → List Span
 raised ss i high = set ss i (record { low = (nth ss i).low; high = high; value = (nth ss i).value })
 

@@ -1,9 +1,9 @@
 //! Spans of a line of numbers that have a value each: what is read, put in one place, and carried on.
 
-ghost use Rattle.std.specs.Prelude.{◌≡◌, ◌≢◌, ℕ, suc, ◌+◌, ◌-◌, ◌<◌, ◌≤◌, true, length, Some, None, Option, [], insert, IfOk, IfErr, IsSome, MatchBool, MatchResult};
+ghost use Rattle.std.specs.Prelude.{◌≡◌, ◌≢◌, ℕ, suc, ◌+◌, ◌-◌, ◌<◌, ◌≤◌, true, length, Some, None, Option, [], insert, IfOk, IfErr, IsSome, MatchBool, MatchOption, MatchResult};
 ghost use Rattle.rept_versions.specs.Moves.{MovesOnLine};
 ghost use Rattle.rept_versions.specs.Puts.{Puts, Ups, Downs, UpStep, DownStep};
-ghost use Rattle.rept_versions.specs.Line.{IsRising, AreSpansJoined, IsJoinedBut, JoinedAt, Parts, LiesInSpan, Misses, FollowsAt, PrecedesAt, ReadsSame, Added, NextsOn, nth, value_at, raised, lowered, joined, filled, filled_down};
+ghost use Rattle.rept_versions.specs.Line.{IsRising, AreSpansJoined, IsJoinedBut, JoinedAt, IsFirst, FirstAt, LiesInSpan, Misses, FollowsAt, PrecedesAt, ReadsSame, Added, NextsOn, nth, value_at, raised, lowered, joined, filled, filled_down};
 
 use crate::blocks::Blocks;
 use crate::span::Span;
@@ -28,6 +28,13 @@ pub enum Put {
     Clash(u8),
     /// Nothing is there, and there is no room.
     Full,
+}
+
+/// A span and its place.
+#[derive(Clone, Copy, PartialEq, Eq, Debug)]
+struct Found {
+    place: usize,
+    span: Span,
 }
 
 /// What `carry` did.
@@ -89,79 +96,123 @@ impl SpanLine {
         })
     }
 
-    /// How many spans begin at or below k.
-    fn find(&self, k: u64) -> usize
-        ensures parts { Parts self.now.spans k result }
+    /// The first span that ends at k or later.
+    fn seek(&self, k: u64) -> Option<Found>
+        ensures first { MatchOption result (IsFirst self.now.spans k (length self.now.spans)) (λ f. FirstAt self.now.spans k f.place f.span) }
         ensures rising { IsRising self.now.spans }
     {
         let near = self.near[lane(k)].get();
-        if self.splits(near, k) {
-            return near;
+        if near >= self.count() {
+            return self.seek_between(0, self.count(), k);
         }
-        if near < usize::MAX && self.splits(near + 1, k) {
-            self.near[lane(k)].set(near + 1);
-            return near + 1;
+        let s = self.at(near);
+        if s.high < k {
+            return self.seek_up(near, k);
         }
-        self.find_near(k)
+        if s.low <= k || near == 0 {
+            return Some(Found {
+                place: near,
+                span: s,
+            });
+        }
+        let t = self.at(near - 1);
+        if t.high < k {
+            return Some(Found {
+                place: near,
+                span: s,
+            });
+        }
+        self.seek_down(near - 1, t, k)
     }
 
-    /// So, by halves: first around the last answer.
-    fn find_near(&self, k: u64) -> usize
-        ensures parts { Parts self.now.spans k result }
+    /// So, where the span at a place ends below k.
+    fn seek_up(&self, near: usize, k: u64) -> Option<Found>
+        requires within { near < length self.now.spans }
+        requires below { (nth self.now.spans near).high < k }
+        ensures first { MatchOption result (IsFirst self.now.spans k (length self.now.spans)) (λ f. FirstAt self.now.spans k f.place f.span) }
         ensures rising { IsRising self.now.spans }
     {
-        let mut low = self.low_near(k);
-        let mut high = self.high_near(k);
+        if near == self.count() - 1 {
+            return None;
+        }
+        let next = near + 1;
+        let t = self.at(next);
+        if k <= t.high {
+            self.near[lane(k)].set(next);
+            return Some(Found {
+                place: next,
+                span: t,
+            });
+        }
+        self.seek_between(next + 1, self.end_after(next, k), k)
+    }
+
+    /// All spans from this place on end at k or later. It is a little after a given place, or else the end.
+    fn end_after(&self, place: usize, k: u64) -> usize
+        requires { place < length self.now.spans }
+        ensures after { place < result }
+        ensures bound { result ≤ length self.now.spans }
+        ensures above { (j : ℕ) → result ≤ j → j < length self.now.spans → k ≤ (nth self.now.spans j).high }
+    {
+        let last = place.saturating_add(NEAR);
+        let count = self.count();
+        if last < count && k <= self.at(last).high {
+            return last;
+        }
+        count
+    }
+
+    /// So, where the span at a place ends at k or later.
+    fn seek_down(&self, near: usize, s: Span, k: u64) -> Option<Found>
+        requires within { near < length self.now.spans }
+        requires span { s ≡ nth self.now.spans near }
+        requires reaches { k ≤ s.high }
+        ensures first { MatchOption result (IsFirst self.now.spans k (length self.now.spans)) (λ f. FirstAt self.now.spans k f.place f.span) }
+        ensures rising { IsRising self.now.spans }
+    {
+        if s.low <= k {
+            self.near[lane(k)].set(near);
+            return Some(Found {
+                place: near,
+                span: s,
+            });
+        }
+        let first = near.saturating_sub(NEAR);
+        let low = if self.at(first).high < k {
+            first + 1
+        } else {
+            0
+        };
+        self.seek_between(low, near, k)
+    }
+
+    /// So, by halves.
+    fn seek_between(&self, from: usize, to: usize, k: u64) -> Option<Found>
+        requires ordered { from ≤ to }
+        requires bound { to ≤ length self.now.spans }
+        requires below { (j : ℕ) → j < from → (nth self.now.spans j).high < k }
+        requires above { (j : ℕ) → to ≤ j → j < length self.now.spans → k ≤ (nth self.now.spans j).high }
+        ensures first { MatchOption result (IsFirst self.now.spans k (length self.now.spans)) (λ f. FirstAt self.now.spans k f.place f.span) }
+        ensures rising { IsRising self.now.spans }
+    {
+        let mut low = from;
+        let mut high = to;
         while low < high {
             let middle = low + (high - low) / 2;
-            let s = self.at(middle);
-            if s.low <= k {
+            if self.at(middle).high < k {
                 low = middle + 1;
             } else {
                 high = middle;
             }
         }
+        if low == self.count() {
+            return None;
+        }
         self.near[lane(k)].set(low);
-        low
-    }
-
-    /// Whether the spans before a place begin at or below k, and the others above it.
-    fn splits(&self, place: usize, k: u64) -> bool
-        ensures { result ≡ true → Parts self.now.spans k place }
-    {
-        let count = self.count();
-        if place > count {
-            return false;
-        }
-        if place > 0 && k < self.at(place - 1).low {
-            return false;
-        }
-        place == count || k < self.at(place).low
-    }
-
-    /// All spans before this place begin at or below k. It is a little before the last answer, or else the first place.
-    fn low_near(&self, k: u64) -> usize
-        ensures bound { result ≤ length self.now.spans }
-        ensures below { (j : ℕ) → j < result → (nth self.now.spans j).low ≤ k }
-    {
-        let first = self.near[lane(k)].get().saturating_sub(NEAR);
-        if first < self.count() && self.at(first).low <= k {
-            return first + 1;
-        }
-        0
-    }
-
-    /// All spans from this place on begin above k. It is a little after the last answer, or else the end.
-    fn high_near(&self, k: u64) -> usize
-        ensures bound { result ≤ length self.now.spans }
-        ensures above { (j : ℕ) → result ≤ j → j < length self.now.spans → k < (nth self.now.spans j).low }
-    {
-        let last = self.near[lane(k)].get().saturating_add(NEAR);
-        let len = self.count();
-        if last < len && k < self.at(last).low {
-            return last;
-        }
-        len
+        Some(Found {
+            place: low,
+            span: self.at(low),
+        })
     }
 
     /// The span at a place.
@@ -183,7 +234,8 @@ impl SpanLine {
 
     /// How many spans there are.
     fn count(&self) -> usize
-        ensures { result ≡ length self.now.spans }
+        ensures len { result ≡ length self.now.spans }
+        ensures rising { IsRising self.now.spans }
     {
         self.spans.len()
     }
@@ -200,21 +252,29 @@ impl SpanLine {
         ensures place { MatchResult result (LiesInSpan self.now.spans k) (Misses self.now.spans k) }
         ensures rising { IsRising self.now.spans }
     {
-        let i = self.find(k);
-        if i == 0 {
-            return Err(0);
+        match self.seek(k) {
+            None => Err(self.count()),
+            Some(f) => {
+                if f.span.low <= k {
+                    return Ok(f.place);
+                }
+                Err(f.place)
+            }
         }
-        let s = self.at(i - 1);
-        if k <= s.high { Ok(i - 1) } else { Err(i) }
     }
 
     /// The value at k.
     pub fn value_at(&self, k: u64) -> Option<u8>
         ensures { result ≡ value_at self.now.spans k }
     {
-        match self.place(k) {
-            Ok(i) => Some(self.at(i).value),
-            Err(_) => None,
+        match self.seek(k) {
+            None => None,
+            Some(f) => {
+                if f.span.low <= k {
+                    return Some(f.span.value);
+                }
+                None
+            }
         }
     }
 
@@ -563,14 +623,9 @@ impl SpanLine {
         requires joined { AreSpansJoined self.now.spans }
         ensures { NextsOn self.now.spans k result }
     {
-        match self.place(k) {
-            Ok(i) => Some(self.at(i)),
-            Err(i) => {
-                if i == self.count() {
-                    return None;
-                }
-                Some(self.at(i))
-            }
+        match self.seek(k) {
+            None => None,
+            Some(f) => Some(f.span),
         }
     }
 }
