@@ -248,8 +248,7 @@ fn index_at(places: &[usize], p: usize, end: usize) -> usize
 pub fn meets(row: &Writing, m: u32, w: u32, a: u32) -> bool
     ensures { (result ≡ true) ↔ ((call_hits row.now.access a ≡ true) × (m < row.now.to) × (row.now.from ≤ w)) }
 {
-    let access = row.access;
-    m < row.to && row.from <= w && access.may_hit(a)
+    m < row.to && row.from <= w && row.access.may_hit(a)
 }
 
 /// The greater one of a number and that after which a row may fall, if it may write the address.
@@ -257,8 +256,7 @@ pub fn later(found: u32, row: &Writing, a: u32) -> u32
     ensures found { found ≤ result }
     ensures to { call_hits row.now.access a ≡ true → row.now.to ≤ result }
 {
-    let access = row.access;
-    if access.may_hit(a) {
+    if row.access.may_hit(a) {
         found.max(row.to)
     } else {
         found
@@ -270,8 +268,7 @@ pub fn earlier(found: u32, row: &Writing, a: u32) -> u32
     ensures found { result ≤ found }
     ensures from { call_hits row.now.access a ≡ true → result ≤ row.now.from }
 {
-    let access = row.access;
-    if access.may_hit(a) {
+    if row.access.may_hit(a) {
         found.min(row.from)
     } else {
         found

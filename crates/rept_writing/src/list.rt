@@ -67,8 +67,8 @@ pub struct Writings {
     replaced: usize,
     /// where an address was found last in `narrow`, for each of the four bytes of a word. It only saves work: no clause rests on it.
     near: [Cell<usize>; 4],
-    /// where a number was found last in the list, to save work too
-    near_number: Cell<usize>,
+    /// where numbers were found last in the list, to save work too
+    near_number: [Cell<usize>; 4],
 }
 
 impl Model for Writings {
@@ -112,7 +112,7 @@ impl Writings {
             is_indexed: false,
             replaced: 0,
             near: [Cell::new(0), Cell::new(0), Cell::new(0), Cell::new(0)],
-            near_number: Cell::new(0),
+            near_number: [Cell::new(0), Cell::new(0), Cell::new(0), Cell::new(0)],
         })
     }
 
@@ -225,7 +225,7 @@ impl Writings {
                 self.wide.as_slice(),
                 self.blocks.as_slice(),
                 k,
-                end,
+                narrow.unwrap_or(end),
                 a,
             );
             sooner(narrow, wide)
@@ -324,7 +324,11 @@ impl Writings {
         ensures bound { result ≤ length self.now.list }
         ensures split { AreInOrder self.now.list → IsSplitAt self.now.list number result }
     {
-        before_near(self.list.as_slice(), number, &self.near_number)
+        before_near(
+            self.list.as_slice(),
+            number,
+            &self.near_number[number as usize % 4],
+        )
     }
 
     /// The index after the last row from an index on at a lower number that may write the address, or that index where there is none.
