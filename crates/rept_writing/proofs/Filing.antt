@@ -2,6 +2,7 @@
 use Rattle.std.proofs.Common.{◌≡◌, ℕ, ◌<◌, ◌≤◌, ◌^◌, ◌⊎◌, Bool, true, false, List, Option, Some, None, inl, inr, refl, sym, arith, subst}
 use Rattle.std.specs.Prelude.{min, max}
 use Rattle.std.specs.List.{Contains}
+use Rattle.std.specs.Option.{unwrap_or}
 use Rattle.std.proofs.lemmas.List.Elements.{All-contains}
 use Rattle.std.specs.List.Sorted.{IsPermutation}
 use Rattle.std.proofs.lemmas.List.Sorted.{All-permutation, Contains-permutation}
@@ -24,6 +25,13 @@ sooner_first P Q R k end (Some m) (Some n) p q each x y = (omega (arith, x.0, y.
 
     least : R (min m n)
     least = elim either [ inl e ↦ subst R (sym e) (p m x.2) | inr e ↦ subst R (sym e) (q n y.2) ]
+
+-- the first of which the one or the other holds, where the other one is looked for only before the one that was found
+pub first_of_both : (P Q R : ℕ → Type 0) (k end : ℕ) (x y : Option ℕ) → ((j : ℕ) → P j → R j) → ((j : ℕ) → Q j → R j) → ((j : ℕ) → R j → P j ⊎ Q j) → IsFirst P k end x → IsFirst Q k (unwrap_or x end) y → IsFirst R k end (sooner x y)
+first_of_both P Q R k end None None p q each x y = sooner_first P Q R k end None None p q each x y
+first_of_both P Q R k end None (Some n) p q each x y = sooner_first P Q R k end None (Some n) p q each x y
+first_of_both P Q R k end (Some m) None p q each x y = (x.0, x.1, p m x.2, λ j low lt r. elim (each j r) [ inl h ↦ x.3 j low lt h | inr h ↦ y j low lt h ])
+first_of_both P Q R k end (Some m) (Some n) p q each x y = sooner_first P Q R k end (Some m) (Some n) p q each x (y.0, omega (arith, x.1, y.1), y.2, y.3)
 
 -- none before another number, where the least one isn't below that
 pub none_of_least : (P : ℕ → Type 0) (k end h : ℕ) → end ≤ h → IsLeast P k (Some h) → IsFirst P k end None
@@ -51,9 +59,9 @@ next list k end a (Some h) first = (
 )
 
 -- the first row, from the first of the single addresses and the first of the rows of many
-pub first_filed : (list : List Writing) (narrow : List Hit) (wide : List ℕ) (k end a : ℕ) (x y : Option ℕ) → IsFiled list narrow wide → a < 2 ^ 32 → IsFirst (λ j. Contains narrow (hit a j)) k end x → IsFirst (λ j. Contains wide j × (hits_at list j a ≡ true)) k end y → IsNextHitBelow list k end a (sooner x y)
+pub first_filed : (list : List Writing) (narrow : List Hit) (wide : List ℕ) (k end a : ℕ) (x y : Option ℕ) → IsFiled list narrow wide → a < 2 ^ 32 → IsFirst (λ j. Contains narrow (hit a j)) k end x → IsFirst (λ j. Contains wide j × (hits_at list j a ≡ true)) k (unwrap_or x end) y → IsNextHitBelow list k end a (sooner x y)
 first_filed list narrow wide k end a x y filed small first second =
-    next list k end a (sooner x y) (sooner_first (λ j. Contains narrow (hit a j)) (λ j. Contains wide j × (hits_at list j a ≡ true)) (λ j. hits_at list j a ≡ true) k end x y
+    next list k end a (sooner x y) (first_of_both (λ j. Contains narrow (hit a j)) (λ j. Contains wide j × (hits_at list j a ≡ true)) (λ j. hits_at list j a ≡ true) k end x y
     (λ j there. All-contains (λ (h : Hit). hits_at list h.index h.address ≡ true) narrow (hit a j) filed.sound there)
     (λ j there. there.1)
     (λ j hits. elim (filed.complete j a small hits) [ inl there ↦ inl there | inr there ↦ inr (there, hits) ])

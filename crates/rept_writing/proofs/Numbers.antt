@@ -1,13 +1,14 @@
 -- The place after the last row that may write an address, by the numbers at which the rows stand.
-use Rattle.std.proofs.Common.{◌≡◌, ℕ, ◌<◌, ◌≤◌, inl, inr, true, false, List, length, get_or, Option, Some, None, refl, ◌∙◌, ap, subst, arith}
+use Rattle.std.proofs.Common.{◌≡◌, ℕ, ◌-◌, ◌<◌, ◌≤◌, inl, inr, true, false, List, length, get_or, Option, Some, None, refl, ◌∙◌, ap, subst, arith}
 use Rattle.std.specs.Prelude.{slice_get, nat_lt}
 use Rattle.std.specs.List.Sorted.{IsPartitionPoint}
 use Rattle.std.proofs.lemmas.Bool.Decides.{nat_tests}
 use Rattle.std.proofs.lemmas.Bool.{cases_lt}
+use Rattle.std.proofs.lemmas.List.{get_or_default}
 use Rattle.std.proofs.lemmas.Option.{slice_get_within, slice_get-get_or}
 use Rattle.rept_alias.specs.Accesses.{call_hits}
 use Rattle.rept_writing.specs.declared.list.Writing.{Writing}
-use Rattle.rept_writing.specs.Hits.{hits_at, writing_hits, IsHitBefore, IsPastHitFrom, IsSplitAt}
+use Rattle.rept_writing.specs.Hits.{AreInOrder, hits_at, writing_hits, IsHitBefore, IsPastHitFrom, IsSplitAt}
 use Rattle.rept_writing.specs.Filed.{IsPast}
 
 -- the rows before index k are those at lower numbers
@@ -36,6 +37,20 @@ split_at list number k cut = record {
   below = λ j w is lt. subst (λ (x : Writing). x.at < number) (read list j w is) (cut.below j w lt);
   above = λ j w is le. subst (λ (x : Writing). number ≤ x.at) (read list j w is) (cut.above j w le (slice_get_within list j w is));
 }
+
+-- the place of a number, by the two rows beside it
+pub split_between : (list : List Writing) (number k : ℕ) (d : Writing) → k ≤ length list → (0 < k → (get_or list (k - 1) d).at < number) → (k < length list → number ≤ (get_or list k d).at) → AreInOrder list → IsSplitAt list number k
+split_between list number k d bound low high up = split_at list number k (record {
+  bound = bound;
+  below = λ j e lt.
+      let last : (get_or list (k - 1) e).at < number = subst (λ (x : Writing). x.at < number) (get_or_default list (k - 1) d e (omega (arith, lt, bound))) (low (omega (arith, lt))) in
+      let far = up j (k - 1) e (omega (arith, lt)) (omega (arith, lt, bound)) in
+      omega (arith, last, far);
+  above = λ j e le inside.
+      let first : number ≤ (get_or list k e).at = subst (λ (x : Writing). number ≤ x.at) (get_or_default list k d e (omega (arith, le, inside))) (high (omega (arith, le, inside))) in
+      let far = up k j e le inside in
+      omega (arith, first, far);
+})
 
 hit_before : (list : List Writing) (number k a j : ℕ) → IsSplitAt list number k → j < k → hits_at list j a ≡ true → IsHitBefore list number a j
 hit_before list number k a j split lt h =

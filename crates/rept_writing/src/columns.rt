@@ -10,9 +10,10 @@ ghost use Rattle.rept_writing.specs.Filed.{IsFirst};
 ghost use Rattle.rept_writing.specs.Falling.{AreColumns, AreLeastOnward, AreTaken, IsAround, IsUntil, IsSince, room_of};
 
 use crate::bounds::{Bounds, bounds_of_all};
-use crate::cuts::{below, up_to};
+use crate::cuts::{below_near, up_to_near};
 use crate::list::Writing;
 use std::alloc::{AllocError as OutOfMemory, Global};
+use std::cell::Cell;
 
 /// The indices of the rows of one kind, with what tells fast which of them may fall between two numbers.
 #[derive(Drop)]
@@ -25,6 +26,10 @@ pub struct Columns {
     firsts: Vec<u32>,
     /// the greatest `to` of each one and those before it
     lasts: Vec<u32>,
+    /// where the searches of `lasts`, of `firsts` and of `places` ended last. It only saves work: no clause rests on it.
+    near_last: Cell<usize>,
+    near_first: Cell<usize>,
+    near_place: Cell<usize>,
 }
 
 impl Columns {
@@ -41,6 +46,9 @@ impl Columns {
             places,
             firsts,
             lasts,
+            near_last: Cell::new(0),
+            near_first: Cell::new(0),
+            near_place: Cell::new(0),
         })
     }
 
@@ -110,8 +118,8 @@ impl Columns {
         requires { AreColumns list.now self.now }
         ensures { IsAround list.now self.now.is_call (record { from = m; to = w; address = 0 }) result.0 result.1 }
     {
-        let low = up_to(self.lasts.as_slice(), m);
-        let high = up_to(self.firsts.as_slice(), w);
+        let low = up_to_near(self.lasts.as_slice(), m, &self.near_last);
+        let high = up_to_near(self.firsts.as_slice(), w, &self.near_first);
         let places = self.places.as_slice();
         (
             index_at(places, low, list.len()),
@@ -124,12 +132,12 @@ impl Columns {
         requires { AreColumns list.now self.now }
         ensures { IsFirst (λ j. Contains self.now.places.items j × IsMeeting list.now (record { from = m; to = w; address = a }) j) k (length list.now) result }
     {
-        let late = up_to(self.lasts.as_slice(), m);
-        let end = up_to(self.firsts.as_slice(), w);
+        let late = up_to_near(self.lasts.as_slice(), m, &self.near_last);
+        let end = up_to_near(self.firsts.as_slice(), w, &self.near_first);
         if late >= end {
             return None;
         }
-        let start = below(self.places.as_slice(), k);
+        let start = below_near(self.places.as_slice(), k, &self.near_place);
         for p in late.max(start)..end {
             let j = self.places[p];
             if meets(&list[j], m, w, a) {
@@ -152,7 +160,7 @@ impl Columns {
         requires { AreColumns list.now self.now }
         ensures { IsSince list.now self.now.is_call (λ j w. j < k) result }
     {
-        let p = below(self.places.as_slice(), k);
+        let p = below_near(self.places.as_slice(), k, &self.near_place);
         if p == 0 { 0 } else { self.lasts[p - 1] }
     }
 
@@ -161,7 +169,7 @@ impl Columns {
         requires { AreColumns list.now self.now }
         ensures { IsUntil list.now self.now.is_call (λ j w. k ≤ j) result }
     {
-        let p = below(self.places.as_slice(), k);
+        let p = below_near(self.places.as_slice(), k, &self.near_place);
         if p < self.firsts.len() {
             self.firsts[p]
         } else {
@@ -177,7 +185,7 @@ impl Columns {
         ensures since { IsSince list.now self.now.is_call (λ j w. (j < k) × (call_hits w.access a ≡ true)) result }
     {
         let mut found = least;
-        let end = below(self.places.as_slice(), k);
+        let end = below_near(self.places.as_slice(), k, &self.near_place);
         for p in (0..end).rev() {
             if self.lasts[p] <= found {
                 return found;
@@ -195,7 +203,7 @@ impl Columns {
         ensures until { IsUntil list.now self.now.is_call (λ j w. (k ≤ j) × (call_hits w.access a ≡ true)) result }
     {
         let mut found = most;
-        let start = below(self.places.as_slice(), k);
+        let start = below_near(self.places.as_slice(), k, &self.near_place);
         for p in start..self.places.len() {
             if found <= self.firsts[p] {
                 return found;
@@ -240,8 +248,7 @@ fn index_at(places: &[usize], p: usize, end: usize) -> usize
 pub fn meets(row: &Writing, m: u32, w: u32, a: u32) -> bool
     ensures { (result ≡ true) ↔ ((call_hits row.now.access a ≡ true) × (m < row.now.to) × (row.now.from ≤ w)) }
 {
-    let access = row.access;
-    m < row.to && row.from <= w && access.may_hit(a)
+    m < row.to && row.from <= w && row.access.may_hit(a)
 }
 
 /// The greater one of a number and that after which a row may fall, if it may write the address.
@@ -249,8 +256,7 @@ pub fn later(found: u32, row: &Writing, a: u32) -> u32
     ensures found { found ≤ result }
     ensures to { call_hits row.now.access a ≡ true → row.now.to ≤ result }
 {
-    let access = row.access;
-    if access.may_hit(a) {
+    if row.access.may_hit(a) {
         found.max(row.to)
     } else {
         found
@@ -262,8 +268,7 @@ pub fn earlier(found: u32, row: &Writing, a: u32) -> u32
     ensures found { result ≤ found }
     ensures from { call_hits row.now.access a ≡ true → result ≤ row.now.from }
 {
-    let access = row.access;
-    if access.may_hit(a) {
+    if row.access.may_hit(a) {
         found.min(row.from)
     } else {
         found

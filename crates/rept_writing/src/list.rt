@@ -8,6 +8,7 @@ ghost use Rattle.rept_writing.specs.Filed.{IsFiled, IsFirst, sooner};
 
 use crate::bounds::{Bounds, blocks_of, bound_all, bounds_of_all, widen, with_call, with_row};
 use crate::columns::{Columns, meets};
+use crate::cuts::before_near;
 use crate::narrow::{Hit, file, next_narrow, past_narrow};
 use crate::wide::{next_wide, past_wide, place_of, scan, scan_back, scan_since, scan_until};
 use rept_alias::CallAccess;
@@ -64,8 +65,10 @@ pub struct Writings {
     is_indexed: bool,
     /// how many of the others were replaced since then
     replaced: usize,
-    /// where an address was found last in `narrow`. It only saves work: no clause rests on it.
-    near: Cell<usize>,
+    /// where an address was found last in `narrow`, for each of the four bytes of a word. It only saves work: no clause rests on it.
+    near: [Cell<usize>; 4],
+    /// where numbers were found last in the list, to save work too
+    near_number: [Cell<usize>; 4],
 }
 
 impl Model for Writings {
@@ -108,7 +111,8 @@ impl Writings {
             others,
             is_indexed: false,
             replaced: 0,
-            near: Cell::new(0),
+            near: [Cell::new(0), Cell::new(0), Cell::new(0), Cell::new(0)],
+            near_number: [Cell::new(0), Cell::new(0), Cell::new(0), Cell::new(0)],
         })
     }
 
@@ -206,7 +210,13 @@ impl Writings {
     {
         let list = self.list.as_slice();
         if self.is_indexed {
-            let narrow = next_narrow(self.narrow.as_slice(), k, end, a, &self.near);
+            let narrow = next_narrow(
+                self.narrow.as_slice(),
+                k,
+                end,
+                a,
+                &self.near[a as usize % 4],
+            );
             if !self.wide_bounds.has(a) {
                 return narrow;
             }
@@ -215,7 +225,7 @@ impl Writings {
                 self.wide.as_slice(),
                 self.blocks.as_slice(),
                 k,
-                end,
+                narrow.unwrap_or(end),
                 a,
             );
             sooner(narrow, wide)
@@ -314,8 +324,11 @@ impl Writings {
         ensures bound { result ≤ length self.now.list }
         ensures split { AreInOrder self.now.list → IsSplitAt self.now.list number result }
     {
-        let list = self.list.as_slice();
-        list.partition_point(|w| w.at < number)
+        before_near(
+            self.list.as_slice(),
+            number,
+            &self.near_number[number as usize % 4],
+        )
     }
 
     /// The index after the last row from an index on at a lower number that may write the address, or that index where there is none.
@@ -328,7 +341,7 @@ impl Writings {
         let list = self.list.as_slice();
         let k = self.before(number);
         if self.is_indexed {
-            let narrow = past_narrow(self.narrow.as_slice(), k, a, &self.near);
+            let narrow = past_narrow(self.narrow.as_slice(), k, a, &self.near[a as usize % 4]);
             if !self.wide_bounds.has(a) {
                 return narrow.max(low);
             }

@@ -19,8 +19,7 @@ pub fn scan(list: &[Writing], k: usize, end: usize, a: u32) -> Option<usize>
 {
     let last = end.min(list.len());
     for j in k..last {
-        let access = list[j].access;
-        if access.may_hit(a) {
+        if list[j].access.may_hit(a) {
             return Some(j);
         }
     }
@@ -34,8 +33,7 @@ pub fn scan_back(list: &[Writing], low: usize, k: usize, a: u32) -> usize
     ensures { IsPast (λ j. hits_at list.now j a ≡ true) low k result }
 {
     for j in (low..k).rev() {
-        let access = list[j].access;
-        if access.may_hit(a) {
+        if list[j].access.may_hit(a) {
             return j + 1;
         }
     }
@@ -70,8 +68,7 @@ fn writes(list: &[Writing], wide: &[usize], place: usize, a: u32) -> bool
     requires place { place < length wide.now }
     ensures { result ≡ hits_at list.now (get_or wide.now place 0) a }
 {
-    let access = list[wide[place]].access;
-    access.may_hit(a)
+    list[wide[place]].access.may_hit(a)
 }
 
 /// The first one of these indices, from k to before another one, whose row may write the address. A block whose bounds don't have it is
