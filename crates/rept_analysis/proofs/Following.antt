@@ -1,5 +1,5 @@
 -- What a row lets follow.
-use Rattle.std.proofs.Common.{◌≡◌, ◌≢◌, ℕ, ◌+◌, ◌<◌, ◌≤◌, ◌^◌, eqb, ltb, false, min, List, length, Option, Some, None, inl, inr, refl, sym, ap, subst, ◌∙◌, arith, Contains, slice_get, get_or}
+use Rattle.std.proofs.Common.{◌≡◌, ◌≢◌, ℕ, ◌+◌, ◌<◌, ◌≤◌, ◌^◌, eqb, ltb, false, min, List, length, Option, Some, None, true, is_some, inl, inr, refl, sym, ap, subst, ◌∙◌, arith, Contains, slice_get, get_or}
 use Rattle.std.specs.Option.{IsSome}
 use Rattle.std.proofs.lemmas.Option.{slice_get-get_or, same_Some}
 use Rattle.std.proofs.lemmas.Bool.{cases_Bool, cond-true, cond-false, ne_eqb, cases_lt, cases_order, lt-ltb, le-ltb, false≢true}
@@ -15,9 +15,10 @@ use Rattle.rept_partial.specs.declared.range.Range.{Range}
 use Rattle.rept_reason.specs.declared.fact.Fact.{Fact}
 use Rattle.rept_reason.specs.declared.fact.Cell.{Cell}
 use Rattle.rept_reason.specs.declared.fact.Cell.TheVariants.{Register, Byte}
-use Rattle.rept_reason.specs.Facts.{told, flat, register_known}
+use Rattle.rept_reason.specs.Facts.{Knowledge, told, flat, register_known}
 use Rattle.rept_span.specs.Ranges.{Legs, range}
 use Rattle.rept_span.specs.Filled.{entry_at}
+use Rattle.rept_span.proofs.RangeLaws.{HasIn}
 use Rattle.rept_view.specs.declared.drawn.When.{When}
 use Rattle.rept_view.specs.declared.drawn.When.TheVariants.{Before, After}
 use Rattle.rept_view.specs.declared.drawn.Drawn.{Drawn}
@@ -35,6 +36,7 @@ use Rattle.rept_report.specs.Conflicts.{IsQuiet}
 use Rattle.rept_report.specs.Log.{oldest, OnceEach}
 use Rattle.rept_report.proofs.Told.{same_some, none_some}
 use Rattle.rept_report.proofs.Places.{oldest_less}
+use Rattle.rept_report.proofs.OnlyValue.{known_only}
 use Rattle.rept_report.proofs.ViewLaws.{LiesIn, known_fact, known_more, known_word, seen_at_lawful, registers_at_lawful, seen_more, ranges_lie}
 use Rattle.rept_report.proofs.Monotony.{quiet_less, single_value_more, Concludes_more}
 use Rattle.rept_analysis.specs.Cells.{bytes_from, bytes_known, base_known}
@@ -311,6 +313,25 @@ module _ {W : Type 0} (s : AnalysisState W) (laws : HasLaws (along s.path)) (wor
       let is : range (way_of (along s.path)) (told (oldest s.filled s.known.log)) p r ≡ Some set = sym (fitted p early_ r in_file) ∙ at in
       let next = single_value_more (along s.path) laws (told (oldest s.filled s.known.log)) (all_known s) (λ q t w e. oldest_less s.filled s.known.log once q (Register t) w e) words quiet p r v set early_ in_file is only in
       record { early = early_; cell = (named, in_file); word = small; by = only_value r next.0 refl next.1 next.2 }
+
+  abbrev filled_by : Knowledge
+  filled_by = told (oldest s.filled s.known.log)
+
+  -- where the facts tell the register's value, the set has no other one
+  pub told_single : (p r : ℕ) → p ≤ s.path.given.legs.count → r < 32 → true ≡ is_some (register_known (told (oldest s.filled s.known.log)) p r) → SingleKnown p r s
+  told_single p r early_ in_file known set v at only named = go (filled_by p (Register r)) refl
+    where
+      other : eqb r 0 ≡ false
+      other = ne_eqb r 0 (λ e. omega (arith, named, e))
+
+      go : (x : Option ℕ) → filled_by p (Register r) ≡ x → Knows p (Register r) v s
+      go None e = absurd (false≢true (sym (known ∙ ap (λ (x : Option ℕ). is_some x) (cond-false (eqb r 0) (Some 0) (filled_by p (Register r)) other ∙ e))))
+      go (Some u) e =
+          let all = oldest_less s.filled s.known.log once p (Register r) u e in
+          let one = laws.sets.some set in
+          let there = subst (λ (x : Option W). HasIn s.path.sets x one.0) (fitted p early_ r in_file) (subst (λ (x : Option W). HasIn s.path.sets x one.0) (sym at) one.1) in
+          let its = known_only (way_of (along s.path)) laws.sets laws.moves filled_by p r u one.0 (words p r u all) (cond-false (eqb r 0) None (filled_by p (Register r)) other ∙ e) there in
+          all ∙ ap Some (sym its ∙ laws.sets.as_exact set v one.0 only one.1)
 
 pub single_known : {W : Type 0} (s : AnalysisState W) (p r w : ℕ) (set : W) → entry_at s.spans p r ≡ Some set → s.path.sets.as_exact set ≡ Some w → IsLearntAt p r (Known w) s → SingleKnown p r s
 single_known s p r w set at only learnt set' v at' only' named =

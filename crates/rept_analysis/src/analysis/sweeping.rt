@@ -223,6 +223,9 @@ impl<'a, P: Reaches + Drop, L: LastValues + Drop, B: ByteFacts, W: Transfer, R: 
     {
         self.held();
         let _number = r.number();
+        if self.known.is_known_below(self.filled, point, r) {
+            return Ok(false);
+        }
         let span = self.span(point, r);
         match span.as_exact() {
             None => Ok(false),

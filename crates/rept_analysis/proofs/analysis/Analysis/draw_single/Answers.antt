@@ -1,10 +1,12 @@
-use Rattle.std.proofs.Common.{Some, sym, ap, ◌∙◌}
+use Rattle.std.proofs.Common.{◌≡◌, ◌<◌, true, is_some, Some, sym, ap, subst, ◌∙◌, arith}
 use Rattle.rept_partial.specs.declared.flat.Flat.TheVariants.{Known}
-use Rattle.rept_analysis.specs.State.{state_of, reader}
+use Rattle.rept_reason.specs.Facts.{told, register_known}
+use Rattle.rept_report.specs.Log.{oldest}
+use Rattle.rept_analysis.specs.State.{Whole, state_of, reader}
 use Rattle.rept_analysis.specs.Drawing.{IsLearntAt, SingleKnown}
 use Rattle.rept_analysis.proofs.Drawn.{Drew_if, Drew_same}
 use Rattle.rept_analysis.proofs.Learning.{known_words}
-use Rattle.rept_analysis.proofs.Following.{single_follows, single_known, no_single, same_flat}
+use Rattle.rept_analysis.proofs.Following.{single_follows, told_single, single_known, no_single, same_flat}
 use Rattle.rept_analysis.proofs.analysis.Analysis.draw_single.Goals as goal
 
 pub learn_if-requires-clause-follows : goal.learn_if-requires-clause-follows
@@ -18,3 +20,10 @@ returns-in-Some-clause-drew g c =
 
 pub returns-in-None-clause-drew : goal.returns-in-None-clause-drew
 returns-in-None-clause-drew g c = Drew_same (state_of (reader g.P.Paths.timeline g.L.LastValues.values) g.W.Partial.sets g.W.Transfer.moves g.R.RowRules.rules g.B.ByteFacts.store c.args.self.now) (SingleKnown c.args.point c.args.r) (no_single (state_of (reader g.P.Paths.timeline g.L.LastValues.values) g.W.Partial.sets g.W.Transfer.moves g.R.RowRules.rules g.B.ByteFacts.store c.args.self.now) c.args.point c.args.r c.span-span.result c.span-span.ensures (sym c.as_exact.ensures ∙ c.in-None.is))
+
+pub returns-then-is_known_below-clause-drew : goal.returns-then-is_known_below-clause-drew
+returns-then-is_known_below-clause-drew g c =
+    let s = state_of (reader g.P.Paths.timeline g.L.LastValues.values) g.W.Partial.sets g.W.Transfer.moves g.R.RowRules.rules g.B.ByteFacts.store c.args.self.now in
+    let in_file : c.args.r < 32 = omega arith in
+    let known = subst (λ (x : Whole g.row.P.Denot g.row.L.Denot g.row.B.Denot g.row.W.Denot g.row.R.Denot). true ≡ is_some (register_known (told (oldest x.filled x.known.log)) c.args.point c.args.r)) c.self.view_is (sym c.if-is_known_below.true ∙ c.is_known_below.ensures) in
+    Drew_same s (SingleKnown c.args.point c.args.r) (told_single s (record { sets = g.met.W.Partial.lawful; moves = g.met.W.Transfer.covers; rules = g.met.R.RowRules.lawful; legs = (g.met.P.Paths.lawful _).legs; moments = (g.met.P.Paths.lawful _).moments }) (known_words s c.held.ensures) c.held.ensures.once c.requires.fitted c.args.point c.args.r c.requires.point in_file known)
