@@ -107,12 +107,12 @@ impl Links {
         Ok(())
     }
 
-    /// Links a number to those next to it.
+    /// Links a number to those next to it, by a list that is lent.
     fn add_nexts(
         &mut self,
-        alloc: Global,
         course: &Course<'_>,
         from: u32,
+        list: &mut Vec<u32>,
     ) -> Result<(), OutOfMemory>
         requires inside { from ≤ (seen_in course.now).moments.end }
         requires laws { AreMoments (seen_in course.now).legs (seen_in course.now).moments }
@@ -120,8 +120,8 @@ impl Links {
         ensures room { OnOk result (AreRoomFor (seen_in course.now).moments self.new) }
         ensures adds { OnOk result (AddsPairs (IsNextOf (seen_in course.now).moments from) self.old self.new) }
     {
-        let mut list = Vec::new(alloc);
-        course.add_nexts(from, &mut list)?;
+        list.clear();
+        course.add_nexts(from, list)?;
         self.add_all(from, list.as_slice())?;
         Ok(())
     }
@@ -133,10 +133,11 @@ impl Links {
     {
         let end = course.end();
         let mut links = unlinked(alloc, end as usize + 1)?;
+        let mut list = Vec::new(alloc);
         for from in 0..end {
-            links.add_nexts(alloc, course, from)?;
+            links.add_nexts(course, from, &mut list)?;
         }
-        links.add_nexts(alloc, course, end)?;
+        links.add_nexts(course, end, &mut list)?;
         Ok(links)
     }
 

@@ -6,13 +6,14 @@ ghost use Rattle.std.specs.List.Sorted.{IsNonDecreasing};
 ghost use Rattle.rept_report.specs.Timeline.{IsLeastFrom, IsGreatestTo};
 ghost use Rattle.rept_carry.specs.Rising.{IsSplit, AddsOne};
 
+use smallvec::SmallVec;
 use std::alloc::{AllocError as OutOfMemory, Global};
 use std::marker::Model;
 
 /// Numbers that rise. Contracts see a list.
 #[derive(Drop)]
 pub struct Rising {
-    list: Vec<u32>,
+    list: SmallVec<u32, 2>,
 }
 
 impl Model for Rising {
@@ -53,7 +54,7 @@ fn is_at(list: &[u32], place: usize, number: u32) -> bool
 }
 
 /// Adds a number in its place, if it isn't there.
-fn insert(list: &mut Vec<u32>, number: u32) -> Result<(), OutOfMemory>
+fn insert(list: &mut SmallVec<u32, 2>, number: u32) -> Result<(), OutOfMemory>
     requires { IsNonDecreasing list.old.items }
     ensures sorted { IsNonDecreasing list.new.items }
     ensures adds { OnOk result (AddsOne number list.old.items list.new.items) }
@@ -71,7 +72,7 @@ impl Rising {
         ensures { result ≡ [] }
     {
         Rising {
-            list: Vec::new(alloc),
+            list: SmallVec::new(alloc),
         }
     }
 
@@ -88,7 +89,7 @@ impl Rising {
         ensures { IsLeastFrom (Contains self.now) least result }
     {
         let place = below(self.list.as_slice(), least);
-        match self.list.get(place) {
+        match self.list.as_slice().get(place) {
             Some(number) => Some(*number),
             None => None,
         }
@@ -102,7 +103,7 @@ impl Rising {
         if place == 0 {
             None
         } else {
-            Some(self.list[place - 1])
+            Some(self.list.as_slice()[place - 1])
         }
     }
 }
