@@ -125,7 +125,7 @@ impl SpanLine {
         self.seek_down(near - 1, t, k)
     }
 
-    /// So, where the span at a place ends below k.
+    /// What `seek` answers where the span at a place ends below k.
     fn seek_up(&self, near: usize, k: u64) -> Option<Found>
         requires within { near < length self.now.spans }
         requires below { (nth self.now.spans near).high < k }
@@ -162,7 +162,7 @@ impl SpanLine {
         count
     }
 
-    /// So, where the span at a place ends at k or later.
+    /// What `seek` answers where the span at a place ends at k or later.
     fn seek_down(&self, near: usize, s: Span, k: u64) -> Option<Found>
         requires within { near < length self.now.spans }
         requires span { s ≡ nth self.now.spans near }
@@ -186,7 +186,7 @@ impl SpanLine {
         self.seek_between(low, near, k)
     }
 
-    /// So, by halves.
+    /// What `seek` answers where the place is one of a range, or the end: by halves.
     fn seek_between(&self, from: usize, to: usize, k: u64) -> Option<Found>
         requires ordered { from ≤ to }
         requires bound { to ≤ length self.now.spans }
