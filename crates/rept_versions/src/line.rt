@@ -34,7 +34,7 @@ pub enum Put {
 }
 
 /// A span and its place.
-#[derive(Clone, Copy, PartialEq, Eq, Debug)]
+#[derive(Clone, Copy)]
 struct Found {
     place: usize,
     span: Span,
