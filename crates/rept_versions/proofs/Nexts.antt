@@ -1,5 +1,5 @@
 -- What the first span at or after a number says.
-use Rattle.std.proofs.Common.{◌≡◌, ℕ, ◌+◌, ◌<◌, ◌≤◌, ◌≢◌, List, length, Some, None, ap, inl, inr, arith}
+use Rattle.std.proofs.Common.{◌≡◌, ℕ, ◌+◌, ◌<◌, ◌≤◌, ◌≢◌, List, length, Some, ap, inl, inr, arith}
 use Rattle.std.proofs.lemmas.Bool.{cases_lt}
 use Rattle.rept_versions.specs.declared.span.Span.{Span}
 use Rattle.rept_versions.specs.Line.{nth, value_at, IsRising, AreSpansJoined, LiesInSpan, Misses, IsNextOn}

@@ -14,6 +14,9 @@ use std::marker::Model;
 /// So many places to each side of the last one a search looks first.
 const NEAR: usize = 8;
 
+/// So many places to each side it looks then.
+const FAR: usize = 128;
+
 /// So many last answers are kept: those of the bytes of a word, which are mostly looked at by turns, apart.
 const LANES: usize = 4;
 
@@ -125,7 +128,7 @@ impl SpanLine {
         self.seek_down(near - 1, t, k)
     }
 
-    /// So, where the span at a place ends below k.
+    /// What `seek` answers where the span at a place ends below k.
     fn seek_up(&self, near: usize, k: u64) -> Option<Found>
         requires within { near < length self.now.spans }
         requires below { (nth self.now.spans near).high < k }
@@ -159,10 +162,14 @@ impl SpanLine {
         if last < count && k <= self.at(last).high {
             return last;
         }
+        let far = place.saturating_add(FAR);
+        if far < count && k <= self.at(far).high {
+            return far;
+        }
         count
     }
 
-    /// So, where the span at a place ends at k or later.
+    /// What `seek` answers where the span at a place ends at k or later.
     fn seek_down(&self, near: usize, s: Span, k: u64) -> Option<Found>
         requires within { near < length self.now.spans }
         requires span { s ≡ nth self.now.spans near }
@@ -177,16 +184,28 @@ impl SpanLine {
                 span: s,
             });
         }
-        let first = near.saturating_sub(NEAR);
-        let low = if self.at(first).high < k {
-            first + 1
-        } else {
-            0
-        };
-        self.seek_between(low, near, k)
+        self.seek_between(self.begin_before(near, k), near, k)
     }
 
-    /// So, by halves.
+    /// All spans before this place end below k. It is a little before a given place, or else the first one.
+    fn begin_before(&self, place: usize, k: u64) -> usize
+        requires within { place < length self.now.spans }
+        requires reaches { k ≤ (nth self.now.spans place).high }
+        ensures before { result ≤ place }
+        ensures below { (j : ℕ) → j < result → (nth self.now.spans j).high < k }
+    {
+        let first = place.saturating_sub(NEAR);
+        if self.at(first).high < k {
+            return first + 1;
+        }
+        let far = place.saturating_sub(FAR);
+        if self.at(far).high < k {
+            return far + 1;
+        }
+        0
+    }
+
+    /// What `seek` answers where the place is one of a range, or the end: by halves.
     fn seek_between(&self, from: usize, to: usize, k: u64) -> Option<Found>
         requires ordered { from ≤ to }
         requires bound { to ≤ length self.now.spans }

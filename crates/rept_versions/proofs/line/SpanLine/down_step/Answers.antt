@@ -1,4 +1,4 @@
-use Rattle.std.proofs.Common.{ℕ, ◌+◌, ◌-◌, subst, sym, ap, ◌∙◌, refl, arith, suc, length, ◌<◌, ◌≡◌, ◌≢◌}
+use Rattle.std.proofs.Common.{◌+◌, ◌-◌, subst, sym, ap, ◌∙◌, refl, arith, suc, length, ◌<◌, ◌≡◌, ◌≢◌}
 use Rattle.rept_versions.specs.Line.{nth, lowered, AreSpansJoined, StoppedDown}
 use Rattle.rept_versions.specs.Puts.{Downs}
 use Rattle.rept_versions.proofs.Carry.{filled_lowered, stopped_lowered, step_down_is, downs_on, on_joined_down, on_length_down, ends_before}

@@ -1,4 +1,4 @@
-use Rattle.std.proofs.Common.{ℕ, subst, ◌+◌, ◌-◌, sym, ap, ◌∙◌, refl, arith, suc, length, ◌<◌, ◌≡◌}
+use Rattle.std.proofs.Common.{subst, ◌+◌, sym, ap, ◌∙◌, refl, arith, suc, length, ◌<◌, ◌≡◌}
 use Rattle.rept_versions.specs.Line.{nth, AreSpansJoined}
 use Rattle.rept_versions.proofs.Carry.{filled_raised, stopped_raised, step_is, ups_on, on_joined, on_length}
 use Rattle.rept_versions.proofs.line.SpanLine.up_step.Goals as goal
