@@ -1,4 +1,4 @@
-use Rattle.std.proofs.Common.{ℕ, ◌<◌, Bool, List, true, length, ◌∙◌, arith, subst, rules}
+use Rattle.std.proofs.Common.{ℕ, ◌<◌, Bool, List, length, ◌∙◌, arith, subst, rules}
 use Rattle.rept_writing.specs.declared.list.Writing.{Writing}
 use Rattle.rept_writing.specs.Bounded.{AreBounded, AreOfKindWithin, AreWithin}
 use Rattle.rept_writing.specs.Filed.{IsFiled}
