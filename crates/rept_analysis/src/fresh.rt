@@ -1,100 +1,215 @@
 //! Which rows may let one conclude something new.
 
+ghost use Rattle.std.specs.Prelude.{◌≤◌};
+
 use std::alloc::{AllocError as OutOfMemory, Global};
 
-/// Of each row, whether something that it looks at was learnt since it was looked at last, and when that was; whether bytes tell nothing more of it, and from where on it looks at them. It only saves work: no clause says what it
-/// keeps.
+/// From where on a row looks at bytes, and how many times something had been learnt of bytes when it was looked at last.
+#[derive(Clone, Copy)]
+struct Look {
+    start: u32,
+    time: u32,
+}
+
+/// The start of a row of which none is kept.
+const NOWHERE: u32 = u32::MAX;
+
+/// The word of a number's bit in a list of bits.
+fn word_of(words: &[u64], number: u32) -> u64 {
+    let k = number as usize / 64;
+    if k < words.len() { words[k] } else { 0 }
+}
+
+/// A number's bit alone.
+fn bit_of(number: u32) -> u64 {
+    1u64.wrapping_shl(number)
+}
+
+/// Of each row, by the number of the moment before it, whether something that it looks at was learnt since it was looked at last, and whether bytes may tell something more of it, each by a bit,
+/// so that a pass finds the next row of which one of them holds without a look at those between; from where on it looks at bytes, and when that was. It only saves work: no clause says what
+/// it keeps.
 #[derive(Drop)]
 pub struct Fresh {
-    list: Vec<bool>,
-    times: Vec<u32>,
-    plain: Vec<bool>,
-    starts: Vec<Option<u32>>,
+    listed: Vec<u64>,
+    open: Vec<u64>,
+    words: u32,
+    looks: Vec<Look>,
 }
 
 impl Fresh {
-    /// No row was looked at yet, of so many rows.
-    pub fn new(alloc: Global, count: usize) -> Result<Fresh, OutOfMemory> {
-        let list = vec![in alloc; true; count]?;
-        let times = vec![in alloc; 0; count]?;
-        let plain = vec![in alloc; false; count]?;
-        let starts = vec![in alloc; None; count]?;
+    /// No row was looked at yet, of those before moments up to a number.
+    pub fn new(alloc: Global, end: u32) -> Result<Fresh, OutOfMemory> {
+        let words = end / 64 + 1;
+        let listed = vec![in alloc; u64::MAX; words as usize]?;
+        let open = vec![in alloc; u64::MAX; words as usize]?;
+        let never = Look {
+            start: NOWHERE,
+            time: 0,
+        };
+        let looks = vec![in alloc; never; end as usize + 1]?;
         Ok(Fresh {
-            list,
-            times,
-            plain,
-            starts,
+            listed,
+            open,
+            words,
+            looks,
         })
     }
 
     /// Whether a row is to be looked at.
-    pub fn has(&self, i: u32) -> bool {
-        let list = self.list.as_slice();
-        let i = i as usize;
-        i < list.len() && list[i]
+    pub fn has(&self, number: u32) -> bool {
+        word_of(self.listed.as_slice(), number) & bit_of(number) != 0
     }
 
     /// Whether bytes tell nothing more of a row: it looks at none, or all that it looks at is known and was drawn.
-    pub fn is_plain(&self, i: u32) -> bool {
-        let plain = self.plain.as_slice();
-        let i = i as usize;
-        i < plain.len() && plain[i]
+    pub fn is_plain(&self, number: u32) -> bool {
+        word_of(self.open.as_slice(), number) & bit_of(number) == 0
     }
 
-    /// Keeps that they don't.
-    pub fn note_plain(&mut self, i: u32) {
-        let i = i as usize;
-        if i < self.plain.len() {
-            self.plain[i] = true;
+    /// Keeps that they tell nothing more.
+    pub fn note_plain(&mut self, number: u32) {
+        let k = number as usize / 64;
+        if k < self.open.len() {
+            self.open[k] = self.open[k] & !bit_of(number);
+        }
+    }
+
+    /// Keeps that a row is to be looked at.
+    pub fn mark(&mut self, number: u32) {
+        let k = number as usize / 64;
+        if k < self.listed.len() {
+            self.listed[k] = self.listed[k] | bit_of(number);
+        }
+    }
+
+    /// Keeps that it is not.
+    fn unmark(&mut self, number: u32) {
+        let k = number as usize / 64;
+        if k < self.listed.len() {
+            self.listed[k] = self.listed[k] & !bit_of(number);
+        }
+    }
+
+    /// Keeps that there is no row before a moment.
+    pub fn note_none(&mut self, number: u32) {
+        self.unmark(number);
+        self.note_plain(number);
+    }
+
+    /// The rows of a word that may tell something.
+    fn word(&self, k: u32) -> u64 {
+        let k = k as usize;
+        let listed = self.listed.as_slice();
+        let open = self.open.as_slice();
+        if k < listed.len() && k < open.len() {
+            listed[k] | open[k]
+        } else {
+            0
+        }
+    }
+
+    /// The first number from one on before which a row may tell something, or one beyond all.
+    pub fn next(&self, number: u32) -> u32
+        ensures { number ≤ result }
+    {
+        if self.has(number) {
+            return number;
+        }
+        let rest = self.word(number / 64).wrapping_shr(number);
+        if rest != 0 {
+            return number.saturating_add(rest.trailing_zeros());
+        }
+        number.max(self.first_from(number / 64 + 1))
+    }
+
+    /// The first of them from a word on.
+    fn first_from(&self, first: u32) -> u32 {
+        for k in first..self.words {
+            let word = self.word(k);
+            if word != 0 {
+                return k.wrapping_mul(64).wrapping_add(word.trailing_zeros());
+            }
+        }
+        u32::MAX
+    }
+
+    /// The number after the last one below one before which a row may tell something; 0 where there is none.
+    pub fn end_below(&self, end: u32) -> u32
+        ensures { result ≤ end }
+    {
+        let last = end.saturating_sub(1);
+        if self.has(last) {
+            return end;
+        }
+        let rest = self.word(last / 64).wrapping_shl(63u32.wrapping_sub(last));
+        if rest != 0 {
+            return end.saturating_sub(rest.leading_zeros());
+        }
+        end.min(self.end_before(last / 64))
+    }
+
+    /// The end of those before a word.
+    fn end_before(&self, last: u32) -> u32 {
+        for k in (0..last).rev() {
+            let word = self.word(k);
+            if word != 0 {
+                return k
+                    .wrapping_add(1)
+                    .wrapping_mul(64)
+                    .wrapping_sub(word.leading_zeros());
+            }
+        }
+        0
+    }
+
+    /// What is kept of a look at a row.
+    fn look(&self, number: u32) -> Look {
+        let looks = self.looks.as_slice();
+        let k = number as usize;
+        if k < looks.len() {
+            looks[k]
+        } else {
+            Look {
+                start: NOWHERE,
+                time: 0,
+            }
         }
     }
 
     /// The address of the first byte that a row looks at, if it was kept.
-    pub fn start(&self, i: u32) -> Option<u32> {
-        let starts = self.starts.as_slice();
-        let i = i as usize;
-        if i < starts.len() { starts[i] } else { None }
+    pub fn start(&self, number: u32) -> Option<u32> {
+        let start = self.look(number).start;
+        if start == NOWHERE { None } else { Some(start) }
     }
 
     /// Keeps it.
-    pub fn note_start(&mut self, i: u32, start: u32) {
-        let i = i as usize;
-        if i < self.starts.len() {
-            self.starts[i] = Some(start);
-        }
-    }
-
-    /// Keeps whether it is.
-    fn put(&mut self, i: u32, is_fresh: bool) {
-        let i = i as usize;
-        if i < self.list.len() {
-            self.list[i] = is_fresh;
-        }
-    }
-
-    /// Keeps when that was.
-    fn put_time(&mut self, i: u32, time: u32) {
-        let i = i as usize;
-        if i < self.times.len() {
-            self.times[i] = time;
-        }
-    }
-
-    /// Keeps that a row was looked at when something had been learnt of bytes so many times, and whether that told something new: then it is to be looked at
-    /// again, and so are the rows beside it.
-    pub fn note(&mut self, i: u32, has_news: bool, time: u32) {
-        self.put(i, has_news);
-        self.put_time(i, time);
-        if has_news {
-            self.put(i.wrapping_sub(1), true);
-            self.put(i.wrapping_add(1), true);
+    pub fn note_start(&mut self, number: u32, start: u32) {
+        let k = number as usize;
+        if k < self.looks.len() {
+            self.looks[k].start = start;
         }
     }
 
     /// How many times something had been learnt of bytes when a row was looked at last.
-    pub fn time(&self, i: u32) -> u32 {
-        let times = self.times.as_slice();
-        let i = i as usize;
-        if i < times.len() { times[i] } else { 0 }
+    pub fn time(&self, number: u32) -> u32 {
+        self.look(number).time
+    }
+
+    /// Keeps when a row was looked at.
+    fn note_time(&mut self, number: u32, time: u32) {
+        let k = number as usize;
+        if k < self.looks.len() {
+            self.looks[k].time = time;
+        }
+    }
+
+    /// Keeps that a row was looked at when something had been learnt of bytes so many times, and whether that told something new: then it is to be looked at
+    /// again.
+    pub fn note(&mut self, number: u32, has_news: bool, time: u32) {
+        self.note_time(number, time);
+        if has_news {
+            self.mark(number);
+        } else {
+            self.unmark(number);
+        }
     }
 }

@@ -49,7 +49,7 @@ impl<B: ByteFacts, W: Transfer> Tables<B, W> {
         let spans = Spans::new(alloc, count + 1)?;
         let writing = Writings::new(alloc, end as usize + 1, bytes as usize)?;
         let drawn = Passes::new(alloc, count as usize)?;
-        let fresh = Fresh::new(alloc, count as usize)?;
+        let fresh = Fresh::new(alloc, end)?;
         let recent = Recent::new(alloc)?;
         let walls = Walls::new(alloc, end as usize + 1)?;
         Ok(Tables {

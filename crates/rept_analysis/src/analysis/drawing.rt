@@ -452,7 +452,30 @@ impl<'a, P: Reaches + Drop, L: LastValues + Drop, B: ByteFacts, W: Transfer, R: 
         ensures { self.new ≡ self.old }
     {
         let has_news = self.len() > len;
-        self.fresh.note(i, has_news, time);
+        if let Some(number) = self.number_of(i) {
+            self.fresh.note(number, has_news, time);
+        }
+        if has_news {
+            self.mark(i.wrapping_sub(1));
+            self.mark(i.wrapping_add(1));
+        }
+    }
+
+    /// Keeps that row i, if there is one, is to be looked at.
+    fn mark(&mut self, i: u32)
+        ensures { self.new ≡ self.old }
+    {
+        if let Some(number) = self.number_of(i) {
+            self.fresh.mark(number);
+        }
+    }
+
+    /// The number of the moment before row i, if there is one.
+    fn number_of(&self, i: u32) -> Option<u32> {
+        match self.row(i) {
+            None => None,
+            Some(_) => Some(self.moment_at(i, When::Before)),
+        }
     }
 
     /// All that row i lets one conclude, and that it was looked at.
@@ -472,16 +495,16 @@ impl<'a, P: Reaches + Drop, L: LastValues + Drop, B: ByteFacts, W: Transfer, R: 
         Ok(learnt)
     }
 
-    /// Whether something may have been learnt, since row i was looked at, of the bytes that its rules look at: it is sure only where it is kept which these are.
-    fn may_be_recent(&self, i: u32) -> bool {
-        match self.fresh.start(i) {
+    /// Whether something may have been learnt, since the row before a moment was looked at, of the bytes that its rules look at: it is sure only where it is kept which these are.
+    fn may_be_recent(&self, number: u32) -> bool {
+        match self.fresh.start(number) {
             None => true,
-            Some(start) => self.recent.has_any_since(start, 4, self.fresh.time(i)),
+            Some(start) => self.recent.has_any_since(start, 4, self.fresh.time(number)),
         }
     }
 
-    /// Whether something was learnt of one of the bytes that row i's rules look at since it was looked at.
-    fn has_recent(&mut self, i: u32, row: &StepRow) -> bool
+    /// Whether something was learnt of one of the bytes that row i's rules look at since it was looked at; a number is that of the moment before it.
+    fn has_recent(&mut self, number: u32, i: u32, row: &StepRow) -> bool
         requires { i < (P.timeline self.old.paths).legs.count }
         ensures { self.new ≡ self.old }
     {
@@ -489,13 +512,13 @@ impl<'a, P: Reaches + Drop, L: LastValues + Drop, B: ByteFacts, W: Transfer, R: 
             return false;
         };
         let start = address(base, &row.instr);
-        self.fresh.note_start(i, start);
+        self.fresh.note_start(number, start);
         self.recent
-            .has_any_since(start, R::places(row).min(4), self.fresh.time(i))
+            .has_any_since(start, R::places(row).min(4), self.fresh.time(number))
     }
 
     /// Whether row i looks at bytes of which not all are known, and of which something was learnt lately, along other rows.
-    fn may_tell(&mut self, i: u32, row: &StepRow) -> bool
+    fn may_tell(&mut self, number: u32, i: u32, row: &StepRow) -> bool
         requires { i < (P.timeline self.old.paths).legs.count }
         ensures { self.new ≡ self.old }
     {
@@ -503,10 +526,10 @@ impl<'a, P: Reaches + Drop, L: LastValues + Drop, B: ByteFacts, W: Transfer, R: 
         let (first, second) = reads(&row.instr);
         let operands = one_if(first) + one_if(second) + one_if(writes(&row.instr));
         if places == 0 || is_with(self.pass(i), operands + 2 * places) {
-            self.fresh.note_plain(i);
+            self.fresh.note_plain(number);
             return false;
         }
-        self.has_recent(i, row)
+        self.has_recent(number, i, row)
     }
 
     /// All that row i lets one draw with bytes of which something was learnt lately, and that it was looked at. What its registers keep was carried before.
@@ -530,7 +553,7 @@ impl<'a, P: Reaches + Drop, L: LastValues + Drop, B: ByteFacts, W: Transfer, R: 
     }
 
     /// All that row i lets one conclude, where it may tell something new: something was learnt beside it since it was looked at, or of bytes that it looks at.
-    pub(super) fn draw_fresh(&mut self, i: u32) -> Result<bool, Halt>
+    pub(super) fn draw_fresh(&mut self, number: u32, i: u32) -> Result<bool, Halt>
         requires inside { i < (P.timeline self.old.paths).legs.count }
         requires writings { AreWritings (state_of (reader P.timeline L.values) W.sets W.moves R.rules B.store self.old) }
         requires open { self.old.complete ≡ false }
@@ -539,16 +562,16 @@ impl<'a, P: Reaches + Drop, L: LastValues + Drop, B: ByteFacts, W: Transfer, R: 
         ensures drew { IfOk result (λ learnt. Drew (state_of (reader P.timeline L.values) W.sets W.moves R.rules B.store self.old) (state_of (reader P.timeline L.values) W.sets W.moves R.rules B.store self.new) learnt (λ _. ⊤)) }
         ensures halt { IfErr result (λ h. IsHalt (state_of (reader P.timeline L.values) W.sets W.moves R.rules B.store self.new) h) }
     {
-        if self.fresh.has(i) {
+        if self.fresh.has(number) {
             return self.draw_noted(i);
         }
-        if self.fresh.is_plain(i) || !self.may_be_recent(i) {
+        if self.fresh.is_plain(number) || !self.may_be_recent(number) {
             return Ok(false);
         }
         let Some(row) = self.row(i) else {
             return Ok(false);
         };
-        if !self.may_tell(i, &row) {
+        if !self.may_tell(number, i, &row) {
             return Ok(false);
         }
         self.draw_bytes(i, &row)

@@ -59,8 +59,11 @@ impl<'a, P: Reaches + Drop, L: LastValues + Drop, B: ByteFacts, W: Transfer, R: 
         ensures halt { IfErr result (λ h. IsHalt (state_of (reader P.timeline L.values) W.sets W.moves R.rules B.store self.new) h) }
     {
         match self.row_at(number) {
-            None => Ok(false),
-            Some(i) => self.draw_fresh(i),
+            None => {
+                self.fresh.note_none(number);
+                Ok(false)
+            }
+            Some(i) => self.draw_fresh(number, i),
         }
     }
 
@@ -75,9 +78,11 @@ impl<'a, P: Reaches + Drop, L: LastValues + Drop, B: ByteFacts, W: Transfer, R: 
     {
         let end = self.end();
         let mut learnt = false;
-        for number in 0..end {
+        let mut number = self.fresh.next(0);
+        while number < end {
             let new = self.draw_at(number)?;
             learnt = learnt | new;
+            number = self.fresh.next(number + 1);
         }
         Ok(learnt)
     }
@@ -91,11 +96,12 @@ impl<'a, P: Reaches + Drop, L: LastValues + Drop, B: ByteFacts, W: Transfer, R: 
         ensures drew { IfOk result (λ learnt. Drew (state_of (reader P.timeline L.values) W.sets W.moves R.rules B.store self.old) (state_of (reader P.timeline L.values) W.sets W.moves R.rules B.store self.new) learnt (λ _. ⊤)) }
         ensures halt { IfErr result (λ h. IsHalt (state_of (reader P.timeline L.values) W.sets W.moves R.rules B.store self.new) h) }
     {
-        let end = self.end();
         let mut learnt = false;
-        for number in (0..end).rev() {
-            let new = self.draw_at(number)?;
+        let mut end = self.fresh.end_below(self.end());
+        while end > 0 {
+            let new = self.draw_at(end - 1)?;
             learnt = learnt | new;
+            end = self.fresh.end_below(end - 1);
         }
         Ok(learnt)
     }

@@ -3,18 +3,18 @@ use Rattle.rept_analysis.proofs.Drawn.{Drew_both, Grows_trans}
 use Rattle.rept_analysis.proofs.analysis.Analysis.draw_fresh_back.Goals as goal
 
 pub returns-in_err-new-clause-grows : goal.returns-in_err-new-clause-grows
-returns-in_err-new-clause-grows g c = Grows_trans _ _ _ c.loop-number.invariant.grows c.draw_at.ensures.grows
+returns-in_err-new-clause-grows g c = Grows_trans _ _ _ c.loop-end.invariant.grows c.draw_at.ensures.grows
 
 pub draw_at-requires-clause-uncut : goal.draw_at-requires-clause-uncut
-draw_at-requires-clause-uncut g c = c.loop-number.invariant.drew.uncut c.requires.uncut
+draw_at-requires-clause-uncut g c = c.loop-end.invariant.drew.uncut c.requires.uncut
 
 pub draw_at-requires-clause-writings : goal.draw_at-requires-clause-writings
-draw_at-requires-clause-writings g c = c.loop-number.invariant.grows.writing c.requires.writings
+draw_at-requires-clause-writings g c = c.loop-end.invariant.grows.writing c.requires.writings
 
-pub loop-number-preserved : goal.loop-number-preserved
-loop-number-preserved g c =
+pub loop-end-preserved : goal.loop-end-preserved
+loop-end-preserved g c =
     let P : AnalysisState g.row.W.Denot → Type 0 = λ x. Unit {0} in
     record {
-      grows = Grows_trans _ _ _ c.loop-number.invariant.grows c.in_ok-new.ensures.grows;
-      drew = Drew_both (state_of (reader g.P.Paths.timeline g.L.LastValues.values) g.W.Partial.sets g.W.Transfer.moves g.R.RowRules.rules g.B.ByteFacts.store c.args.self.now) (state_of (reader g.P.Paths.timeline g.L.LastValues.values) g.W.Partial.sets g.W.Transfer.moves g.R.RowRules.rules g.B.ByteFacts.store c.loop-number.self) _ c.loop-number.learnt c.in_ok-new.new P P P c.loop-number.invariant.grows c.in_ok-new.ensures.grows c.loop-number.invariant.drew c.in_ok-new.ensures.drew (λ _ _. tt);
+      grows = Grows_trans _ _ _ c.loop-end.invariant.grows c.in_ok-new.ensures.grows;
+      drew = Drew_both (state_of (reader g.P.Paths.timeline g.L.LastValues.values) g.W.Partial.sets g.W.Transfer.moves g.R.RowRules.rules g.B.ByteFacts.store c.args.self.now) (state_of (reader g.P.Paths.timeline g.L.LastValues.values) g.W.Partial.sets g.W.Transfer.moves g.R.RowRules.rules g.B.ByteFacts.store c.loop-end.self) _ c.loop-end.learnt c.in_ok-new.new P P P c.loop-end.invariant.grows c.in_ok-new.ensures.grows c.loop-end.invariant.drew c.in_ok-new.ensures.drew (λ _ _. tt);
     }

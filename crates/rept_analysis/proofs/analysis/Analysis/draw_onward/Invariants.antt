@@ -1,3 +1,4 @@
+use Rattle.std.proofs.Common.{◌-◌}
 use Rattle.rept_analysis.specs.State.{AnalysisState, state_of, reader}
 use Rattle.rept_analysis.specs.Drawing.{Grows, Drew}
 use Rattle.rept_analysis.proofs.analysis.Analysis.draw_onward.Given as goal
@@ -9,3 +10,6 @@ invariant-loop-number g l =
       grows : Grows (st l.fn.self) (st l.self);
       drew : Drew (st l.fn.self) (st l.self) l.learnt (λ (x : AnalysisState g.row.W.Denot). Unit {0});
     }
+
+abbrev pub decreases-loop-number : goal.decreases-loop-number
+decreases-loop-number g l = l.end - l.number
