@@ -7,12 +7,15 @@ use std::alloc::{AllocError as OutOfMemory, Global};
 /// From where on a row looks at bytes, and how many times something had been learnt of bytes when it was looked at last.
 #[derive(Clone, Copy)]
 struct Look {
-    start: u32,
+    start: Option<u32>,
     time: u32,
 }
 
-/// The start of a row of which none is kept.
-const NOWHERE: u32 = u32::MAX;
+/// That of a row at which nothing looked yet.
+const NEVER: Look = Look {
+    start: None,
+    time: 0,
+};
 
 /// The word of a number's bit in a list of bits.
 fn word_of(words: &[u64], number: u32) -> u64 {
@@ -30,7 +33,7 @@ fn bit_of(number: u32) -> u64 {
 /// it keeps.
 #[derive(Drop)]
 pub struct Fresh {
-    listed: Vec<u64>,
+    marked: Vec<u64>,
     open: Vec<u64>,
     words: u32,
     looks: Vec<Look>,
@@ -40,15 +43,11 @@ impl Fresh {
     /// No row was looked at yet, of those before moments up to a number.
     pub fn new(alloc: Global, end: u32) -> Result<Fresh, OutOfMemory> {
         let words = end / 64 + 1;
-        let listed = vec![in alloc; u64::MAX; words as usize]?;
+        let marked = vec![in alloc; u64::MAX; words as usize]?;
         let open = vec![in alloc; u64::MAX; words as usize]?;
-        let never = Look {
-            start: NOWHERE,
-            time: 0,
-        };
-        let looks = vec![in alloc; never; end as usize + 1]?;
+        let looks = vec![in alloc; NEVER; end as usize + 1]?;
         Ok(Fresh {
-            listed,
+            marked,
             open,
             words,
             looks,
@@ -57,7 +56,7 @@ impl Fresh {
 
     /// Whether a row is to be looked at.
     pub fn has(&self, number: u32) -> bool {
-        word_of(self.listed.as_slice(), number) & bit_of(number) != 0
+        word_of(self.marked.as_slice(), number) & bit_of(number) != 0
     }
 
     /// Whether bytes tell nothing more of a row: it looks at none, or all that it looks at is known and was drawn.
@@ -76,16 +75,16 @@ impl Fresh {
     /// Keeps that a row is to be looked at.
     pub fn mark(&mut self, number: u32) {
         let k = number as usize / 64;
-        if k < self.listed.len() {
-            self.listed[k] = self.listed[k] | bit_of(number);
+        if k < self.marked.len() {
+            self.marked[k] = self.marked[k] | bit_of(number);
         }
     }
 
     /// Keeps that it is not.
     fn unmark(&mut self, number: u32) {
         let k = number as usize / 64;
-        if k < self.listed.len() {
-            self.listed[k] = self.listed[k] & !bit_of(number);
+        if k < self.marked.len() {
+            self.marked[k] = self.marked[k] & !bit_of(number);
         }
     }
 
@@ -98,10 +97,10 @@ impl Fresh {
     /// The rows of a word that may tell something.
     fn word(&self, k: u32) -> u64 {
         let k = k as usize;
-        let listed = self.listed.as_slice();
+        let marked = self.marked.as_slice();
         let open = self.open.as_slice();
-        if k < listed.len() && k < open.len() {
-            listed[k] | open[k]
+        if k < marked.len() && k < open.len() {
+            marked[k] | open[k]
         } else {
             0
         }
@@ -165,27 +164,19 @@ impl Fresh {
     fn look(&self, number: u32) -> Look {
         let looks = self.looks.as_slice();
         let k = number as usize;
-        if k < looks.len() {
-            looks[k]
-        } else {
-            Look {
-                start: NOWHERE,
-                time: 0,
-            }
-        }
+        if k < looks.len() { looks[k] } else { NEVER }
     }
 
     /// The address of the first byte that a row looks at, if it was kept.
     pub fn start(&self, number: u32) -> Option<u32> {
-        let start = self.look(number).start;
-        if start == NOWHERE { None } else { Some(start) }
+        self.look(number).start
     }
 
     /// Keeps it.
     pub fn note_start(&mut self, number: u32, start: u32) {
         let k = number as usize;
         if k < self.looks.len() {
-            self.looks[k].start = start;
+            self.looks[k].start = Some(start);
         }
     }
 
