@@ -18,8 +18,8 @@ use Rattle.rept_report.specs.Setting.{HasLaws}
 use Rattle.rept_report.specs.Views.{point_of, instant_of}
 use Rattle.rept_report.specs.Conclusions.{HasWords}
 use Rattle.rept_report.proofs.ViewLaws.{known_more}
-use Rattle.rept_analysis.specs.declared.pass.Pass.{Pass}
-use Rattle.rept_analysis.specs.declared.pass.Pass.TheVariants.{Never, With, Cut}
+use Rattle.rept_passes.specs.declared.pass.Pass.{Pass}
+use Rattle.rept_passes.specs.declared.pass.Pass.TheVariants.{Never, With, Cut}
 use Rattle.rept_writing.specs.Hits.{Listed}
 use Rattle.rept_analysis.specs.Work.{Work, left, left_of}
 use Rattle.rept_analysis.specs.Cells.{cells_known}
@@ -276,14 +276,3 @@ module _ {W : Type 0} (s a b : AnalysisState W) (laws : HasLaws (along s.path)) 
 
 pub halt_after : {W : Type 0} (s t : AnalysisState W) (w : Work) (h : Halt) → t ≡ with_work s w → w.joins ≡ s.work.joins → IsHalt s h → IsHalt t h
 halt_after s t w h is joins halt = subst (λ (x : AnalysisState _). IsHalt x h) (sym is) (halt_work s w h joins halt)
-
--- one more is `Never`
-pub never_more : (xs : List Pass) (i : ℕ) → i < length xs → ((j : ℕ) (x : Pass) → j < i → slice_get xs j ≡ Some x → x ≡ Never) → (j : ℕ) (x : Pass) → j < i + 1 → slice_get (set xs i Never) j ≡ Some x → x ≡ Never
-never_more xs i inside before j x lt at =
-    elim (cases_eq j i) [
-      | inl e ↦ same_pass (sym (rw e at at) ∙ set_here xs i Never inside)
-      | inr ne ↦ before j x (omega (arith, lt, ne)) (sym (set_elsewhere xs i j Never ne) ∙ at)
-    ]
-
-pub never_all : (xs : List Pass) (n : ℕ) → length xs ≤ n → ((j : ℕ) (x : Pass) → j < n → slice_get xs j ≡ Some x → x ≡ Never) → (j : ℕ) (x : Pass) → slice_get xs j ≡ Some x → x ≡ Never
-never_all xs n le before j x at = let lt = slice_get_within xs j x at in before j x (omega (arith, lt, le)) at

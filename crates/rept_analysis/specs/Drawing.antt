@@ -33,7 +33,7 @@ use Rattle.rept_writing.specs.declared.list.Writing.{Writing}
 use Rattle.rept_report.specs.declared.paths.Strip.{Strip}
 use Rattle.rept_analysis.specs.declared.piece.Piece.{Piece}
 use Rattle.rept_analysis.specs.declared.leap.Leap.{Leap}
-use Rattle.rept_analysis.specs.declared.pass.Pass.TheVariants.{Cut}
+use Rattle.rept_passes.specs.declared.pass.Pass.TheVariants.{Cut}
 use Rattle.rept_analysis.specs.Work.{left, number_past}
 use Rattle.rept_analysis.specs.Room.{IsDrawable, IsDrawnAt, own_at, IsOwnByte}
 use Rattle.rept_analysis.specs.State.{AnalysisState, IsRoomy, all_known, along}

@@ -13,8 +13,8 @@ use Rattle.rept_view.specs.declared.drawn.When.{When}
 use Rattle.rept_view.specs.declared.drawn.Drawn.{Drawn}
 use Rattle.rept_view.specs.Seen.{Seen, IsLawful, seen_cell}
 use Rattle.rept_log.specs.Around.{around}
-use Rattle.rept_analysis.specs.declared.pass.Pass.{Pass}
-use Rattle.rept_analysis.specs.declared.pass.Pass.TheVariants.{Never, With, Cut}
+use Rattle.rept_passes.specs.declared.pass.Pass.{Pass}
+use Rattle.rept_passes.specs.declared.pass.Pass.TheVariants.{Never, With, Cut}
 use Rattle.rept_analysis.specs.Cells.{cells_known}
 use Rattle.rept_analysis.specs.Room.{HasRoom}
 use Rattle.rept_analysis.specs.State.{AnalysisState, IsRoomy, all_known, along}

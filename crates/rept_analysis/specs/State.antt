@@ -15,7 +15,7 @@ use Rattle.rept_report.specs.Given.{Given, setting_by}
 use Rattle.rept_report.specs.Timeline.{Timeline}
 use Rattle.rept_reason.specs.Facts.{Knowledge}
 use Rattle.rept_writing.specs.declared.list.Writing.{Writing}
-use Rattle.rept_analysis.specs.declared.pass.Pass.{Pass}
+use Rattle.rept_passes.specs.declared.pass.Pass.{Pass}
 use Rattle.rept_analysis.specs.Work.{Work}
 
 -- The rows and moments, and the last register values of each thread; the files of the program, and the segments of the core file; the facts that were learnt; the

@@ -47,7 +47,6 @@ mod walling;
 mod why;
 
 use crate::fresh::Fresh;
-use crate::pass::Passes;
 use crate::recent::Recent;
 use crate::stop::Stop;
 use crate::tables::Tables;
@@ -56,6 +55,7 @@ use rept_dump::Dump;
 use rept_isa::{Reg, StepRow};
 use rept_log::{FactLog, LastValues};
 use rept_partial::Flat;
+use rept_passes::Passes;
 use rept_reach::Reaches;
 use rept_report::{ConflictKind, Paths};
 use rept_span::{Spans, Transfer};

@@ -8,7 +8,6 @@ mod leap;
 mod link;
 mod moment;
 mod pairs;
-mod pass;
 mod piece;
 mod recent;
 mod rows;

@@ -2,13 +2,13 @@
 
 ghost use Rattle.std.specs.Prelude.{◌≡◌, ◌+◌, ◌<◌, ◌≤◌, ℕ, IfOk, Some, length, slice_get};
 ghost use Rattle.rept_log.specs.Known.{known_of, IsNew};
-ghost use Rattle.rept_analysis.specs.declared.pass.Pass.{Pass};
+ghost use Rattle.rept_passes.specs.declared.pass.Pass.{Pass};
 
 use crate::fresh::Fresh;
-use crate::pass::Passes;
 use crate::recent::Recent;
 use crate::walls::Walls;
 use rept_log::FactLog;
+use rept_passes::Passes;
 use rept_span::{Spans, Transfer};
 use rept_versions::ByteFacts;
 use rept_writing::Writings;

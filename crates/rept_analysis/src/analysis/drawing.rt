@@ -7,7 +7,7 @@ ghost use Rattle.rept_reason.specs.declared.fact.Cell.{Cell};
 ghost use Rattle.rept_reason.specs.declared.fact.Cell.TheVariants.{Register, Byte};
 ghost use Rattle.rept_view.specs.declared.drawn.Drawn.{Drawn};
 ghost use Rattle.rept_log.specs.Around.{around};
-ghost use Rattle.rept_analysis.specs.declared.pass.Pass.{Pass};
+ghost use Rattle.rept_passes.specs.declared.pass.Pass.{Pass};
 ghost use Rattle.rept_analysis.specs.Cells.{cells_known};
 ghost use Rattle.rept_analysis.specs.Kept.{IsPass};
 ghost use Rattle.rept_analysis.specs.State.{state_of, with_draws, with_drawn, reader};
@@ -17,11 +17,11 @@ ghost use Rattle.rept_analysis.specs.Told.{Tracks};
 
 use super::Analysis;
 use crate::halt::Halt;
-use crate::pass::Pass;
 use crate::rows::{address, is_store};
 use rept_isa::{Instr, Reg, StepRow, reads, writes};
 use rept_log::views::point_at;
 use rept_log::{Around, LastValues};
+use rept_passes::{Pass, is_with};
 use rept_reach::Reaches;
 use rept_reason::Cell;
 use rept_span::Transfer;
@@ -34,17 +34,6 @@ fn keeps(instr: &Instr, r: Reg) -> bool
     ensures { IsTrue result ↔ (written_by instr.now ≢ Some r) }
 {
     writes(instr) != Some(r)
-}
-
-/// Whether rules were drawn, all that they let one conclude was learnt, and so many cells were known then.
-fn is_with(pass: Pass, cells: u32) -> bool
-    ensures yes { result ≡ true → pass ≡ Pass.With cells }
-    ensures no { result ≡ false → pass ≡ Pass.With cells → ⊥ }
-{
-    match pass {
-        Pass::With(known) => known == cells,
-        Pass::Never | Pass::Cut => false,
-    }
 }
 
 /// 1 where there is a register.

@@ -1,7 +1,7 @@
 use Rattle.std.proofs.Common.{◌≡◌, ◌<◌, ℕ, Some, length, slice_get}
-use Rattle.rept_analysis.specs.declared.pass.Pass.{Pass}
-use Rattle.rept_analysis.specs.declared.pass.Pass.TheVariants.{Never}
-use Rattle.rept_analysis.proofs.pass.forget.Given as goal
+use Rattle.rept_passes.specs.declared.pass.Pass.{Pass}
+use Rattle.rept_passes.specs.declared.pass.Pass.TheVariants.{Never}
+use Rattle.rept_passes.proofs.pass.forget.Given as goal
 
 abbrev pub invariant-loop-i : goal.invariant-loop-i
 invariant-loop-i l = record {

@@ -1,8 +1,8 @@
 use Rattle.std.proofs.Common.{◌<◌, length, arith, ◌∙◌}
 use Rattle.std.proofs.lemmas.List.{length-set}
-use Rattle.rept_analysis.specs.declared.pass.Pass.TheVariants.{Never}
-use Rattle.rept_analysis.proofs.Passing.{never_more, never_all}
-use Rattle.rept_analysis.proofs.pass.forget.Goals as goal
+use Rattle.rept_passes.specs.declared.pass.Pass.TheVariants.{Never}
+use Rattle.rept_passes.proofs.Never.{never_more, never_all}
+use Rattle.rept_passes.proofs.pass.forget.Goals as goal
 
 pub loop-i-preserved : goal.loop-i-preserved
 loop-i-preserved c =

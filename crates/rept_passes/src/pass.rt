@@ -1,7 +1,7 @@
 //! How far the rules of each row were drawn.
 
-ghost use Rattle.std.specs.Prelude.{◌≡◌, ◌<◌, ℕ, IfOk, Some, length, slice_get, set};
-ghost use Rattle.rept_analysis.specs.declared.pass.Pass.{Pass};
+ghost use Rattle.std.specs.Prelude.{◌≡◌, ◌<◌, ℕ, true, false, IfOk, Some, length, slice_get, set};
+ghost use Rattle.rept_passes.specs.declared.pass.Pass.{Pass};
 
 use std::alloc::{AllocError as OutOfMemory, Global};
 use std::marker::Model;
@@ -17,7 +17,18 @@ pub enum Pass {
     Cut,
 }
 
-/// So for each row.
+/// Whether rules were drawn, all that they let one conclude was learnt, and so many cells were known then.
+pub fn is_with(pass: Pass, cells: u32) -> bool
+    ensures yes { result ≡ true → pass ≡ Pass.With cells }
+    ensures no { result ≡ false → pass ≡ Pass.With cells → ⊥ }
+{
+    match pass {
+        Pass::With(known) => known == cells,
+        Pass::Never | Pass::Cut => false,
+    }
+}
+
+/// How far the rules of each row were drawn.
 #[derive(Drop)]
 pub struct Passes {
     list: Vec<Pass>,
@@ -25,7 +36,7 @@ pub struct Passes {
 
 impl Model for Passes {
     ghost use Rattle.std.specs.Prelude.{List};
-    ghost use Rattle.rept_analysis.specs.declared.pass.Pass.{Pass};
+    ghost use Rattle.rept_passes.specs.declared.pass.Pass.{Pass};
 
     ghost Value = { List Pass };
 
