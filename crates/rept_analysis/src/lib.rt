@@ -12,7 +12,6 @@ mod pass;
 mod piece;
 mod recent;
 mod rows;
-mod sought;
 mod step;
 pub mod stop;
 mod tables;
