@@ -11,5 +11,5 @@ returns-then-ended-clause-ended g c = λ complete.
     writer_answers s ((c.ended.ensures.kept).finished complete).settled c.args.moment c.args.a c.last_writer.result c.last_writer.ensures
 
 pub returns-clause-open : goal.returns-clause-open
-returns-clause-open g c = λ open.
+returns-clause-open g c = λ unfinished.
     subst (λ (x : Whole g.row.P.Denot g.row.L.Denot g.row.B.Denot g.row.W.Denot g.row.R.Denot). IsPossibleWriter (g.P.Paths.timeline x.paths).moments (IsBegun (g.P.Paths.timeline x.paths) c.args.moment) c.possible_writer.result) c.self.view_is c.possible_writer.ensures
