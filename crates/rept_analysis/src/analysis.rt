@@ -34,7 +34,6 @@ mod counting;
 mod drawing;
 mod following;
 mod fronts;
-mod latest;
 mod leaping;
 mod learning;
 mod likeness;
@@ -45,6 +44,7 @@ mod stopping;
 mod sweeping;
 mod walling;
 mod why;
+mod writes;
 
 use crate::fresh::Fresh;
 use crate::recent::Recent;

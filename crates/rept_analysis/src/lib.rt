@@ -11,7 +11,6 @@ mod pairs;
 mod piece;
 mod recent;
 mod rows;
-mod sought;
 mod step;
 pub mod stop;
 mod tables;

@@ -8,25 +8,23 @@ ghost use Rattle.rept_reason.specs.Facts.{told, register_fact};
 ghost use Rattle.rept_span.specs.Filled.{entry_at};
 ghost use Rattle.rept_span.specs.Ranges.{range};
 ghost use Rattle.rept_report.specs.Setting.{way_of};
-ghost use Rattle.rept_report.specs.Views.{may_write, is_sure};
 ghost use Rattle.rept_report.specs.Closure.{InClosure};
 ghost use Rattle.rept_report.specs.Soundness.{AlwaysHolds};
 ghost use Rattle.rept_report.specs.Implied.{is_settled, implied};
 ghost use Rattle.rept_report.specs.Spots.{spot};
 ghost use Rattle.rept_report.specs.Timeline.{IsLine, IsBegun};
-ghost use Rattle.rept_report.specs.Writers.{is_certain, IsWriter};
+ghost use Rattle.rept_report.specs.Writers.{IsWriter};
 ghost use Rattle.rept_report.specs.Log.{oldest};
 ghost use Rattle.rept_analysis.specs.State.{setting_of, state_of, reader};
 ghost use Rattle.rept_report.specs.Why.{fact_of};
 ghost use Rattle.rept_analysis.specs.Drawing.{IsFitted, IsSettled, AreWritings, AreHitsPast, AreFormerPast, AreLaterPast, IsLateHit};
 ghost use Rattle.rept_analysis.specs.Kept.{IsKept, answers};
 ghost use Rattle.rept_analysis.specs.Answers.{HasClosure, byte_answer};
-ghost use Rattle.rept_analysis.specs.Latest.{IsPossibleWriter};
+ghost use Rattle.rept_latest.specs.Latest.{IsPossibleWriter};
 
 use super::Analysis;
-use crate::moment::Moment;
-use crate::sought::Sought;
 use rept_isa::Reg;
+use rept_latest::{Sought, last_writer, possible_writer};
 use rept_log::LastValues;
 use rept_reach::Reaches;
 use rept_report::Writer;
@@ -60,42 +58,6 @@ impl<'a, P: Reaches + Drop, L: LastValues + Drop, B: ByteFacts, W: Transfer, R: 
         let _paths = &self.paths;
         let _number = r.number();
         self.spans.at(point, r)
-    }
-
-    /// Whether row i, if there is one, may write a byte, by the facts of which the sets are.
-    pub(super) fn may_write(&self, i: u32, a: u32) -> bool
-        requires inside { i < (P.timeline self.now.paths).legs.count }
-        requires fitted { IsFitted (state_of (reader P.timeline L.values) W.sets W.moves R.rules B.store self.now) }
-        ensures { result ≡ may_write (setting_of (reader P.timeline L.values) W.sets W.moves R.rules self.now) (told (oldest self.now.filled self.now.known.log)) i a }
-    {
-        match self.row(i) {
-            None => false,
-            Some(row) => {
-                let access = self.access(i, &row);
-                access.may_hit(a)
-            }
-        }
-    }
-
-    /// Whether row i writes each byte that it may write, by these facts.
-    fn is_sure(&self, i: u32) -> bool
-        requires inside { i < (P.timeline self.now.paths).legs.count }
-        requires fitted { IsFitted (state_of (reader P.timeline L.values) W.sets W.moves R.rules B.store self.now) }
-        ensures { result ≡ is_sure (setting_of (reader P.timeline L.values) W.sets W.moves R.rules self.now) (told (oldest self.now.filled self.now.known.log)) i }
-    {
-        match self.row(i) {
-            None => false,
-            Some(row) => {
-                let _len = self.known.len();
-                let view = Moment {
-                    facts: &self.known,
-                    spans: &self.spans,
-                    limit: self.filled,
-                    row: i,
-                };
-                R::sure(&row, &view)
-            }
-        }
     }
 
     /// Whether writers that aren't told, if there are any, lie wholly before a moment.
@@ -207,32 +169,12 @@ impl<'a, P: Reaches + Drop, L: LastValues + Drop, B: ByteFacts, W: Transfer, R: 
         self.paths.is_past(row, moment)
     }
 
-    /// Whether a row writes each byte that it may write, and lies wholly before a moment, by these facts.
-    fn is_certain(&self, row: u32, moment: u32) -> bool
-        requires row { IsSome ((P.timeline self.now.paths).legs.row row) }
-        requires inside { row < (P.timeline self.now.paths).legs.count }
-        requires fitted { IsFitted (state_of (reader P.timeline L.values) W.sets W.moves R.rules B.store self.now) }
-        ensures { (a : ℕ) → result ≡ is_certain (setting_of (reader P.timeline L.values) W.sets W.moves R.rules self.now) (told (oldest self.now.filled self.now.known.log)) (spot moment a) row }
-    {
-        self.is_sure(row) && self.is_past(row, moment)
-    }
-
     /// What is said of the row that last wrote a byte before a moment, by these facts.
     fn last_writer(&self, moment: u32, a: u32) -> Writer
         requires fitted { IsFitted (state_of (reader P.timeline L.values) W.sets W.moves R.rules B.store self.now) }
         ensures { IsWriter (setting_of (reader P.timeline L.values) W.sets W.moves R.rules self.now) (told (oldest self.now.filled self.now.known.log)) (spot moment a) result }
     {
-        let address = Some(a);
-        match self.possible_writer(Sought { moment, address }) {
-            Writer::MayWrite(row) => {
-                if self.is_certain(row, moment) {
-                    Writer::Writes(row)
-                } else {
-                    Writer::MayWrite(row)
-                }
-            }
-            other => other,
-        }
+        last_writer(&self.paths, self, moment, a)
     }
 
     /// The set of values of a register at a point: all words, unless all is learnt.
@@ -311,6 +253,6 @@ impl<'a, P: Reaches + Drop, L: LastValues + Drop, B: ByteFacts, W: Transfer, R: 
             return self.last_writer(moment, a);
         }
         let address = None;
-        self.possible_writer(Sought { moment, address })
+        possible_writer(&self.paths, self, Sought { moment, address })
     }
 }

@@ -1,0 +1,51 @@
+//! Which rows write which bytes, by the facts of which the sets are.
+
+ghost use Rattle.std.specs.Prelude.{◌<◌};
+
+use super::Analysis;
+use crate::moment::Moment;
+use rept_latest::RowWrites;
+use rept_log::LastValues;
+use rept_reach::Reaches;
+use rept_span::Transfer;
+use rept_versions::ByteFacts;
+use rept_view::RowRules;
+
+impl<'a, P: Reaches + Drop, L: LastValues + Drop, B: ByteFacts, W: Transfer, R: RowRules> RowWrites
+    for Analysis<'a, P, L, B, W, R> {
+    ghost use Rattle.rept_reason.specs.Facts.{told};
+    ghost use Rattle.rept_report.specs.Log.{oldest};
+    ghost use Rattle.rept_analysis.specs.State.{setting_of, state_of, reader};
+    ghost use Rattle.rept_analysis.specs.Drawing.{IsFitted};
+    ghost use Rattle.rept_analysis.specs.Latest.{writes_by};
+
+    ghost writes = { λ a. writes_by (setting_of (reader P.timeline L.values) W.sets W.moves R.rules a) (told (oldest a.filled a.known.log)) };
+
+    ghost ready = { λ a i. (i < (P.timeline a.paths).legs.count) × IsFitted (state_of (reader P.timeline L.values) W.sets W.moves R.rules B.store a) };
+
+    fn may_write(&self, row: u32, a: u32) -> bool {
+        match self.row(row) {
+            None => false,
+            Some(found) => {
+                let access = self.access(row, &found);
+                access.may_hit(a)
+            }
+        }
+    }
+
+    fn is_sure(&self, row: u32) -> bool {
+        match self.row(row) {
+            None => false,
+            Some(found) => {
+                let _len = self.known.len();
+                let view = Moment {
+                    facts: &self.known,
+                    spans: &self.spans,
+                    limit: self.filled,
+                    row,
+                };
+                R::sure(&found, &view)
+            }
+        }
+    }
+}

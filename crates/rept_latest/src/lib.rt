@@ -1,0 +1,11 @@
+//! Which of the rows that may have written a byte lies wholly after all others.
+#![tactic(auto)]
+
+mod search;
+pub mod sought;
+pub mod writers;
+pub mod writes;
+
+pub use sought::Sought;
+pub use writers::{last_writer, possible_writer};
+pub use writes::RowWrites;
