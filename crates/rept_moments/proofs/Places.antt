@@ -45,6 +45,12 @@ by_point_get {A} f (suc n) g less =
       | inr (inr over) ↦ absurd (omega arith)
     ]
 
+-- with that of one more point
+pub by_point_more : {A : Type 0} (f : ℕ → A) (n : ℕ) (xs ys : List A) (x : A) → xs ≡ by_point f n → x ≡ f n → ys ≡ xs ++ x ∷ [] → ys ≡ by_point f (n + 1)
+by_point_more {A} f n xs ys x are is pushed =
+    let next : suc n ≡ n + 1 = omega arith in
+    pushed ∙ ap (λ (zs : List A). zs ++ x ∷ []) are ∙ ap (λ (y : A). by_point f n ++ y ∷ []) is ∙ ap (λ (k : ℕ). by_point f k) next
+
 pub by_point_past : {A : Type 0} (f : ℕ → A) (n g : ℕ) → n ≤ g → slice_get (by_point f n) g ≡ None
 by_point_past f n g past = let count = by_point_length f n in slice_get_past (by_point f n) g (omega arith)
 
