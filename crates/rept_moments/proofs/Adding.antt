@@ -15,7 +15,7 @@ use Rattle.rept_course.specs.Numbered.{row_on}
 use Rattle.rept_moments.specs.declared.side.Side.{Side}
 use Rattle.rept_moments.specs.Points.{points_in}
 use Rattle.rept_moments.specs.Ordering.{moment_at_side, event_at}
-use Rattle.rept_moments.specs.Writers.{not_past}
+use Rattle.rept_crossing.specs.Writers.{not_past}
 use Rattle.rept_moments.specs.Merging.{merged_at}
 use Rattle.rept_moments.specs.Numbers.{numbers_of}
 use Rattle.rept_moments.specs.Nexts.{offers_at, is_first_later, first_offer, nexts_of, merged_nexts, point_nexts, side_nexts, last_nexts, ends_to, Member, AddsOthers}

@@ -2,7 +2,6 @@ pub mod Examples
 pub mod Listing
 pub mod Apart
 pub mod Sorting
-pub mod Latest
 pub mod Still
 pub mod Numbering
 pub mod Places

@@ -138,6 +138,15 @@ list_pushed items new s e = ap (λ (xs : List Side). reverse xs) e ∙ reverse-a
 number_last : (items : List Side) (n : ℕ) → n ≡ length items → n ≡ length (reverse items)
 number_last items n e = e ∙ sym (length-reverse items)
 
+abbrev numbered : ℕ → List Side → Numbered
+numbered n list = record { points = n; list = list }
+
+-- what is seen with one more moment
+pub view_pushed : (n k : ℕ) (items new : List Side) (s : Side) (v : Numbered) → numbered k (reverse items) ≡ v → n ≡ k → new ≡ items ++ s ∷ [] → numbered n (reverse new) ≡ numbered v.points (s ∷ v.list)
+view_pushed n k items new s v view same e =
+    ap (λ (m : ℕ). numbered m (reverse new)) (same ∙ ap (λ (x : Numbered). x.points) view)
+    ∙ ap (numbered v.points) (list_pushed items new s e ∙ ap (λ (x : Numbered). s ∷ x.list) view)
+
 pub added_after : (bs as_ : List (Option ℕ)) (items new : List Side) (s : Side) (n : ℕ) → s.is_after ≡ true → s.point < length bs → n ≡ length items → new ≡ items ++ s ∷ [] → AreNumbered bs as_ (reverse items) → AreNumbered bs (set as_ s.point (Some n)) (reverse new)
 added_after bs as_ items new s n is here number e its =
     subst (λ (list : List Side). AreNumbered bs (set as_ s.point (Some n)) list) (sym (list_pushed items new s e))

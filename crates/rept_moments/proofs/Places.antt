@@ -45,8 +45,22 @@ by_point_get {A} f (suc n) g less =
       | inr (inr over) ↦ absurd (omega arith)
     ]
 
+-- with that of one more point
+pub by_point_more : {A : Type 0} (f : ℕ → A) (n : ℕ) (xs ys : List A) (x : A) → xs ≡ by_point f n → x ≡ f n → ys ≡ xs ++ x ∷ [] → ys ≡ by_point f (n + 1)
+by_point_more {A} f n xs ys x are is pushed =
+    let next : suc n ≡ n + 1 = omega arith in
+    pushed ∙ ap (λ (zs : List A). zs ++ x ∷ []) are ∙ ap (λ (y : A). by_point f n ++ y ∷ []) is ∙ ap (λ (k : ℕ). by_point f k) next
+
 pub by_point_past : {A : Type 0} (f : ℕ → A) (n g : ℕ) → n ≤ g → slice_get (by_point f n) g ≡ None
 by_point_past f n g past = let count = by_point_length f n in slice_get_past (by_point f n) g (omega arith)
+
+-- the row at a place, read from the threads
+pub row_read : (C : Course) (ts : List ThreadRows) (t s : ℕ) (d : ThreadRows) (rows : List StepRow) (r : StepRow) → ts ≡ C.threads → true ≡ nat_lt t (length ts) → d ≡ get_or ts t d → rows ≡ d.steps → true ≡ nat_lt s (length rows) → r ≡ get_or rows s r → Some r ≡ row_at C (row_of t s)
+row_read C ts t s d rows r all inside its same less read =
+    let there : slice_get C.threads t ≡ Some d = ap (λ (xs : List ThreadRows). slice_get xs t) (sym all) ∙ slice_get_read ts (length ts) t d refl (ltb-true t (length ts) (sym inside)) its in
+    let thread : (unwrap_or (slice_get C.threads t) no_thread) ≡ d = ap (λ (o : Option ThreadRows). unwrap_or o no_thread) there in
+    sym (slice_get_read rows (length rows) s r refl (ltb-true s (length rows) (sym less)) read)
+    ∙ ap (λ (xs : List StepRow). slice_get xs s) (same ∙ ap (λ (x : ThreadRows). x.steps) (sym thread))
 
 -- a row has a point
 pub row_there : (C : Course) (r : Row) → IsRow C r → is_some (row_at C r) ≡ true

@@ -16,7 +16,7 @@ use Rattle.rept_moments.specs.declared.side.Side.{Side}
 use Rattle.rept_moments.specs.Ordering.{moment_at_side}
 use Rattle.rept_moments.specs.Edges.{begin_at, end_at}
 use Rattle.rept_moments.specs.Begins.{former_at, following_at, same_end, is_alike, is_first_by, is_first_at, sooner_end, later_from, IsBy, AreBegins}
-use Rattle.rept_moments.specs.Writers.{not_past}
+use Rattle.rept_crossing.specs.Writers.{not_past}
 use Rattle.rept_moments.specs.Numbers.{numbers_of}
 use Rattle.rept_moments.specs.Nexts.{nexts_of, Member, AddsOthers, IsAfter, IsOther, end_with, IsLaterBy, offers_at, none_late, is_first_later, first_offer, IsOffer}
 use Rattle.rept_moments.proofs.Places.{row_there, there_row}

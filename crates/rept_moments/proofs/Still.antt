@@ -20,10 +20,11 @@ use Rattle.rept_order.proofs.Nexts.{In, every, listed}
 use Rattle.rept_course.specs.Making.{moments_in, still_by, rows_still, is_still, next_point}
 use Rattle.rept_course.specs.Numbered.{row_on}
 use Rattle.rept_course.proofs.Naming.{stores_inside}
-use Rattle.rept_moments.specs.declared.writers.Writer.{Writer}
-use Rattle.rept_moments.specs.declared.writers.Rest.{Rest}
+use Rattle.rept_crossing.specs.declared.writer.Writer.{Writer}
+use Rattle.rept_crossing.specs.declared.writer.Rest.{Rest}
 use Rattle.rept_moments.specs.Points.{points_in}
-use Rattle.rept_moments.specs.Writers.{end_of, end_in, writer_of, writers_at, writers_to, lasts_to, not_past, crosses}
+use Rattle.rept_moments.specs.Writers.{end_of, end_in, writer_of, writers_at, writers_to}
+use Rattle.rept_crossing.specs.Writers.{lasts_to, not_past, crosses}
 use Rattle.rept_moments.specs.Merging.{until, dark_from, rest_from, rest_end}
 use Rattle.rept_moments.proofs.Places.{row_there, point_of_row, row_point, row_before, next_row}
 

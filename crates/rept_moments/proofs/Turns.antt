@@ -18,7 +18,8 @@ use Rattle.rept_moments.specs.declared.side.Side.{Side}
 use Rattle.rept_moments.specs.Ordering.{side, moment_at_side, event_at}
 use Rattle.rept_moments.specs.Edges.{begin_at, end_at}
 use Rattle.rept_moments.specs.Begins.{stands_by, former_at, following_at}
-use Rattle.rept_moments.specs.Writers.{end_of, not_past}
+use Rattle.rept_moments.specs.Writers.{end_of}
+use Rattle.rept_crossing.specs.Writers.{not_past}
 use Rattle.rept_moments.proofs.Places.{row_there, there_row, point_of_row, row_point, next_row}
 use Rattle.rept_moments.proofs.Listing.{row_at_side}
 use Rattle.rept_moments.proofs.Sooner.{sides_apart, sides_ended, rows_apart, row_apart}

@@ -5,7 +5,6 @@ pub mod Ordering
 pub mod Numbers
 pub mod Seen
 pub mod Writers
-pub mod Latest
 pub mod Merging
 pub mod Numbering
 pub mod Nexts

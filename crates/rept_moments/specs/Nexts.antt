@@ -13,7 +13,7 @@ use Rattle.rept_moments.specs.declared.nexts.Later.{Later}
 use Rattle.rept_moments.specs.Ordering.{moment_at_side}
 use Rattle.rept_moments.specs.Edges.{begin_at, end_at}
 use Rattle.rept_moments.specs.Begins.{former_at, sooner_end, IsBy}
-use Rattle.rept_moments.specs.Writers.{not_past}
+use Rattle.rept_crossing.specs.Writers.{not_past}
 use Rattle.rept_moments.specs.Merging.{merged_at}
 use Rattle.rept_moments.specs.Numbers.{numbers_of}
 

@@ -28,7 +28,7 @@ use crate::numbers::Numbers;
 use crate::ordering::in_time;
 use crate::points::Points;
 use crate::side::{Place, Side, Timed};
-use crate::writers::Writers;
+use crate::writers::writers_of;
 use crate::writing::{both, neither};
 use rept_isa::{StepRow, is_call};
 use rept_order::Moment;
@@ -106,7 +106,7 @@ struct Tables {
 fn merged_of(alloc: Global, points: &Points<'_>) -> Result<Vec<bool>, OutOfMemory>
     ensures { IfOk result (λ v. v.items ≡ by_point (merged_at points.now) (points_in points.now)) }
 {
-    let writers = Writers::new(alloc, points)?;
+    let writers = writers_of(alloc, points)?;
     merged(alloc, points, &writers)
 }
 

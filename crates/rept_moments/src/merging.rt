@@ -13,8 +13,8 @@ ghost use Rattle.rept_moments.specs.Merging.{rest_from, merged_at};
 
 use crate::points::Points;
 use crate::side::Side;
-use crate::writers::{Rest, Writers};
 use crate::writing::neither;
+use rept_crossing::{Rest, Writers};
 use std::alloc::{AllocError as OutOfMemory, Global};
 
 /// The end of the slice of the row that leads from the point, where one does and its end is known.

@@ -3,7 +3,7 @@ use Rattle.rept_steps.specs.Course.{Course}
 use Rattle.rept_course.specs.Numbered.{row_on}
 use Rattle.rept_moments.specs.declared.nexts.Later.{Later}
 use Rattle.rept_moments.specs.Edges.{end_at}
-use Rattle.rept_moments.specs.Writers.{not_past}
+use Rattle.rept_crossing.specs.Writers.{not_past}
 use Rattle.rept_moments.specs.Nexts.{IsLaterBy}
 use Rattle.rept_moments.specs.Tables.{AreTables}
 use Rattle.rept_moments.proofs.Places.{below_in, there_row}

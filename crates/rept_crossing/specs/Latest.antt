@@ -1,9 +1,9 @@
 -- The two latest ends of a list of writers: the greatest one, and the greatest one of other threads than that writer's. This project's own.
 use Rattle.std.specs.Prelude.{◌≡◌, ℕ, suc, ◌==◌, nat_lt, nat_le, if◌then◌else◌, Bool, true, false, List, length, take, Option, Some, None, slice_get}
 use Rattle.std.specs.List.{list_any}
-use Rattle.rept_moments.specs.declared.writers.Writer.{Writer}
-use Rattle.rept_moments.specs.declared.writers.Latest.{Latest}
-use Rattle.rept_moments.specs.Writers.{lasts_to}
+use Rattle.rept_crossing.specs.declared.writer.Writer.{Writer}
+use Rattle.rept_crossing.specs.declared.latest.Latest.{Latest}
+use Rattle.rept_crossing.specs.Writers.{lasts_to}
 
 abbrev pub later_of : Option ℕ → ℕ → Option ℕ
 later_of None time = Some time

@@ -2,9 +2,9 @@ use Rattle.std.proofs.Common.{◌≡◌, ◌<◌, ◌≤◌, List, leb, get_or, 
 use Rattle.std.specs.List.Sorted.{IsNonDecreasingBy}
 use Rattle.std.proofs.lemmas.Bool.Decides.{nat_tests}
 use Rattle.std.proofs.lemmas.List.Sorted.{IsPartitionPoint-from_clause, IsPartitionedBy-leb}
-use Rattle.rept_moments.specs.declared.writers.Writer.{Writer}
-use Rattle.rept_moments.specs.Writers.{no_writer}
-use Rattle.rept_moments.proofs.writers.Writers.begun_by.Goals as goal
+use Rattle.rept_crossing.specs.declared.writer.Writer.{Writer}
+use Rattle.rept_crossing.specs.Writers.{no_writer}
+use Rattle.rept_crossing.proofs.writers.Writers.begun_by.Goals as goal
 
 pub returns-clause-before : goal.returns-clause-before
 returns-clause-before c = λ k less.

@@ -4,12 +4,11 @@ use Rattle.std.specs.List.{list_any}
 use Rattle.std.proofs.lemmas.Bool.{false≢true, cases_lt, cases_eq, cases_order, or_cases, or_left, and_parts, eq-eqb, ne_eqb, lt-ltb, le-ltb, leb-true, le-leb}
 use Rattle.std.proofs.lemmas.List.Folds.{list_any-append}
 use Rattle.std.proofs.lemmas.Option.{slice_get_past, slice_get_read}
-use Rattle.rept_moments.proofs.Places.{get_end, get_before}
-use Rattle.rept_moments.specs.declared.writers.Writer.{Writer}
-use Rattle.rept_moments.specs.declared.writers.Rest.{Rest}
-use Rattle.rept_moments.specs.declared.writers.Latest.{Latest}
-use Rattle.rept_moments.specs.Writers.{no_writer, lasts_to, not_past, crosses}
-use Rattle.rept_moments.specs.Latest.{later_of, latest_none, latest_with, reaches_to, latest_reaches, TellsLatest, AreLatest}
+use Rattle.rept_crossing.specs.declared.writer.Writer.{Writer}
+use Rattle.rept_crossing.specs.declared.writer.Rest.{Rest}
+use Rattle.rept_crossing.specs.declared.latest.Latest.{Latest}
+use Rattle.rept_crossing.specs.Writers.{no_writer, lasts_to, not_past, crosses}
+use Rattle.rept_crossing.specs.Latest.{later_of, latest_none, latest_with, reaches_to, latest_reaches, TellsLatest, AreLatest}
 
 or_false : (a : Bool) → (a || false) ≡ a
 or_false true = refl
@@ -167,6 +166,15 @@ IsTable ws i xs x = record {
   each : (k : ℕ) (x : Latest) → slice_get xs k ≡ Some x → TellsLatest (take k ws) x;
   known : TellsLatest (take i ws) x;
 }
+
+get_end : (xs : List Latest) (x : Latest) → slice_get (xs ++ x ∷ []) (length xs) ≡ Some x
+get_end [] x = refl
+get_end (y ∷ xs) x = get_end xs x
+
+get_before : (xs : List Latest) (x : Latest) (k : ℕ) → k < length xs → slice_get (xs ++ x ∷ []) k ≡ slice_get xs k
+get_before [] x k less = absurd (omega arith)
+get_before (y ∷ xs) x zero less = refl
+get_before (y ∷ xs) x (suc k) less = get_before xs x k (omega arith)
 
 one_more : (n : ℕ) → n + 1 ≡ suc n
 one_more n = omega arith

@@ -1,7 +1,7 @@
 use Rattle.std.proofs.Common.{◌≡◌, ℕ, suc, length, take, Some, slice_get}
-use Rattle.rept_moments.specs.declared.writers.Latest.{Latest}
-use Rattle.rept_moments.specs.Latest.{TellsLatest}
-use Rattle.rept_moments.proofs.writers.latest_of_each.Given as goal
+use Rattle.rept_crossing.specs.declared.latest.Latest.{Latest}
+use Rattle.rept_crossing.specs.Latest.{TellsLatest}
+use Rattle.rept_crossing.proofs.latest.latest_of_each.Given as goal
 
 abbrev pub invariant-loop-writer : goal.invariant-loop-writer
 invariant-loop-writer l = record {
