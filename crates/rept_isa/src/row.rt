@@ -7,7 +7,7 @@ use crate::instr::Instr;
 
 /// One executed step: the address of its instruction, the instruction, and the address of the next step.
 /// `call` is true exactly for ECALL; `short` is true where the instruction is the expansion of a compressed one, which takes two bytes.
-#[derive(Clone, Copy, PartialEq, Eq, Debug)]
+#[derive(Clone, Copy, PartialEq, Eq)]
 pub struct StepRow {
     pub at: u32,
     pub instr: Instr,
