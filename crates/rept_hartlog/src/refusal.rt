@@ -11,7 +11,7 @@ use rept_simlog::LogFault;
 use thiserror::Error;
 
 /// Why a log of several harts isn't recorded. Lines are numbered from 1.
-#[derive(Clone, Copy, Debug, PartialEq, Eq, Error)]
+#[derive(Clone, Copy, Debug, Error)]
 pub enum Refusal {
     /// The executable is refused.
     #[error("executable: {0}")]

@@ -3,3 +3,4 @@ pub mod RowLemmas
 pub mod WordLemmas
 pub mod RangeLemmas
 pub mod EncodeLemmas
+pub mod WrittenLemmas

@@ -5,3 +5,4 @@ pub mod Rows
 pub mod Reading
 pub mod Words
 pub mod Texts
+pub mod Written

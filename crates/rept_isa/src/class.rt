@@ -1,7 +1,7 @@
 //! What kinds of instructions and ways of branches there are.
 
 /// What an instruction does to the path.
-#[derive(Clone, Copy, PartialEq, Eq, Debug)]
+#[derive(Clone, Copy, Debug)]
 pub enum Kind {
     /// The next instruction follows.
     Plain,
@@ -21,7 +21,7 @@ pub enum Kind {
 }
 
 /// Which way the row of a branch went.
-#[derive(Clone, Copy, PartialEq, Eq, Debug)]
+#[derive(Clone, Copy, Debug)]
 pub enum Turn {
     Taken,
     NotTaken,

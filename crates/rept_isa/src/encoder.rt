@@ -5,6 +5,7 @@ ghost use Rattle.rept_isa.specs.declared.instr.Instr.{Instr};
 ghost use Rattle.rept_isa.specs.declared.instr.ImmOp.{ImmOp};
 ghost use Rattle.rept_isa.specs.declared.instr.AmoOp.{AmoOp};
 ghost use Rattle.rept_isa.specs.Words.{IsWord, IsUpper, IsJal, IsIForm, IsBranch, IsStore, IsRegister, IsAmo, IsUnordered, HasSource, IsImmediate, IsShift, IsCounterRead, IsCounter, full_fence, opcode, rd_field, funct3, rs1_field, rs2_field, funct7, field, branch_funct3, load_funct3, store_funct3, op_funct3, op_funct7, amo_funct5};
+ghost use Rattle.rept_isa.specs.Written.{IsWritten};
 ghost use Rattle.rept_isa.specs.Range.{InRange, InBits, IsEven, IsUpperPart, HoldsImmediate, IsAmount};
 
 use crate::instr::{AmoOp, BranchOp, ImmOp, Instr, LoadOp, RegOp, StoreOp};
@@ -20,6 +21,14 @@ pub fn encode(instr: &Instr) -> u32
     ensures only { (i : Instr) → IsWord result i → i ≡ instr.now }
     ensures unordered { (op : AmoOp) (rd rs1 rs2 : ℕ) → instr.now ≡ Instr.Amo op rd rs1 rs2 → IsUnordered result }
     ensures fence { instr.now ≡ Instr.Fence → result ≡ full_fence }
+{
+    spell(instr)
+}
+
+/// The same word, by what the encoder writes of each kind.
+fn spell(instr: &Instr) -> u32
+    requires { InRange instr.now }
+    ensures { IsWritten result instr.now }
 {
     match *instr {
         Instr::Lui { rd, imm } => upper(0x37, rd, imm),

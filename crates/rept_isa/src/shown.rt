@@ -3,7 +3,7 @@
 ghost use Rattle.std.specs.Prelude.{◌≡◌, ◌+◌, ◌/◌, ◌%◌, ◌^◌, ◌<◌, ◌++◌, codes, Some};
 ghost use Rattle.std.specs.Fmt.{digits, signed_decimal, DisplaysOnOk};
 ghost use Rattle.rept_isa.specs.Numbers.{plus};
-ghost use Rattle.rept_isa.specs.Texts.{offset_of, register_text, hex_digit, hex_text, place_text, address_text, branch_name, load_name, store_name, imm_name, op_name, amo_name, amo_text, with_source, instruction_text};
+ghost use Rattle.rept_isa.specs.Texts.{offset_of, register_text, hex_digit, hex_text, place_text, address_text, branch_name, load_name, store_name, imm_name, op_name, amo_name, amo_text, instruction_text};
 
 use crate::instr::{AmoOp, BranchOp, ImmOp, Instr, LoadOp, RegOp, StoreOp};
 use crate::number::plus;
@@ -20,7 +20,7 @@ impl fmt::Display for Reg {
 }
 
 /// An instruction at an address, written as assemblers write it: `addi x5,x6,-1`, `beq x1,x2,0x00010008`.
-#[derive(Clone, Copy, PartialEq, Eq, Debug)]
+#[derive(Clone, Copy)]
 pub struct Shown {
     pub at: u32,
     pub instr: Instr,
@@ -154,7 +154,7 @@ fn show_with_source<W: fmt::Write>(
     name: &str,
     registers: (Reg, Reg, Reg),
 ) -> fmt::Result
-    ensures { DisplaysOnOk W.Write.write_str_gives f.old result (Some (with_source name.now registers.0 registers.1 registers.2)) f.new }
+    ensures { DisplaysOnOk W.Write.write_str_gives f.old result (Some (name.now ++ codes " " ++ register_text registers.0 ++ codes "," ++ register_text registers.2 ++ codes ",(" ++ register_text registers.1 ++ codes ")")) f.new }
 {
     let (rd, rs1, rs2) = registers;
     write!(f, "{name} {rd},{rs2},({rs1})")

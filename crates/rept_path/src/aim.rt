@@ -1,7 +1,7 @@
 //! Where the moves of a packet stop.
 
 /// Where the moves of a packet stop.
-#[derive(Clone, Copy, Debug, PartialEq, Eq)]
+#[derive(Clone, Copy)]
 pub enum Aim {
     /// The target of an uninferable jump.
     Jumped,

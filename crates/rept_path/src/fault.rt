@@ -6,7 +6,7 @@ use thiserror::Error;
 
 /// Why a trace has no path over the program. Packets are numbered from 0. What comes first along the trace is the fault,
 /// but for `Packet` and `NoStart`, which come before all others.
-#[derive(Clone, Copy, Debug, PartialEq, Eq, Error)]
+#[derive(Clone, Copy, Debug, Error)]
 pub enum PathFault {
     /// No start packet may begin the path: the count of all packets. Or this packet comes where only a start packet may.
     #[error("no start packet before packet {0}")]

@@ -4,7 +4,7 @@ use rept_isa::Instr;
 use rept_isa::number::word;
 
 /// Where an instruction leads (RISC-V unprivileged manual, chapter 2.5).
-#[derive(Clone, Copy, Debug, PartialEq, Eq)]
+#[derive(Clone, Copy)]
 pub enum Flow {
     /// To the instruction after it.
     Plain,

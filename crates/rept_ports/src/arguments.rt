@@ -10,7 +10,7 @@ use std::io::{self, ErrorKind};
 use thiserror::Error;
 
 /// Why the words of a process can't be read.
-#[derive(Clone, Copy, Debug, PartialEq, Eq, Error)]
+#[derive(Clone, Copy, Debug, Error)]
 pub enum Unreadable {
     /// One of them isn't text.
     #[error("a word isn't text")]

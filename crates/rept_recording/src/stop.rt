@@ -7,7 +7,7 @@ use crate::logs::LogRefusal;
 use thiserror::Error;
 
 /// Why no trace was written, or only a part of it.
-#[derive(Clone, Copy, Debug, PartialEq, Eq, Error)]
+#[derive(Clone, Copy, Debug, Error)]
 pub enum Stop {
     /// The words aren't one name.
     #[error("usage: rept_record EXE < LOG > TRACE")]

@@ -5,7 +5,7 @@ use rept_elf::ElfFault;
 use rept_path::PathFault;
 
 /// Why an executable, a core file and a trace of several streams tell no run.
-#[derive(Clone, Copy, Debug, PartialEq, Eq)]
+#[derive(Clone, Copy, Debug)]
 pub enum RunFault {
     /// The executable is no image that is read.
     Executable(ElfFault),

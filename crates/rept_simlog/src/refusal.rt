@@ -5,7 +5,7 @@ use rept_path::PathFault;
 use thiserror::Error;
 
 /// Why a log isn't recorded. Lines are numbered from 1.
-#[derive(Clone, Copy, Debug, PartialEq, Eq, Error)]
+#[derive(Clone, Copy, Debug, Error)]
 pub enum Refusal {
     /// The executable is refused.
     #[error("executable: {0}")]

@@ -8,7 +8,7 @@ use crate::lines::limits::MOST_LINE;
 use arrayvec::ArrayVec;
 
 /// What was found: a line whose bytes are kept, one of more than 256 bytes, or the end of the input.
-#[derive(Clone, Copy, Debug, PartialEq, Eq)]
+#[derive(Clone, Copy)]
 pub enum Found {
     Text,
     Long,

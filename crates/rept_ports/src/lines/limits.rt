@@ -9,7 +9,7 @@ pub const MOST_INPUT: usize = 1_048_576;
 pub const MOST_LINE: usize = 256;
 
 /// Why no line was read.
-#[derive(Clone, Copy, Debug, PartialEq, Eq, Error)]
+#[derive(Clone, Copy, Debug, Error)]
 pub enum LineFault {
     /// The source failed.
     #[error("the source failed")]
@@ -20,7 +20,7 @@ pub enum LineFault {
 }
 
 /// A line of the input, without the newline that ends it and without one carriage return before that.
-#[derive(Clone, Copy, Debug, PartialEq, Eq)]
+#[derive(Clone, Copy, Debug)]
 pub enum Line<'a> {
     /// Its bytes, of which there are at most 256.
     Text(&'a [u8]),
