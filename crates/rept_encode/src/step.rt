@@ -10,7 +10,7 @@ ghost use Rattle.rept_encode.specs.Added.{AddsStep, IsAskedStep, IsStepFault, Ma
 
 use crate::fault::StepFault;
 use rept_isa::number::{following, plus};
-use rept_isa::{Instr, StepRow, from_address};
+use rept_isa::{Instr, StepRow, from_address, is_call};
 use rept_path::flow::{Flow, flow_of};
 use rept_steps::{PushFault, Steps};
 
@@ -63,7 +63,7 @@ pub fn step_between(halves: bool, site: &Site, next: u32) -> Option<StepRow>
         return None;
     }
     let instr = site.instr;
-    let call = instr == Instr::Ecall;
+    let call = is_call(&instr);
     Some(StepRow {
         at: site.at,
         instr,

@@ -3,7 +3,7 @@
 use crate::reg::Reg;
 
 /// The condition of a branch (unprivileged manual, chapter 2.5).
-#[derive(Clone, Copy, PartialEq, Eq)]
+#[derive(Clone, Copy)]
 pub enum BranchOp {
     Beq,
     Bne,
@@ -14,7 +14,7 @@ pub enum BranchOp {
 }
 
 /// Width and extension of a load (chapter 2.6).
-#[derive(Clone, Copy, PartialEq, Eq)]
+#[derive(Clone, Copy)]
 pub enum LoadOp {
     Lb,
     Lh,
@@ -24,7 +24,7 @@ pub enum LoadOp {
 }
 
 /// Width of a store (chapter 2.6).
-#[derive(Clone, Copy, PartialEq, Eq)]
+#[derive(Clone, Copy)]
 pub enum StoreOp {
     Sb,
     Sh,
@@ -32,7 +32,7 @@ pub enum StoreOp {
 }
 
 /// An operation on a register and an immediate (chapter 2.4).
-#[derive(Clone, Copy, PartialEq, Eq)]
+#[derive(Clone, Copy)]
 pub enum ImmOp {
     Addi,
     Slti,
@@ -46,7 +46,7 @@ pub enum ImmOp {
 }
 
 /// An operation on two registers (chapters 2.4 and 7).
-#[derive(Clone, Copy, PartialEq, Eq)]
+#[derive(Clone, Copy)]
 pub enum RegOp {
     Add,
     Sub,
@@ -70,7 +70,7 @@ pub enum RegOp {
 
 /// An operation on a word of memory (chapter 8): a load that reserves and a store that is conditional on the reservation, and the atomic memory
 /// operations, which read a word, write another one and leave no step between.
-#[derive(Clone, Copy, PartialEq, Eq)]
+#[derive(Clone, Copy)]
 pub enum AmoOp {
     Lr,
     Sc,
@@ -87,7 +87,7 @@ pub enum AmoOp {
 
 /// An instruction of RV32IMA. `imm` is the immediate as the instruction uses it: a signed number, or for
 /// `Lui` and `Auipc` the upper 20 bits in place; for the three shifts it is the amount, 0 to 31.
-#[derive(Clone, Copy, PartialEq, Eq)]
+#[derive(Clone, Copy)]
 pub enum Instr {
     Lui {
         rd: Reg,

@@ -4,12 +4,10 @@ ghost use Rattle.std.specs.Prelude.{◌≡◌};
 ghost use Rattle.rept_isa.specs.Rows.{from_at};
 
 use crate::instr::Instr;
-use crate::shown::Shown;
-use std::fmt;
 
 /// One executed step: the address of its instruction, the instruction, and the address of the next step.
 /// `call` is true exactly for ECALL; `short` is true where the instruction is the expansion of a compressed one, which takes two bytes.
-#[derive(Clone, Copy, PartialEq, Eq)]
+#[derive(Clone, Copy)]
 pub struct StepRow {
     pub at: u32,
     pub instr: Instr,
@@ -27,20 +25,6 @@ impl StepRow {
         ensures { result ≡ from_of self.now }
     {
         from_address(self.at, self.short)
-    }
-}
-
-impl fmt::Debug for StepRow {
-    fn fmt<W: fmt::Write>(&self, f: &mut fmt::Formatter<W>) -> fmt::Result {
-        let StepRow {
-            at,
-            instr,
-            next,
-            call,
-            short,
-        } = *self;
-        let shown = Shown { at, instr };
-        write!(f, "{at:#x}: {shown} to {next:#x}, call {call}, short {short}")
     }
 }
 

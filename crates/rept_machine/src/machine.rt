@@ -8,7 +8,7 @@ ghost use Rattle.rept_machine.specs.Choices.{Picks};
 use crate::execute::execute;
 use crate::memory::Memory;
 use crate::registers::read;
-use rept_isa::{Instr, Reg, StepRow, decode};
+use rept_isa::{Instr, Reg, StepRow, decode, is_call};
 use std::alloc::Global;
 use thiserror::Error;
 
@@ -87,13 +87,13 @@ impl<'a> Machine<'a> {
         let at = self.pc;
         let word = self.word_at(at).ok_or(Halt::NotCode(at))?;
         let instr = decode(word).ok_or(Halt::NotRunnable(at))?;
-        if instr == Instr::Ebreak {
+        if matches!(instr, Instr::Ebreak) {
             return Err(Halt::NotRunnable(at));
         }
         let done = execute(&mut self.registers, &mut self.memory, &instr, at);
         let next = done.map_err(|_| Halt::OutOfMemory)?;
         self.pc = next;
-        let call = instr == Instr::Ecall;
+        let call = is_call(&instr);
         Ok(StepRow {
             at,
             instr,
