@@ -1,15 +1,24 @@
-//! Files that the lines of a table make, one after another.
+//! What the ports answer, on memory and on the files, pipes, devices and streams of this machine; and executables, core files and lists of mapped files, whole and damaged.
 
-use crate::ports::Ports;
-use crate::{images, system};
+mod dumps;
+mod fails;
+mod images;
+mod mapped;
+mod names;
+mod ports;
+mod streams;
+mod system;
+
+use ports::Ports;
 use std::alloc::{AllocError, Global};
 use std::{mem, rt};
+pub use streams::reads;
+use test_lines::Numbers;
 use test_lines::bytes::{append_zeros, changed};
-use test_lines::{Numbers, Table};
 
-/// A real executable and its core file, an executable, a file that is being made, and ports.
+/// The table, with what some of its lines make: a real executable and its core file, an executable, a file that is being made, and ports.
 #[derive(Drop)]
-pub struct Files<'r, R> {
+pub struct FileTable<'r, R> {
     rt: &'r R,
     real: Vec<u8>,
     real_core: Vec<u8>,
@@ -18,16 +27,16 @@ pub struct Files<'r, R> {
     ports: Ports,
 }
 
-impl<'r, R: rt::Files> Files<'r, R> {
+impl<'r, R: rt::Files> FileTable<'r, R> {
     /// Beside the real files none is made yet.
     pub fn new(
         alloc: Global,
         rt: &'r R,
         real: Vec<u8>,
         real_core: Vec<u8>,
-    ) -> Result<Files<'r, R>, AllocError> {
+    ) -> Result<FileTable<'r, R>, AllocError> {
         let ports = Ports::new(alloc)?;
-        Ok(Files {
+        Ok(FileTable {
             rt,
             real,
             real_core,
@@ -48,10 +57,13 @@ impl<'r, R: rt::Files> Files<'r, R> {
         }
         Ok(true)
     }
-}
 
-impl<'r, R: rt::Files> Table for Files<'r, R> {
-    fn answer(&mut self, alloc: Global, asked: &str, n: &Numbers) -> Result<String, AllocError> {
+    pub fn answer(
+        &mut self,
+        alloc: Global,
+        asked: &str,
+        n: &Numbers,
+    ) -> Result<String, AllocError> {
         if test_lines::bytes::make(alloc, &mut self.file, asked, n)?
             || self.make(asked, n)?
             || self.ports.take(alloc, self.file.as_slice(), asked, n)?

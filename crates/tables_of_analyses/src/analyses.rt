@@ -1,0 +1,78 @@
+//! What is concluded of small runs and why, over bytes in a list, bytes in spans and a list that refuses every other fact.
+
+mod asked;
+mod files;
+mod refusing;
+
+use asked::{Asked, over_dump};
+use files::Files;
+use refusing::Refusing;
+use rept_dump::Dump;
+use rept_elf::{Image, Want};
+use rept_steps::Steps;
+use rept_versions::{PlainFacts, SpanFacts};
+use std::alloc::{AllocError, Global};
+use test_lines::Numbers;
+
+/// The table, with a run that its lines make: its steps and the registers at its end.
+#[derive(Drop)]
+pub struct AnalysisTable {
+    files: Files,
+}
+
+impl AnalysisTable {
+    /// A run without a step.
+    pub fn new(alloc: Global) -> Result<AnalysisTable, AllocError> {
+        let files = Files::new(alloc)?;
+        Ok(AnalysisTable { files })
+    }
+
+    pub fn answer(
+        &mut self,
+        alloc: Global,
+        asked: &str,
+        n: &Numbers,
+    ) -> Result<String, AllocError> {
+        match asked {
+            "path" => self.files = Files::new(alloc)?,
+            "steps" => self.files.append(n)?,
+            "last" => self.files.set(n),
+            _ => return self.told(alloc, Asked { word: asked, n }),
+        }
+        format!(in alloc; "{} steps", self.files.count())
+    }
+
+    /// What is answered over the dump in which the run ends.
+    fn told(&self, alloc: Global, asked: Asked<'_>) -> Result<String, AllocError> {
+        let Some(steps) = self.files.steps(alloc) else {
+            return String::from_str(alloc, "no path");
+        };
+        let exe = self.files.exe(alloc)?;
+        let core = self.files.core(alloc, &steps)?;
+        let exe = Image::read(exe.as_slice(), Want::Exec);
+        let core = Image::read(core.as_slice(), Want::Core);
+        match (exe, core) {
+            (Ok(exe), Ok(core)) => match Dump::read(exe, core) {
+                Ok(dump) => alike(alloc, &steps, &dump, asked),
+                Err(_) => String::from_str(alloc, "no dump"),
+            },
+            _ => String::from_str(alloc, "no files"),
+        }
+    }
+}
+
+/// What each kind of store answers: one answer where all say the same.
+fn alike(
+    alloc: Global,
+    steps: &Steps,
+    dump: &Dump<'_>,
+    asked: Asked<'_>,
+) -> Result<String, AllocError> {
+    let plain = over_dump::<PlainFacts>(alloc, steps, dump, asked)?;
+    let spans = over_dump::<SpanFacts>(alloc, steps, dump, asked)?;
+    let refusing = over_dump::<Refusing>(alloc, steps, dump, asked)?;
+    if plain == spans && plain == refusing {
+        return Ok(plain);
+    }
+    format!(in alloc; "{plain}, in spans {spans}, in a list that refuses {refusing}")
+}
