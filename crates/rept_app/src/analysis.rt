@@ -36,9 +36,14 @@ pub fn basis_of<'a>(alloc: Global, run: &'a Run, dump: &Dump<'_>) -> Result<Basi
     ensures course { IfOk result (λ basis. IsCourseOf (course_of run.now) basis.paths.ways) }
     ensures ended { IfOk result (λ basis. AreEndsOf dump.now run.now basis.ends) }
 {
-    let ends = ThreadEnds::new(alloc, run, dump)?;
-    let paths = RunPaths::new(alloc, run)?;
-    Ok(Basis { ends, paths })
+    let ends = match ThreadEnds::new(alloc, run, dump) {
+        Ok(ends) => ends,
+        Err(error) => return Err(error),
+    };
+    match RunPaths::new(alloc, run) {
+        Ok(paths) => Ok(Basis { ends, paths }),
+        Err(error) => Err(error),
+    }
 }
 
 /// Learns all that follows of a run that ends in a dump, with values followed as sets of `W`. The refusals are a conflict that the closure has, with no execution that ends in the dump, and want of

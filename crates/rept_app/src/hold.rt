@@ -36,3 +36,18 @@ pub fn hold<F: Findings, S: Source, K: Sink>(
         Served::OutOfMemory => deliver(out, b"out-of-memory\n", Status::OutOfMemory),
     }
 }
+
+/// The same by findings that are let go when the session ends.
+pub fn hold_found<F: Findings + Drop, S: Source, K: Sink>(
+    alloc: Global,
+    findings: F,
+    skipped: u32,
+    input: &mut S,
+    out: &mut K,
+) -> Status
+    ensures text { IfSome (S.port input.old).bytes (λ bytes. Delivers (IsHeldSession (session_told (F.shown findings) skipped (F.reasons findings)) (record { input = bytes; left = (S.port input.new).bytes })) (move (K.port out.old) (K.port out.new)) result) }
+    ensures causes { IsCaused (move (S.port input.old) (S.port input.new)) (move (K.port out.old) (K.port out.new)) result }
+{
+    let mut findings = findings;
+    hold(alloc, &mut findings, skipped, input, out)
+}

@@ -15,7 +15,7 @@ ghost use Rattle.rept_app.specs.TraceRun.{FitsDump};
 ghost use Rattle.rept_app.specs.True.{IsExcluded};
 
 use crate::analysis::{Basis, analyse, basis_of};
-use crate::hold::hold;
+use crate::hold::hold_found;
 use crate::refusal::Refusal;
 use crate::status::Status;
 use crate::telling::tell;
@@ -87,7 +87,7 @@ fn study_over<W: Transfer, S: Source, K: Sink>(
     ensures impossible { (notes : List (List ℕ)) → AreNotesOf dump.now notes → result ≡ Status.Inconsistent → IsExcluded (crash_run (means W.sets W.moves atomic_rules) (crash_of dump.now notes) run.now) }
 {
     match analyse::<W>(alloc, run, basis, dump) {
-        Ok(mut found) => hold(alloc, &mut found, run.skipped, input, out),
+        Ok(found) => hold_found(alloc, found, run.skipped, input, out),
         Err(refusal) => tell(alloc, out, &refusal),
     }
 }

@@ -3,6 +3,7 @@ pub mod Enders
 pub mod Numbers
 pub mod Settings
 pub mod Single
+pub mod Stops
 pub mod Tellings
 pub mod Trips
 pub mod Truths

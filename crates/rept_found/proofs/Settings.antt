@@ -1,5 +1,5 @@
 -- An analysis over the paths of a run is of its trip.
-use Rattle.std.proofs.Common.{◌≡◌, ℕ, zero, suc, get_or, cond, false, ◌+◌, ◌*◌, ◌<◌, List, [], ◌∷◌, length, map, Option, Some, None, slice_get, inl, inr, refl, Bool, eqb, arith, sym, ap, subst, ◌∙◌}
+use Rattle.std.proofs.Common.{◌≡◌, ℕ, zero, suc, get_or, cond, false, ◌+◌, ◌*◌, ◌<◌, List, [], ◌∷◌, length, map, Option, Some, None, slice_get, unwrap_or, inl, inr, refl, Bool, eqb, arith, sym, ap, subst, ◌∙◌}
 use mathlib.Core.Path.{fun_ext}
 use Rattle.std.proofs.lemmas.List.FromFn.{fill_by_all}
 use Rattle.std.proofs.lemmas.Bool.Decides.{nat_tests}
@@ -79,6 +79,15 @@ ended_are (note ∷ notes) (status ∷ statuses) noted same =
     ap (λ (n : ℕ). record { end_pc = n; process = status.pid } ∷ map ended_as statuses) its.pc
     ∙ ap (λ (n : ℕ). record { end_pc = word_at note 72; process = n } ∷ map ended_as statuses) its.pid
     ∙ ap (λ (xs : List ThreadEnd). ended note ∷ xs) rest
+
+-- a thread's own end
+pub status_ended : (statuses : List Status) (t : ℕ) (status : Status) → slice_get statuses t ≡ Some status → unwrap_or (slice_get (map ended_as statuses) t) (record { end_pc = 0; process = 0 }) ≡ ended_as status
+status_ended [] t status at = absurd (none_is at)
+  where
+    none_is : {x : Status} → None ≡ Some x → ⊥
+    none_is e = cc
+status_ended (x ∷ statuses) zero status at = ap ended_as (some_is at)
+status_ended (x ∷ statuses) (suc t) status at = status_ended statuses t status at
 
 -- a run that ends so, and the scene of it
 pub trip_is : {W R : Type 0} (m : Means W) (v : CrashView W R) (notes : List (List ℕ)) → AreWhole v.ends.statuses → AreNoted notes v.ends.statuses → length v.ends.statuses ≡ length notes → trip_in m v ≡ route m (record { exe = v.program; core = v.core; notes = notes }) v.ends.course

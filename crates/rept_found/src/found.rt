@@ -1,11 +1,14 @@
 //! An analysis that has ended.
 
 ghost use Rattle.std.specs.Prelude.{◌≡◌, true, IfOk, IsOk, Err};
-ghost use Rattle.rept_report.specs.Closure.{ClosureHas, IsConsistent};
+ghost use Rattle.rept_report.specs.Closure.{ClosureHas, IsConsistent, IsReport};
+ghost use Rattle.rept_report.specs.Soundness.{HasNoExecution};
 ghost use Rattle.rept_report.specs.declared.conflict.ConflictKind.{ConflictKind};
 ghost use Rattle.rept_trip.specs.Executed.{HasNoHistory};
 ghost use Rattle.rept_trip.specs.Trip.{setting_on};
-ghost use Rattle.rept_analysis.specs.State.{IsLined};
+ghost use Rattle.rept_analysis.specs.Kept.{answers};
+ghost use Rattle.rept_analysis.specs.Logged.{IsLogOf};
+ghost use Rattle.rept_analysis.specs.State.{IsLined, path_of, reader, setting_of, state_of};
 ghost use Rattle.rept_found.specs.Crash.{means};
 ghost use Rattle.rept_found.specs.View.{IsFoundIn, read_in, scene_in, trip_in};
 
@@ -14,9 +17,11 @@ use crate::prepared::Prepared;
 use rept_analysis::{Analysis, Stop};
 use rept_dump::Dump;
 use rept_extents::RunRows;
+use rept_log::LastValues;
+use rept_reach::Reaches;
 use rept_span::Transfer;
 use rept_timeline::RunPaths;
-use rept_versions::SpanFacts;
+use rept_versions::{ByteFacts, SpanFacts};
 use rept_view::RowRules;
 use std::marker::Model;
 
@@ -59,16 +64,35 @@ pub fn search<'a, W: Transfer, R: RowRules>(
         ends,
         dump,
     } = prepared;
+    match refined(analysis) {
+        Ok(analysis) => Ok(Found {
+            analysis,
+            paths,
+            ends,
+            dump,
+        }),
+        Err(stop) => Err(stop),
+    }
+}
+
+/// The analysis when all that follows is learnt. Where learning stops, it is let go.
+fn refined<'a, P: Reaches + Drop, L: LastValues + Drop, B: ByteFacts, W: Transfer, R: RowRules>(
+    analysis: Analysis<'a, P, L, B, W, R>,
+) -> Result<Analysis<'a, P, L, B, W, R>, Stop>
+    ensures path { IfOk result (λ a. path_of (reader P.timeline L.values) W.sets W.moves R.rules a ≡ path_of (reader P.timeline L.values) W.sets W.moves R.rules analysis.entry) }
+    ensures complete { IfOk result (λ a. a.complete ≡ true) }
+    ensures report { IfOk result (λ a. IsReport (setting_of (reader P.timeline L.values) W.sets W.moves R.rules a) (answers (state_of (reader P.timeline L.values) W.sets W.moves R.rules B.store a))) }
+    ensures log { IfOk result (λ a. IsLogOf (setting_of (reader P.timeline L.values) W.sets W.moves R.rules a) (answers (state_of (reader P.timeline L.values) W.sets W.moves R.rules B.store a)) a.known.log) }
+    ensures conflict { (kind : ConflictKind) → result ≡ Err (Stop.Conflict kind) → ClosureHas (setting_of (reader P.timeline L.values) W.sets W.moves R.rules analysis.entry) kind }
+    ensures impossible { (kind : ConflictKind) → result ≡ Err (Stop.Conflict kind) → HasNoExecution (setting_of (reader P.timeline L.values) W.sets W.moves R.rules analysis.entry) }
+    ensures joins { B.JOINS ≡ true → IsLined (P.timeline analysis.entry.paths) → result ≡ Err Stop.OutOfMemory → ⊥ }
+    ensures exact { B.JOINS ≡ true → IsLined (P.timeline analysis.entry.paths) → IsConsistent (setting_of (reader P.timeline L.values) W.sets W.moves R.rules analysis.entry) → IsOk result }
+{
     let mut analysis = analysis;
     match analysis.refine() {
         Ok(()) => {
             analysis.account();
-            Ok(Found {
-                analysis,
-                paths,
-                ends,
-                dump,
-            })
+            Ok(analysis)
         }
         Err(stop) => Err(stop),
     }

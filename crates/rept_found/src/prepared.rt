@@ -54,15 +54,20 @@ pub fn prepare<'a, W: Transfer, R: RowRules>(
     ensures prepared { (notes : List (List ℕ)) → AreNoted notes ends.now.statuses → length ends.now.statuses ≡ length notes → IfOk result (IsPreparedFor (means W.sets W.moves R.rules) (route (means W.sets W.moves R.rules) (crash_of dump.now notes) ends.now.course) (scene_of (crash_of dump.now notes))) }
 {
     ends.account();
-    let rows = RunRows::new(alloc, ends.run(), paths)?;
+    let rows = match RunRows::new(alloc, ends.run(), paths) {
+        Ok(rows) => rows,
+        Err(error) => return Err(error),
+    };
     let last = RunEnds::new(ends);
-    let analysis = Analysis::<'a, RunRows<'a>, RunEnds<'a>, SpanFacts, W, R>::prepare(
+    match Analysis::<'a, RunRows<'a>, RunEnds<'a>, SpanFacts, W, R>::prepare(
         alloc, rows, last, dump, rules,
-    )?;
-    Ok(Prepared {
-        analysis,
-        paths,
-        ends,
-        dump,
-    })
+    ) {
+        Ok(analysis) => Ok(Prepared {
+            analysis,
+            paths,
+            ends,
+            dump,
+        }),
+        Err(error) => Err(error),
+    }
 }

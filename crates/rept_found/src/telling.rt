@@ -1,15 +1,24 @@
 //! What a session asks of an analysis that has ended.
 
+ghost use Rattle.std.specs.Prelude.{◌≡◌, ◌≤◌, true};
+ghost use Rattle.rept_reason.specs.Facts.{register_known};
+ghost use Rattle.rept_analysis.specs.Kept.{answers};
+ghost use Rattle.rept_analysis.specs.State.{reader, state_of};
+
 use crate::found::Found;
+use rept_analysis::Analysis;
 use rept_elf::Symbol;
 use rept_isa::{Reg, StepRow};
+use rept_log::LastValues;
 use rept_moments::Course;
 use rept_partial::{Partial, Range};
 use rept_places::{place_of, point_of};
+use rept_reach::Reaches;
 use rept_reason::{Fact, Reason};
 use rept_report::{Counts, Paths, Writer, bounds};
 use rept_session::{Findings, ThreadPlace, ThreadPoint};
 use rept_span::Transfer;
+use rept_versions::ByteFacts;
 use rept_view::RowRules;
 use rept_word::OutOfMemory;
 use std::alloc::Global;
@@ -81,8 +90,7 @@ impl<'a, W: Transfer, R: RowRules> Findings for Found<'a, W, R> {
     }
 
     fn reg(&self, point: u32, register: Reg) -> Option<u32> {
-        self.analysis.account();
-        self.analysis.reg(point, register).as_exact()
+        known_register(&self.analysis, point, register)
     }
 
     fn range(&self, point: u32, register: Reg) -> Range {
@@ -116,4 +124,17 @@ impl<'a, W: Transfer, R: RowRules> Findings for Found<'a, W, R> {
     fn why(&mut self, alloc: Global, fact: Fact) -> Result<Option<Reason>, OutOfMemory> {
         self.analysis.why(alloc, fact)
     }
+}
+
+/// What an analysis that has ended knows of a register at a point.
+fn known_register<P: Reaches + Drop, L: LastValues + Drop, B: ByteFacts, W: Transfer, R: RowRules>(
+    analysis: &Analysis<'_, P, L, B, W, R>,
+    point: u32,
+    register: Reg,
+) -> Option<u32>
+    requires { point ≤ (P.timeline analysis.now.paths).legs.count }
+    ensures { analysis.now.complete ≡ true → result ≡ register_known (answers (state_of (reader P.timeline L.values) W.sets W.moves R.rules B.store analysis.now)) point register }
+{
+    analysis.account();
+    analysis.reg(point, register).as_exact()
 }

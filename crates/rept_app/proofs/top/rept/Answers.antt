@@ -304,7 +304,6 @@ returns-in-Err-clause-bits g c = where_told (g.H.Shelf.port c.args.shelf.now).fi
 
 pub returns-in-Ok-Maps-clause-causes : goal.returns-in-Ok-Maps-clause-causes
 returns-in-Ok-Maps-clause-causes g c =
-    let words = map string_bytes c.args.words.now in
     let old = g.H.Shelf.port c.args.shelf.now in
     let mid = g.H.Shelf.port c.load_files.new.shelf in
     let new = g.H.Shelf.port c.examine_mapped.new.shelf in
@@ -313,7 +312,6 @@ returns-in-Ok-Maps-clause-causes g c =
     let bytes = core_bytes c.in-Ok-Maps.files.core.items c.in-Ok-Maps.files.trace.items c.in-Ok-Maps.files.manner in
     let f = c.load_files.ensures.faults in
     let calm = done_at c.load_files.result c.in-Ok-Maps.field-0 c.in-Ok-Maps.is f.calm in
-    let loads = both_at c.load_files.result c.in-Ok-Maps.field-0 c.in-Ok-Maps.files (meaning_of words) old mid c.in-Ok-Maps.is c.in-Ok-Maps.field-0-is c.load_files.ensures.asked in
     mapped_causes old mid new bytes source sink c.examine_mapped.result f.files calm c.examine_mapped.ensures.causes
 
 pub returns-in-Ok-Maps-clause-once : goal.returns-in-Ok-Maps-clause-once
@@ -332,7 +330,6 @@ returns-in-Ok-Maps-clause-once g c each =
 
 pub returns-in-Ok-Maps-clause-usage : goal.returns-in-Ok-Maps-clause-usage
 returns-in-Ok-Maps-clause-usage g c e =
-    let words = map string_bytes c.args.words.now in
     let old = g.H.Shelf.port c.args.shelf.now in
     let mid = g.H.Shelf.port c.load_files.new.shelf in
     let new = g.H.Shelf.port c.examine_mapped.new.shelf in
@@ -341,7 +338,6 @@ returns-in-Ok-Maps-clause-usage g c e =
     let bytes = core_bytes c.in-Ok-Maps.files.core.items c.in-Ok-Maps.files.trace.items c.in-Ok-Maps.files.manner in
     let f = c.load_files.ensures.faults in
     let calm = done_at c.load_files.result c.in-Ok-Maps.field-0 c.in-Ok-Maps.is f.calm in
-    let loads = both_at c.load_files.result c.in-Ok-Maps.field-0 c.in-Ok-Maps.files (meaning_of words) old mid c.in-Ok-Maps.is c.in-Ok-Maps.field-0-is c.load_files.ensures.asked in
     mapped_usage old mid new bytes source sink c.examine_mapped.result f.files calm c.examine_mapped.ensures.causes e
 
 pub returns-in-Ok-Maps-clause-no_meaning : goal.returns-in-Ok-Maps-clause-no_meaning
@@ -349,12 +345,7 @@ returns-in-Ok-Maps-clause-no_meaning g c none =
     let words = map string_bytes c.args.words.now in
     let old = g.H.Shelf.port c.args.shelf.now in
     let mid = g.H.Shelf.port c.load_files.new.shelf in
-    let new = g.H.Shelf.port c.examine_mapped.new.shelf in
-    let source = move (g.S.Source.port c.args.input.now) (g.S.Source.port c.examine_mapped.new.input) in
-    let sink = move (g.K.Sink.port c.args.out.now) (g.K.Sink.port c.examine_mapped.new.out) in
     let bytes = core_bytes c.in-Ok-Maps.files.core.items c.in-Ok-Maps.files.trace.items c.in-Ok-Maps.files.manner in
-    let f = c.load_files.ensures.faults in
-    let calm = done_at c.load_files.result c.in-Ok-Maps.field-0 c.in-Ok-Maps.is f.calm in
     let loads = both_at c.load_files.result c.in-Ok-Maps.field-0 c.in-Ok-Maps.files (meaning_of words) old mid c.in-Ok-Maps.is c.in-Ok-Maps.field-0-is c.load_files.ensures.asked in
     both_mean (meaning_of words) bytes.core old mid loads none
 
@@ -363,12 +354,7 @@ returns-in-Ok-Maps-clause-idle g c none =
     let words = map string_bytes c.args.words.now in
     let old = g.H.Shelf.port c.args.shelf.now in
     let mid = g.H.Shelf.port c.load_files.new.shelf in
-    let new = g.H.Shelf.port c.examine_mapped.new.shelf in
-    let source = move (g.S.Source.port c.args.input.now) (g.S.Source.port c.examine_mapped.new.input) in
-    let sink = move (g.K.Sink.port c.args.out.now) (g.K.Sink.port c.examine_mapped.new.out) in
     let bytes = core_bytes c.in-Ok-Maps.files.core.items c.in-Ok-Maps.files.trace.items c.in-Ok-Maps.files.manner in
-    let f = c.load_files.ensures.faults in
-    let calm = done_at c.load_files.result c.in-Ok-Maps.field-0 c.in-Ok-Maps.is f.calm in
     let loads = both_at c.load_files.result c.in-Ok-Maps.field-0 c.in-Ok-Maps.files (meaning_of words) old mid c.in-Ok-Maps.is c.in-Ok-Maps.field-0-is c.load_files.ensures.asked in
     both_named (meaning_of words) bytes.core old mid loads none
 
@@ -377,12 +363,7 @@ returns-in-Ok-Maps-clause-unread g c none =
     let words = map string_bytes c.args.words.now in
     let old = g.H.Shelf.port c.args.shelf.now in
     let mid = g.H.Shelf.port c.load_files.new.shelf in
-    let new = g.H.Shelf.port c.examine_mapped.new.shelf in
-    let source = move (g.S.Source.port c.args.input.now) (g.S.Source.port c.examine_mapped.new.input) in
-    let sink = move (g.K.Sink.port c.args.out.now) (g.K.Sink.port c.examine_mapped.new.out) in
     let bytes = core_bytes c.in-Ok-Maps.files.core.items c.in-Ok-Maps.files.trace.items c.in-Ok-Maps.files.manner in
-    let f = c.load_files.ensures.faults in
-    let calm = done_at c.load_files.result c.in-Ok-Maps.field-0 c.in-Ok-Maps.is f.calm in
     let loads = both_at c.load_files.result c.in-Ok-Maps.field-0 c.in-Ok-Maps.files (meaning_of words) old mid c.in-Ok-Maps.is c.in-Ok-Maps.field-0-is c.load_files.ensures.asked in
     both_named (meaning_of words) bytes.core old mid loads none
 
@@ -391,12 +372,7 @@ returns-in-Ok-Maps-clause-made g c =
     let words = map string_bytes c.args.words.now in
     let old = g.H.Shelf.port c.args.shelf.now in
     let mid = g.H.Shelf.port c.load_files.new.shelf in
-    let new = g.H.Shelf.port c.examine_mapped.new.shelf in
-    let source = move (g.S.Source.port c.args.input.now) (g.S.Source.port c.examine_mapped.new.input) in
-    let sink = move (g.K.Sink.port c.args.out.now) (g.K.Sink.port c.examine_mapped.new.out) in
     let bytes = core_bytes c.in-Ok-Maps.files.core.items c.in-Ok-Maps.files.trace.items c.in-Ok-Maps.files.manner in
-    let f = c.load_files.ensures.faults in
-    let calm = done_at c.load_files.result c.in-Ok-Maps.field-0 c.in-Ok-Maps.is f.calm in
     let loads = both_at c.load_files.result c.in-Ok-Maps.field-0 c.in-Ok-Maps.files (meaning_of words) old mid c.in-Ok-Maps.is c.in-Ok-Maps.field-0-is c.load_files.ensures.asked in
     both_asks (meaning_of words) bytes.core old mid c.examine_mapped.result loads
 
@@ -419,13 +395,8 @@ returns-in-Ok-Maps-clause-stays g c =
     let words = map string_bytes c.args.words.now in
     let old = g.H.Shelf.port c.args.shelf.now in
     let mid = g.H.Shelf.port c.load_files.new.shelf in
-    let new = g.H.Shelf.port c.examine_mapped.new.shelf in
-    let source = move (g.S.Source.port c.args.input.now) (g.S.Source.port c.examine_mapped.new.input) in
-    let sink = move (g.K.Sink.port c.args.out.now) (g.K.Sink.port c.examine_mapped.new.out) in
     let bytes = core_bytes c.in-Ok-Maps.files.core.items c.in-Ok-Maps.files.trace.items c.in-Ok-Maps.files.manner in
     let f = c.load_files.ensures.faults in
-    let calm = done_at c.load_files.result c.in-Ok-Maps.field-0 c.in-Ok-Maps.is f.calm in
-    let loads = both_at c.load_files.result c.in-Ok-Maps.field-0 c.in-Ok-Maps.files (meaning_of words) old mid c.in-Ok-Maps.is c.in-Ok-Maps.field-0-is c.load_files.ensures.asked in
     let at : IfSome old.files (λ fs. loading words fs ≡ LoadedCore bytes) = ok_at c.load_files.result c.in-Ok-Maps.field-0 (asked.Maps c.in-Ok-Maps.files) (λ a. IfSome old.files (λ fs. loading words fs ≡ asked_for a)) c.in-Ok-Maps.is c.in-Ok-Maps.field-0-is c.load_files.ensures.loaded in
     mapped_stays old.files mid.files (ComeToReport words) (λ files. MappedHolds (mapped_crash files bytes) c.examine_mapped.result) c.examine_mapped.result f.files
     (λ files told h. mapped_holds words files bytes (at_some old.files files (λ fs. loading words fs ≡ LoadedCore bytes) told at) c.examine_mapped.result h) c.examine_mapped.ensures.stays
@@ -435,13 +406,8 @@ returns-in-Ok-Maps-clause-files g c =
     let words = map string_bytes c.args.words.now in
     let old = g.H.Shelf.port c.args.shelf.now in
     let mid = g.H.Shelf.port c.load_files.new.shelf in
-    let new = g.H.Shelf.port c.examine_mapped.new.shelf in
-    let source = move (g.S.Source.port c.args.input.now) (g.S.Source.port c.examine_mapped.new.input) in
-    let sink = move (g.K.Sink.port c.args.out.now) (g.K.Sink.port c.examine_mapped.new.out) in
     let bytes = core_bytes c.in-Ok-Maps.files.core.items c.in-Ok-Maps.files.trace.items c.in-Ok-Maps.files.manner in
     let f = c.load_files.ensures.faults in
-    let calm = done_at c.load_files.result c.in-Ok-Maps.field-0 c.in-Ok-Maps.is f.calm in
-    let loads = both_at c.load_files.result c.in-Ok-Maps.field-0 c.in-Ok-Maps.files (meaning_of words) old mid c.in-Ok-Maps.is c.in-Ok-Maps.field-0-is c.load_files.ensures.asked in
     let at : IfSome old.files (λ fs. loading words fs ≡ LoadedCore bytes) = ok_at c.load_files.result c.in-Ok-Maps.field-0 (asked.Maps c.in-Ok-Maps.files) (λ a. IfSome old.files (λ fs. loading words fs ≡ asked_for a)) c.in-Ok-Maps.is c.in-Ok-Maps.field-0-is c.load_files.ensures.loaded in
     where_told old.files (λ files. EndsByFiles words files c.examine_mapped.result) (λ files told.
     mapped_ends words files bytes (at_some old.files files (λ fs. loading words fs ≡ LoadedCore bytes) told at) c.examine_mapped.result
@@ -453,13 +419,8 @@ returns-in-Ok-Maps-clause-impossible g c =
     let words = map string_bytes c.args.words.now in
     let old = g.H.Shelf.port c.args.shelf.now in
     let mid = g.H.Shelf.port c.load_files.new.shelf in
-    let new = g.H.Shelf.port c.examine_mapped.new.shelf in
-    let source = move (g.S.Source.port c.args.input.now) (g.S.Source.port c.examine_mapped.new.input) in
-    let sink = move (g.K.Sink.port c.args.out.now) (g.K.Sink.port c.examine_mapped.new.out) in
     let bytes = core_bytes c.in-Ok-Maps.files.core.items c.in-Ok-Maps.files.trace.items c.in-Ok-Maps.files.manner in
     let f = c.load_files.ensures.faults in
-    let calm = done_at c.load_files.result c.in-Ok-Maps.field-0 c.in-Ok-Maps.is f.calm in
-    let loads = both_at c.load_files.result c.in-Ok-Maps.field-0 c.in-Ok-Maps.files (meaning_of words) old mid c.in-Ok-Maps.is c.in-Ok-Maps.field-0-is c.load_files.ensures.asked in
     let at : IfSome old.files (λ fs. loading words fs ≡ LoadedCore bytes) = ok_at c.load_files.result c.in-Ok-Maps.field-0 (asked.Maps c.in-Ok-Maps.files) (λ a. IfSome old.files (λ fs. loading words fs ≡ asked_for a)) c.in-Ok-Maps.is c.in-Ok-Maps.field-0-is c.load_files.ensures.loaded in
     where_told old.files (λ files. c.examine_mapped.result ≡ ends.Inconsistent → NoExecution words files) (λ files told e.
     mapped_excludes words files bytes (at_some old.files files (λ fs. loading words fs ≡ LoadedCore bytes) told at)
@@ -475,7 +436,6 @@ returns-in-Ok-Maps-clause-text g c =
     let sink = move (g.K.Sink.port c.args.out.now) (g.K.Sink.port c.examine_mapped.new.out) in
     let bytes = core_bytes c.in-Ok-Maps.files.core.items c.in-Ok-Maps.files.trace.items c.in-Ok-Maps.files.manner in
     let f = c.load_files.ensures.faults in
-    let calm = done_at c.load_files.result c.in-Ok-Maps.field-0 c.in-Ok-Maps.is f.calm in
     let loads = both_at c.load_files.result c.in-Ok-Maps.field-0 c.in-Ok-Maps.files (meaning_of words) old mid c.in-Ok-Maps.is c.in-Ok-Maps.field-0-is c.load_files.ensures.asked in
     let at : IfSome old.files (λ fs. loading words fs ≡ LoadedCore bytes) = ok_at c.load_files.result c.in-Ok-Maps.field-0 (asked.Maps c.in-Ok-Maps.files) (λ a. IfSome old.files (λ fs. loading words fs ≡ asked_for a)) c.in-Ok-Maps.is c.in-Ok-Maps.field-0-is c.load_files.ensures.loaded in
     both old.files source.before.bytes _ (λ files told left told_left.
@@ -488,14 +448,9 @@ pub returns-in-Ok-Maps-clause-complete : goal.returns-in-Ok-Maps-clause-complete
 returns-in-Ok-Maps-clause-complete g c =
     let words = map string_bytes c.args.words.now in
     let old = g.H.Shelf.port c.args.shelf.now in
-    let mid = g.H.Shelf.port c.load_files.new.shelf in
     let new = g.H.Shelf.port c.examine_mapped.new.shelf in
     let source = move (g.S.Source.port c.args.input.now) (g.S.Source.port c.examine_mapped.new.input) in
     let sink = move (g.K.Sink.port c.args.out.now) (g.K.Sink.port c.examine_mapped.new.out) in
-    let bytes = core_bytes c.in-Ok-Maps.files.core.items c.in-Ok-Maps.files.trace.items c.in-Ok-Maps.files.manner in
-    let f = c.load_files.ensures.faults in
-    let calm = done_at c.load_files.result c.in-Ok-Maps.field-0 c.in-Ok-Maps.is f.calm in
-    let loads = both_at c.load_files.result c.in-Ok-Maps.field-0 c.in-Ok-Maps.files (meaning_of words) old mid c.in-Ok-Maps.is c.in-Ok-Maps.field-0-is c.load_files.ensures.asked in
     both old.files source.before.bytes _ (λ files told left told_left.
     completed (call_input words files (move old new) (reading_of left source.after.bytes)) (move old new) source sink c.examine_mapped.result (returns-in-Ok-Maps-clause-causes g c)
     (of_both old.files source.before.bytes (λ fs input. Delivers (CallWrites (call_input words fs (move old new) (reading_of input source.after.bytes))) sink c.examine_mapped.result) files left told told_left (returns-in-Ok-Maps-clause-text g c)))
@@ -504,56 +459,26 @@ pub returns-in-Ok-Maps-clause-sound : goal.returns-in-Ok-Maps-clause-sound
 returns-in-Ok-Maps-clause-sound g c =
     let words = map string_bytes c.args.words.now in
     let old = g.H.Shelf.port c.args.shelf.now in
-    let mid = g.H.Shelf.port c.load_files.new.shelf in
-    let new = g.H.Shelf.port c.examine_mapped.new.shelf in
-    let source = move (g.S.Source.port c.args.input.now) (g.S.Source.port c.examine_mapped.new.input) in
-    let sink = move (g.K.Sink.port c.args.out.now) (g.K.Sink.port c.examine_mapped.new.out) in
-    let bytes = core_bytes c.in-Ok-Maps.files.core.items c.in-Ok-Maps.files.trace.items c.in-Ok-Maps.files.manner in
-    let f = c.load_files.ensures.faults in
-    let calm = done_at c.load_files.result c.in-Ok-Maps.field-0 c.in-Ok-Maps.is f.calm in
-    let loads = both_at c.load_files.result c.in-Ok-Maps.field-0 c.in-Ok-Maps.files (meaning_of words) old mid c.in-Ok-Maps.is c.in-Ok-Maps.field-0-is c.load_files.ensures.asked in
     where_told old.files (ReportHolds words) (λ files told. reports_hold words files (true_in_both (true_of (means_of domain.Ranges) c.trips_are_true.ensures.report c.reports_are_true.ensures.report) (true_of (means_of domain.KnownBits) c.trips_are_true-2.ensures.report c.reports_are_true-2.ensures.report)))
 
 pub returns-in-Ok-Maps-clause-executed : goal.returns-in-Ok-Maps-clause-executed
 returns-in-Ok-Maps-clause-executed g c =
     let words = map string_bytes c.args.words.now in
-    let old = g.H.Shelf.port c.args.shelf.now in
-    let mid = g.H.Shelf.port c.load_files.new.shelf in
-    let new = g.H.Shelf.port c.examine_mapped.new.shelf in
-    let source = move (g.S.Source.port c.args.input.now) (g.S.Source.port c.examine_mapped.new.input) in
-    let sink = move (g.K.Sink.port c.args.out.now) (g.K.Sink.port c.examine_mapped.new.out) in
-    let bytes = core_bytes c.in-Ok-Maps.files.core.items c.in-Ok-Maps.files.trace.items c.in-Ok-Maps.files.manner in
-    let f = c.load_files.ensures.faults in
-    let calm = done_at c.load_files.result c.in-Ok-Maps.field-0 c.in-Ok-Maps.is f.calm in
-    let loads = both_at c.load_files.result c.in-Ok-Maps.field-0 c.in-Ok-Maps.files (meaning_of words) old mid c.in-Ok-Maps.is c.in-Ok-Maps.field-0-is c.load_files.ensures.asked in
     asked_holds (meaning_of words) (λ seed steps. made_holds seed steps (true_of (means_of domain.Ranges) c.trips_are_true.ensures.report c.reports_are_true.ensures.report))
 
 pub returns-in-Ok-Maps-clause-bits : goal.returns-in-Ok-Maps-clause-bits
 returns-in-Ok-Maps-clause-bits g c =
     let words = map string_bytes c.args.words.now in
     let old = g.H.Shelf.port c.args.shelf.now in
-    let mid = g.H.Shelf.port c.load_files.new.shelf in
-    let new = g.H.Shelf.port c.examine_mapped.new.shelf in
-    let source = move (g.S.Source.port c.args.input.now) (g.S.Source.port c.examine_mapped.new.input) in
-    let sink = move (g.K.Sink.port c.args.out.now) (g.K.Sink.port c.examine_mapped.new.out) in
-    let bytes = core_bytes c.in-Ok-Maps.files.core.items c.in-Ok-Maps.files.trace.items c.in-Ok-Maps.files.manner in
-    let f = c.load_files.ensures.faults in
-    let calm = done_at c.load_files.result c.in-Ok-Maps.field-0 c.in-Ok-Maps.is f.calm in
-    let loads = both_at c.load_files.result c.in-Ok-Maps.field-0 c.in-Ok-Maps.files (meaning_of words) old mid c.in-Ok-Maps.is c.in-Ok-Maps.field-0-is c.load_files.ensures.asked in
     where_told old.files (BitsKnowMore words) (λ files told. bits_know words files c.finer_sets_know_more.ensures)
 
 pub returns-in-Ok-Maps-clause-promise : goal.returns-in-Ok-Maps-clause-promise
 returns-in-Ok-Maps-clause-promise g c =
     let words = map string_bytes c.args.words.now in
     let old = g.H.Shelf.port c.args.shelf.now in
-    let mid = g.H.Shelf.port c.load_files.new.shelf in
     let new = g.H.Shelf.port c.examine_mapped.new.shelf in
     let source = move (g.S.Source.port c.args.input.now) (g.S.Source.port c.examine_mapped.new.input) in
     let sink = move (g.K.Sink.port c.args.out.now) (g.K.Sink.port c.examine_mapped.new.out) in
-    let bytes = core_bytes c.in-Ok-Maps.files.core.items c.in-Ok-Maps.files.trace.items c.in-Ok-Maps.files.manner in
-    let f = c.load_files.ensures.faults in
-    let calm = done_at c.load_files.result c.in-Ok-Maps.field-0 c.in-Ok-Maps.is f.calm in
-    let loads = both_at c.load_files.result c.in-Ok-Maps.field-0 c.in-Ok-Maps.files (meaning_of words) old mid c.in-Ok-Maps.is c.in-Ok-Maps.field-0-is c.load_files.ensures.asked in
     both old.files source.before.bytes _ (λ files told left told_left.
     promised (true_in_both (true_of (means_of domain.Ranges) c.trips_are_true.ensures.report c.reports_are_true.ensures.report) (true_of (means_of domain.KnownBits) c.trips_are_true-2.ensures.report c.reports_are_true-2.ensures.report)) (call_input words files (move old new) (reading_of left source.after.bytes)) sink c.examine_mapped.result
     (of_both old.files source.before.bytes (λ fs input. Delivers (CallWrites (call_input words fs (move old new) (reading_of input source.after.bytes))) sink c.examine_mapped.result) files left told told_left (returns-in-Ok-Maps-clause-text g c))

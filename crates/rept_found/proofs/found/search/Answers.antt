@@ -1,4 +1,4 @@
-use Rattle.std.proofs.Common.{◌≡◌, Result, Err, IsOk, ◌∙◌, ap, refl, subst, sym}
+use Rattle.std.proofs.Common.{Result, IsOk, refl, subst, sym}
 use Rattle.rept_dump.specs.Dump.{exe_of, core_of}
 use Rattle.rept_report.specs.Closure.{ClosureHas, IsConsistent}
 use Rattle.rept_report.specs.Setting.{Setting}
@@ -11,6 +11,7 @@ use Rattle.rept_trip.specs.Trip.{given_on, setting_on}
 use Rattle.rept_found.specs.Crash.{means}
 use Rattle.rept_found.specs.View.{CrashView, ending_in, read_in, scene_in, trip_in, IsFoundIn, IsOfRun}
 use Rattle.rept_found.proofs.Settings.{conflict_of, found_in, setting_is, still_of}
+use Rattle.rept_found.proofs.Stops.{stop_at}
 use Rattle.rept_found.proofs.Trips.{no_history}
 use Rattle.rept_found.proofs.found.search.Goals as goal
 
@@ -18,47 +19,40 @@ pub invariant_of-result : goal.invariant_of-result
 invariant_of-result g c =
     let m = means g.W.Partial.sets g.W.Transfer.moves g.R.RowRules.rules in
     let here : CrashView g.row.W.Denot g.row.R.Denot = record { analysis = c.prepared.inside.analysis; ends = c.prepared.inside.ends.now; program = exe_of c.prepared.inside.dump.now; core = core_of c.prepared.inside.dump.now } in
-    let new : CrashView g.row.W.Denot g.row.R.Denot = record { analysis = c.refine.new.self; ends = c.prepared.inside.ends.now; program = exe_of c.prepared.inside.dump.now; core = core_of c.prepared.inside.dump.now } in
-    let of : IsOfRun new = record { some = c.prepared.invariant.0.some; sound = c.prepared.invariant.0.sound; given = still_of m here.analysis new.analysis (given_on here.ends.course (ending_in here)) c.refine.ensures.path c.prepared.invariant.0.given } in
+    let new : CrashView g.row.W.Denot g.row.R.Denot = record { analysis = c.in-Ok.analysis; ends = c.prepared.inside.ends.now; program = exe_of c.prepared.inside.dump.now; core = core_of c.prepared.inside.dump.now } in
+    let of : IsOfRun new = record { some = c.prepared.invariant.0.some; sound = c.prepared.invariant.0.sound; given = still_of m here.analysis new.analysis (given_on here.ends.course (ending_in here)) c.in-Ok.ensures.path c.prepared.invariant.0.given } in
     (c.in-Ok.ensures.complete, of, c.prepared.invariant.1)
 
 pub returns-in-Ok-clause-found : goal.returns-in-Ok-clause-found
 returns-in-Ok-clause-found g c =
     let m = means g.W.Partial.sets g.W.Transfer.moves g.R.RowRules.rules in
     let here : CrashView g.row.W.Denot g.row.R.Denot = record { analysis = c.prepared.inside.analysis; ends = c.prepared.inside.ends.now; program = exe_of c.prepared.inside.dump.now; core = core_of c.prepared.inside.dump.now } in
-    let new : CrashView g.row.W.Denot g.row.R.Denot = record { analysis = c.refine.new.self; ends = c.prepared.inside.ends.now; program = exe_of c.prepared.inside.dump.now; core = core_of c.prepared.inside.dump.now } in
-    let of : IsOfRun new = record { some = c.prepared.invariant.0.some; sound = c.prepared.invariant.0.sound; given = still_of m here.analysis new.analysis (given_on here.ends.course (ending_in here)) c.refine.ensures.path c.prepared.invariant.0.given } in
-    subst (λ (v : CrashView g.row.W.Denot g.row.R.Denot). IsFoundIn m (trip_in m v) (scene_in v) new) c.prepared.view_is (found_in m new of c.in-Ok.ensures.report (c.account.ensures.log c.in-Ok.ensures.complete))
+    let new : CrashView g.row.W.Denot g.row.R.Denot = record { analysis = c.in-Ok.analysis; ends = c.prepared.inside.ends.now; program = exe_of c.prepared.inside.dump.now; core = core_of c.prepared.inside.dump.now } in
+    let of : IsOfRun new = record { some = c.prepared.invariant.0.some; sound = c.prepared.invariant.0.sound; given = still_of m here.analysis new.analysis (given_on here.ends.course (ending_in here)) c.in-Ok.ensures.path c.prepared.invariant.0.given } in
+    subst (λ (v : CrashView g.row.W.Denot g.row.R.Denot). IsFoundIn m (trip_in m v) (scene_in v) new) c.prepared.view_is (found_in m new of c.in-Ok.ensures.report c.in-Ok.ensures.log)
 
--- a stop of the analysis is one of the search
-stop_at : {A B : Type 0} (e : Stop) (stop : Stop) (r : Result A Stop) → r ≡ Err e → ◌≡◌ {A = Result B Stop} (Err e) (Err stop) → r ≡ Err stop
-stop_at e stop r is same = is ∙ ap (λ (x : Stop). Err x) (same_err same)
-  where
-    same_err : {B : Type 0} {x y : Stop} → ◌≡◌ {A = Result B Stop} (Err x) (Err y) → x ≡ y
-    same_err e = cc
-
-pub returns-clause-conflict : goal.returns-clause-conflict
-returns-clause-conflict g c = λ kind e.
+pub returns-in-Err-clause-conflict : goal.returns-in-Err-clause-conflict
+returns-in-Err-clause-conflict g c = λ kind e.
     let m = means g.W.Partial.sets g.W.Transfer.moves g.R.RowRules.rules in
     let here : CrashView g.row.W.Denot g.row.R.Denot = record { analysis = c.prepared.inside.analysis; ends = c.prepared.inside.ends.now; program = exe_of c.prepared.inside.dump.now; core = core_of c.prepared.inside.dump.now } in
     subst (λ (v : CrashView g.row.W.Denot g.row.R.Denot). ClosureHas (setting_on (trip_in m v)) kind) c.prepared.view_is
-    (conflict_of _ (setting_on (trip_in m here)) kind (setting_is m here c.prepared.invariant.0) (c.refine.ensures.conflict kind (stop_at c.in-Err.stop (Conflict kind) c.refine.result c.in-Err.is e)))
+    (conflict_of _ (setting_on (trip_in m here)) kind (setting_is m here c.prepared.invariant.0) (c.refined.ensures.conflict kind (stop_at c.in-Err.stop (Conflict kind) c.refined.result c.in-Err.is e)))
 
-pub returns-clause-impossible : goal.returns-clause-impossible
-returns-clause-impossible g c = λ kind e.
+pub returns-in-Err-clause-impossible : goal.returns-in-Err-clause-impossible
+returns-in-Err-clause-impossible g c = λ kind e.
     let m = means g.W.Partial.sets g.W.Transfer.moves g.R.RowRules.rules in
     let here : CrashView g.row.W.Denot g.row.R.Denot = record { analysis = c.prepared.inside.analysis; ends = c.prepared.inside.ends.now; program = exe_of c.prepared.inside.dump.now; core = core_of c.prepared.inside.dump.now } in
     subst (λ (v : CrashView g.row.W.Denot g.row.R.Denot). HasNoHistory (trip_in m v)) c.prepared.view_is
-    (no_history (trip_in m here) c.prepared.invariant.0.sound c.prepared.invariant.0.some (subst (λ (S : Setting g.row.W.Denot). HasNoExecution S) (setting_is m here c.prepared.invariant.0) (c.refine.ensures.impossible kind (stop_at c.in-Err.stop (Conflict kind) c.refine.result c.in-Err.is e))))
+    (no_history (trip_in m here) c.prepared.invariant.0.sound c.prepared.invariant.0.some (subst (λ (S : Setting g.row.W.Denot). HasNoExecution S) (setting_is m here c.prepared.invariant.0) (c.refined.ensures.impossible kind (stop_at c.in-Err.stop (Conflict kind) c.refined.result c.in-Err.is e))))
 
-pub returns-clause-whole : goal.returns-clause-whole
-returns-clause-whole g c = λ lined e.
-    c.refine.ensures.joins refl (subst (λ (v : CrashView g.row.W.Denot g.row.R.Denot). IsLined (read_in.timeline v.analysis.paths)) (sym c.prepared.view_is) lined) (stop_at c.in-Err.stop OutOfMemory c.refine.result c.in-Err.is e)
+pub returns-in-Err-clause-whole : goal.returns-in-Err-clause-whole
+returns-in-Err-clause-whole g c = λ lined e.
+    c.refined.ensures.joins refl (subst (λ (v : CrashView g.row.W.Denot g.row.R.Denot). IsLined (read_in.timeline v.analysis.paths)) (sym c.prepared.view_is) lined) (stop_at c.in-Err.stop OutOfMemory c.refined.result c.in-Err.is e)
 
-pub returns-clause-exact : goal.returns-clause-exact
-returns-clause-exact g c = λ lined consistent.
+pub returns-in-Err-clause-exact : goal.returns-in-Err-clause-exact
+returns-in-Err-clause-exact g c = λ lined consistent.
     let m = means g.W.Partial.sets g.W.Transfer.moves g.R.RowRules.rules in
     let here : CrashView g.row.W.Denot g.row.R.Denot = record { analysis = c.prepared.inside.analysis; ends = c.prepared.inside.ends.now; program = exe_of c.prepared.inside.dump.now; core = core_of c.prepared.inside.dump.now } in
     subst (λ (r : Result _ Stop). IsOk r) c.in-Err.is
-    (c.refine.ensures.exact refl (subst (λ (v : CrashView g.row.W.Denot g.row.R.Denot). IsLined (read_in.timeline v.analysis.paths)) (sym c.prepared.view_is) lined)
+    (c.refined.ensures.exact refl (subst (λ (v : CrashView g.row.W.Denot g.row.R.Denot). IsLined (read_in.timeline v.analysis.paths)) (sym c.prepared.view_is) lined)
     (subst (λ (S : Setting g.row.W.Denot). IsConsistent S) (sym (setting_is m here c.prepared.invariant.0)) (subst (λ (v : CrashView g.row.W.Denot g.row.R.Denot). IsConsistent (setting_on (trip_in m v))) (sym c.prepared.view_is) consistent)))

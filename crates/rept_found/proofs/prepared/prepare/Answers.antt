@@ -16,28 +16,28 @@ prepare-requires-clause-few g c =
     let all = points_are c.args.ends.now.course c.account.ensures.some in
     let few = c.account.ensures.few in
     let here : (seen_in c.args.paths.now.ways).legs.count ≤ 66560 = subst (λ (x : SeenMoments). x.legs.count ≤ 66560) (sym (seen_same c.args.ends.now.course c.args.paths.now.ways c.requires.course)) (omega arith) in
-    subst (λ (x : RunPaths). (seen_in x.ways).legs.count ≤ 66560) (sym c.in_ok-rows.ensures) here
+    subst (λ (x : RunPaths). (seen_in x.ways).legs.count ≤ 66560) (sym c.in-Ok.ensures) here
 
 pub prepare-requires-clause-registers : goal.prepare-requires-clause-registers
 prepare-requires-clause-registers g c = λ p. subst (λ (x : Ends). length (last_values_in x p) ≡ 32) (sym c.new-last.ensures) (values_long c.args.ends.now c.account.ensures.ends c.account.ensures.some p)
 
 pub invariant_of-result : goal.invariant_of-result
 invariant_of-result g c =
-    let its = c.in_ok-analysis.ensures in
-    let paths = ap (λ (x : RunRows). x.paths.now) its.path.0 ∙ c.in_ok-rows.ensures in
+    let its = c.in-Ok-prepare.ensures in
+    let paths = ap (λ (x : RunRows). x.paths.now) its.path.0 ∙ c.in-Ok.ensures in
     let ends = ap (λ (x : RunEnds). x.ends.now) its.path.1 ∙ c.new-last.ensures in (
       record {
         some = c.account.ensures.some;
         sound = c.requires.sound;
-        given = given_is c.in_ok-analysis.analysis c.args.paths.now c.args.ends.now (exe_of c.args.dump.now) (core_of c.args.dump.now) paths ends its.memory c.requires.course;
+        given = given_is c.in-Ok-prepare.analysis c.args.paths.now c.args.ends.now (exe_of c.args.dump.now) (core_of c.args.dump.now) paths ends its.memory c.requires.course;
       },
       c.requires.course,
     )
 
-pub returns : goal.returns
-returns g c =
+pub returns-in-Ok-prepare : goal.returns-in-Ok-prepare
+returns-in-Ok-prepare g c =
     let m = means g.W.Partial.sets g.W.Transfer.moves g.R.RowRules.rules in
-    let new : CrashView g.row.W.Denot g.row.R.Denot = record { analysis = c.in_ok-analysis.analysis; ends = c.args.ends.now; program = exe_of c.args.dump.now; core = core_of c.args.dump.now } in
+    let new : CrashView g.row.W.Denot g.row.R.Denot = record { analysis = c.in-Ok-prepare.analysis; ends = c.args.ends.now; program = exe_of c.args.dump.now; core = core_of c.args.dump.now } in
     record {
       prepared = λ notes noted same. record {
         trip = trip_is m new notes c.account.ensures.ends.whole noted same;
