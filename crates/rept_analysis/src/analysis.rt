@@ -26,6 +26,7 @@ ghost use Rattle.rept_analysis.specs.Room.{places_of};
 ghost use Rattle.rept_report.specs.Closure.{InClosure, ClosureHas, IsConsistent, IsReport};
 ghost use Rattle.rept_report.specs.Soundness.{AlwaysHolds, IsSound, HasNoExecution};
 
+mod accessing;
 mod account;
 mod answering;
 mod carrying;

@@ -181,7 +181,7 @@ impl<'a, P: Reaches + Drop, L: LastValues + Drop, B: ByteFacts, W: Transfer, R: 
     }
 
     /// The value of a byte from a point to another one, where no row between may write it.
-    fn carry_segment(&mut self, a: u32, from: u32, to: u32) -> Result<bool, Halt>
+    pub(super) fn carry_segment(&mut self, a: u32, from: u32, to: u32) -> Result<bool, Halt>
         requires order { from ≤ to }
         requires to { to ≤ (P.timeline self.old.paths).moments.end }
         requires spared { IsSparedBetween from to a (state_of (reader P.timeline L.values) W.sets W.moves R.rules B.store self.old) }
@@ -250,7 +250,7 @@ impl<'a, P: Reaches + Drop, L: LastValues + Drop, B: ByteFacts, W: Transfer, R: 
     }
 
     /// Whether nothing that may write the byte falls at the pause of a strip, if it has one.
-    fn is_calm(&self, a: u32, strip: Strip) -> bool
+    pub(super) fn is_calm(&self, a: u32, strip: Strip) -> bool
         requires writings { AreWritings (state_of (reader P.timeline L.values) W.sets W.moves R.rules B.store self.now) }
         requires strip { (number : ℕ) × IsStrip (P.timeline self.now.paths) number strip }
         ensures { result ≡ true → IsCalm a strip (state_of (reader P.timeline L.values) W.sets W.moves R.rules B.store self.now) }
@@ -304,7 +304,7 @@ impl<'a, P: Reaches + Drop, L: LastValues + Drop, B: ByteFacts, W: Transfer, R: 
     }
 
     /// The numbers of a strip around one, from one row that may write the byte to the next one.
-    fn piece(&self, a: u32, point: u32, strip: Strip) -> Piece
+    pub(super) fn piece(&self, a: u32, point: u32, strip: Strip) -> Piece
         requires writings { AreWritings (state_of (reader P.timeline L.values) W.sets W.moves R.rules B.store self.now) }
         requires strip { IsStrip (P.timeline self.now.paths) point strip }
         requires calm { IsCalm a strip (state_of (reader P.timeline L.values) W.sets W.moves R.rules B.store self.now) }
@@ -337,134 +337,6 @@ impl<'a, P: Reaches + Drop, L: LastValues + Drop, B: ByteFacts, W: Transfer, R: 
         ensures { IsTrue result ↔ (self.now.filled ≡ 0) }
     {
         self.filled == 0
-    }
-
-    /// Whether the same is known of a byte at all numbers of a strip, so that nothing is carried in it. Of a run that is one strip it isn't asked.
-    fn is_even_in(&self, a: u32, strip: Strip) -> bool
-        requires { strip.first ≤ (P.timeline self.now.paths).moments.end }
-    {
-        !self.is_whole(strip) && self.even_to(a, strip.first) >= strip.last
-    }
-
-    /// The value of a byte over the numbers around one, as far as it is carried in their strip.
-    fn carry_around(&mut self, a: u32, point: u32) -> Result<bool, Halt>
-        requires writings { AreWritings (state_of (reader P.timeline L.values) W.sets W.moves R.rules B.store self.old) }
-        requires open { self.old.complete ≡ false }
-        ensures grows { Grows (state_of (reader P.timeline L.values) W.sets W.moves R.rules B.store self.old) (state_of (reader P.timeline L.values) W.sets W.moves R.rules B.store self.new) }
-        ensures drew { IfOk result (λ learnt. Drew (state_of (reader P.timeline L.values) W.sets W.moves R.rules B.store self.old) (state_of (reader P.timeline L.values) W.sets W.moves R.rules B.store self.new) learnt (λ _. ⊤)) }
-        ensures halt { IfErr result (λ h. IsHalt (state_of (reader P.timeline L.values) W.sets W.moves R.rules B.store self.new) h) }
-    {
-        let number = point.min(self.end());
-        let strip = self.strip(number);
-        if self.is_even_in(a, strip) || !self.is_calm(a, strip) {
-            return Ok(false);
-        }
-        let piece = self.piece(a, number, strip);
-        self.carry_segment(a, piece.from, piece.to)
-    }
-
-    /// The value of a byte from the strip around a number back and forth, unless it is like the first one of its word, which it follows.
-    fn carry_away(&mut self, a: u32, point: u32) -> Result<bool, Halt>
-        requires writings { AreWritings (state_of (reader P.timeline L.values) W.sets W.moves R.rules B.store self.old) }
-        requires open { self.old.complete ≡ false }
-        ensures grows { Grows (state_of (reader P.timeline L.values) W.sets W.moves R.rules B.store self.old) (state_of (reader P.timeline L.values) W.sets W.moves R.rules B.store self.new) }
-        ensures drew { IfOk result (λ learnt. Drew (state_of (reader P.timeline L.values) W.sets W.moves R.rules B.store self.old) (state_of (reader P.timeline L.values) W.sets W.moves R.rules B.store self.new) learnt (λ _. ⊤)) }
-        ensures halt { IfErr result (λ h. IsHalt (state_of (reader P.timeline L.values) W.sets W.moves R.rules B.store self.new) h) }
-    {
-        let strip = self.strip(point.min(self.end()));
-        if self.is_whole(strip) || !self.has_value(a) || self.is_like_first(a) {
-            return Ok(false);
-        }
-        let back = self.carry_back(a, strip.first)?;
-        let forth = self.carry_forth(a, strip.last)?;
-        Ok(back | forth)
-    }
-
-    /// So where something was learnt of the byte lately: else it was carried there before.
-    fn carry_recent(&mut self, a: u32, point: u32) -> Result<bool, Halt>
-        requires writings { AreWritings (state_of (reader P.timeline L.values) W.sets W.moves R.rules B.store self.old) }
-        requires open { self.old.complete ≡ false }
-        ensures grows { Grows (state_of (reader P.timeline L.values) W.sets W.moves R.rules B.store self.old) (state_of (reader P.timeline L.values) W.sets W.moves R.rules B.store self.new) }
-        ensures drew { IfOk result (λ learnt. Drew (state_of (reader P.timeline L.values) W.sets W.moves R.rules B.store self.old) (state_of (reader P.timeline L.values) W.sets W.moves R.rules B.store self.new) learnt (λ _. ⊤)) }
-        ensures halt { IfErr result (λ h. IsHalt (state_of (reader P.timeline L.values) W.sets W.moves R.rules B.store self.new) h) }
-    {
-        if !self.recent.has(a) {
-            return Ok(false);
-        }
-        self.carry_around(a, point)
-    }
-
-    /// So for so many bytes from an address on.
-    fn carry_near(&mut self, point: u32, start: u32, count: u32) -> Result<bool, Halt>
-        requires writings { AreWritings (state_of (reader P.timeline L.values) W.sets W.moves R.rules B.store self.old) }
-        requires open { self.old.complete ≡ false }
-        ensures grows { Grows (state_of (reader P.timeline L.values) W.sets W.moves R.rules B.store self.old) (state_of (reader P.timeline L.values) W.sets W.moves R.rules B.store self.new) }
-        ensures drew { IfOk result (λ learnt. Drew (state_of (reader P.timeline L.values) W.sets W.moves R.rules B.store self.old) (state_of (reader P.timeline L.values) W.sets W.moves R.rules B.store self.new) learnt (λ _. ⊤)) }
-        ensures halt { IfErr result (λ h. IsHalt (state_of (reader P.timeline L.values) W.sets W.moves R.rules B.store self.new) h) }
-    {
-        let mut learnt = false;
-        for k in 0..count {
-            let new = self.carry_recent(start.wrapping_add(k), point)?;
-            learnt = learnt | new;
-        }
-        Ok(learnt)
-    }
-
-    /// So back and forth from there.
-    fn carry_far(&mut self, point: u32, start: u32, count: u32) -> Result<bool, Halt>
-        requires writings { AreWritings (state_of (reader P.timeline L.values) W.sets W.moves R.rules B.store self.old) }
-        requires open { self.old.complete ≡ false }
-        ensures grows { Grows (state_of (reader P.timeline L.values) W.sets W.moves R.rules B.store self.old) (state_of (reader P.timeline L.values) W.sets W.moves R.rules B.store self.new) }
-        ensures drew { IfOk result (λ learnt. Drew (state_of (reader P.timeline L.values) W.sets W.moves R.rules B.store self.old) (state_of (reader P.timeline L.values) W.sets W.moves R.rules B.store self.new) learnt (λ _. ⊤)) }
-        ensures halt { IfErr result (λ h. IsHalt (state_of (reader P.timeline L.values) W.sets W.moves R.rules B.store self.new) h) }
-    {
-        let mut learnt = false;
-        for k in 0..count {
-            let new = self.carry_away(start.wrapping_add(k), point)?;
-            learnt = learnt | new;
-        }
-        Ok(learnt)
-    }
-
-    /// So in the strip around a number, and where that told something new, back and forth; nothing in the first round.
-    pub(super) fn carry_bytes(&mut self, point: u32, start: u32, count: u32) -> Result<bool, Halt>
-        requires writings { AreWritings (state_of (reader P.timeline L.values) W.sets W.moves R.rules B.store self.old) }
-        requires open { self.old.complete ≡ false }
-        ensures grows { Grows (state_of (reader P.timeline L.values) W.sets W.moves R.rules B.store self.old) (state_of (reader P.timeline L.values) W.sets W.moves R.rules B.store self.new) }
-        ensures drew { IfOk result (λ learnt. Drew (state_of (reader P.timeline L.values) W.sets W.moves R.rules B.store self.old) (state_of (reader P.timeline L.values) W.sets W.moves R.rules B.store self.new) learnt (λ _. ⊤)) }
-        ensures halt { IfErr result (λ h. IsHalt (state_of (reader P.timeline L.values) W.sets W.moves R.rules B.store self.new) h) }
-    {
-        if self.is_first_round() {
-            return Ok(false);
-        }
-        let near = self.carry_near(point, start, count)?;
-        if !near {
-            return Ok(false);
-        }
-        let far = self.carry_far(point, start, count)?;
-        Ok(near | far)
-    }
-
-    /// The byte of the dump at a tracked address, over the last rows that may not write it; nothing in the first round.
-    pub(super) fn draw_dump(&mut self, a: u32) -> Result<bool, Halt>
-        requires tracked { IsTracked a (state_of (reader P.timeline L.values) W.sets W.moves R.rules B.store self.old) }
-        requires writings { AreWritings (state_of (reader P.timeline L.values) W.sets W.moves R.rules B.store self.old) }
-        requires open { self.old.complete ≡ false }
-        ensures grows { Grows (state_of (reader P.timeline L.values) W.sets W.moves R.rules B.store self.old) (state_of (reader P.timeline L.values) W.sets W.moves R.rules B.store self.new) }
-        ensures drew { IfOk result (λ learnt. Drew (state_of (reader P.timeline L.values) W.sets W.moves R.rules B.store self.old) (state_of (reader P.timeline L.values) W.sets W.moves R.rules B.store self.new) learnt (λ _. ⊤)) }
-        ensures halt { IfErr result (λ h. IsHalt (state_of (reader P.timeline L.values) W.sets W.moves R.rules B.store self.new) h) }
-    {
-        if self.is_first_round() {
-            return Ok(false);
-        }
-        let point = self.end();
-        let told = self.draw_last_byte(a)?;
-        let carried = self.carry_around(a, point)?;
-        if !carried {
-            return Ok(told);
-        }
-        let away = self.carry_away(a, point)?;
-        Ok(told | carried | away)
     }
 
     /// The value of a byte from a number to the one after it, and back, if it is carried.

@@ -16,6 +16,7 @@ ghost use Rattle.rept_log.specs.Known.{known_of};
 ghost use Rattle.rept_analysis.specs.Told.{Tracks};
 
 use super::Analysis;
+use super::likeness::WORD;
 use crate::halt::Halt;
 use crate::rows::{address, is_store};
 use rept_isa::{Instr, Reg, StepRow, reads, writes};
@@ -315,7 +316,7 @@ impl<'a, P: Reaches + Drop, L: LastValues + Drop, B: ByteFacts, W: Transfer, R: 
             Some(base) => {
                 let point = self.moment_at(i, side(&row.instr));
                 let start = address(base, &row.instr);
-                self.carry_bytes(point, start, R::places(row).min(4))
+                self.carry_bytes(point, start, R::places(row).min(WORD))
             }
         }
     }
@@ -488,7 +489,7 @@ impl<'a, P: Reaches + Drop, L: LastValues + Drop, B: ByteFacts, W: Transfer, R: 
     fn may_be_recent(&self, number: u32) -> bool {
         match self.fresh.start(number) {
             None => true,
-            Some(start) => self.recent.has_any_since(start, 4, self.fresh.time(number)),
+            Some(start) => self.recent.has_any_since(start, WORD, self.fresh.time(number)),
         }
     }
 

@@ -1,5 +1,6 @@
 use Rattle.std.proofs.Common.{◌∙◌, sym, arith}
 use Rattle.std.proofs.lemmas.Bool.{false≢true}
+use Rattle.std.proofs.lemmas.Option.{slice_get_within}
 use Rattle.rept_analysis.specs.State.{state_of, reader}
 use Rattle.rept_analysis.proofs.Along.{there_inside}
 use Rattle.rept_analysis.proofs.Listing.{no_blocker, blocker_meeting, none_fall_more}
@@ -21,3 +22,35 @@ returns-then-is_unwritten g c = λ k x.
     let t = g.P.Paths.timeline c.args.self.now.paths in
     let there = (c.requires.writings.barriers.each k x.writing x.found).there in
     false≢true (sym (c.is_unwritten.ensures c.if-is_unwritten.true x.writing.row (there_inside t (g.met.P.Paths.lawful c.args.self.now.paths).legs x.writing.row there)) ∙ x.falls)
+
+pub loop-hit-init : goal.loop-hit-init
+loop-hit-init g c = record { below = λ j x lt found hits. absurd (omega (arith, lt)) }
+
+pub entry-row-requires-clause-within : goal.entry-row-requires-clause-within
+entry-row-requires-clause-within g c =
+    let meeting = (rw c.in-Some.is at c.next_meeting.ensures.next).1 in
+    slice_get_within c.args.self.now.work.writing c.in-Some.hit meeting.writing meeting.stands
+
+pub entry-row-requires-clause-writings : goal.entry-row-requires-clause-writings
+entry-row-requires-clause-writings g c = c.requires.writings
+
+pub falls-requires-clause-there : goal.falls-requires-clause-there
+falls-requires-clause-there g c = c.entry-row.ensures.there
+
+pub falls-requires-clause-next : goal.falls-requires-clause-next
+falls-requires-clause-next g c = c.requires.next
+
+pub overflow_add-k : goal.overflow_add-k
+overflow_add-k g c =
+    let meeting = (rw c.in-Some.is at c.next_meeting.ensures.next).1 in
+    let within = slice_get_within c.args.self.now.work.writing c.in-Some.hit meeting.writing meeting.stands in
+    let few = c.next_meeting.ensures.few in
+    omega (arith, within, few)
+
+pub loop-hit-smaller : goal.loop-hit-smaller
+loop-hit-smaller g c =
+    let next = rw c.in-Some.is at c.next_meeting.ensures.next in
+    let low = next.0 in
+    let meeting = next.1 in
+    let within = slice_get_within c.args.self.now.work.writing c.in-Some.hit meeting.writing meeting.stands in
+    omega (arith, low, within)

@@ -1,0 +1,151 @@
+//! The bytes that a row or the dump names, carried over the numbers around it, and from there away.
+
+ghost use Rattle.std.specs.Prelude.{◌≡◌, ◌≤◌, false, IfOk, IfErr, ⊤};
+ghost use Rattle.rept_analysis.specs.State.{state_of, reader};
+ghost use Rattle.rept_analysis.specs.Drawing.{IsTracked, Grows, Drew, IsHalt, AreWritings};
+
+use super::Analysis;
+use crate::halt::Halt;
+use rept_log::LastValues;
+use rept_reach::Reaches;
+use rept_report::paths::Strip;
+use rept_span::Transfer;
+use rept_versions::ByteFacts;
+use rept_view::RowRules;
+
+impl<'a, P: Reaches + Drop, L: LastValues + Drop, B: ByteFacts, W: Transfer, R: RowRules> Analysis<
+    'a,
+    P,
+    L,
+    B,
+    W,
+    R,
+> {
+    /// Whether the same is known of a byte at all numbers of a strip, so that nothing is carried in it. Of a run that is one strip it isn't asked.
+    fn is_even_in(&self, a: u32, strip: Strip) -> bool
+        requires { strip.first ≤ (P.timeline self.now.paths).moments.end }
+    {
+        !self.is_whole(strip) && self.even_to(a, strip.first) >= strip.last
+    }
+
+    /// The value of a byte over the numbers around one, as far as it is carried in their strip.
+    fn carry_around(&mut self, a: u32, point: u32) -> Result<bool, Halt>
+        requires writings { AreWritings (state_of (reader P.timeline L.values) W.sets W.moves R.rules B.store self.old) }
+        requires open { self.old.complete ≡ false }
+        ensures grows { Grows (state_of (reader P.timeline L.values) W.sets W.moves R.rules B.store self.old) (state_of (reader P.timeline L.values) W.sets W.moves R.rules B.store self.new) }
+        ensures drew { IfOk result (λ learnt. Drew (state_of (reader P.timeline L.values) W.sets W.moves R.rules B.store self.old) (state_of (reader P.timeline L.values) W.sets W.moves R.rules B.store self.new) learnt (λ _. ⊤)) }
+        ensures halt { IfErr result (λ h. IsHalt (state_of (reader P.timeline L.values) W.sets W.moves R.rules B.store self.new) h) }
+    {
+        let number = point.min(self.end());
+        let strip = self.strip(number);
+        if self.is_even_in(a, strip) || !self.is_calm(a, strip) {
+            return Ok(false);
+        }
+        let piece = self.piece(a, number, strip);
+        self.carry_segment(a, piece.from, piece.to)
+    }
+
+    /// The value of a byte from the strip around a number back and forth, unless it is like the first one of its word, which it follows.
+    fn carry_away(&mut self, a: u32, point: u32) -> Result<bool, Halt>
+        requires writings { AreWritings (state_of (reader P.timeline L.values) W.sets W.moves R.rules B.store self.old) }
+        requires open { self.old.complete ≡ false }
+        ensures grows { Grows (state_of (reader P.timeline L.values) W.sets W.moves R.rules B.store self.old) (state_of (reader P.timeline L.values) W.sets W.moves R.rules B.store self.new) }
+        ensures drew { IfOk result (λ learnt. Drew (state_of (reader P.timeline L.values) W.sets W.moves R.rules B.store self.old) (state_of (reader P.timeline L.values) W.sets W.moves R.rules B.store self.new) learnt (λ _. ⊤)) }
+        ensures halt { IfErr result (λ h. IsHalt (state_of (reader P.timeline L.values) W.sets W.moves R.rules B.store self.new) h) }
+    {
+        let strip = self.strip(point.min(self.end()));
+        if self.is_whole(strip) || !self.has_value(a) || self.is_like_first(a) {
+            return Ok(false);
+        }
+        let back = self.carry_back(a, strip.first)?;
+        let forth = self.carry_forth(a, strip.last)?;
+        Ok(back | forth)
+    }
+
+    /// So where something was learnt of the byte lately: else it was carried there before.
+    fn carry_recent(&mut self, a: u32, point: u32) -> Result<bool, Halt>
+        requires writings { AreWritings (state_of (reader P.timeline L.values) W.sets W.moves R.rules B.store self.old) }
+        requires open { self.old.complete ≡ false }
+        ensures grows { Grows (state_of (reader P.timeline L.values) W.sets W.moves R.rules B.store self.old) (state_of (reader P.timeline L.values) W.sets W.moves R.rules B.store self.new) }
+        ensures drew { IfOk result (λ learnt. Drew (state_of (reader P.timeline L.values) W.sets W.moves R.rules B.store self.old) (state_of (reader P.timeline L.values) W.sets W.moves R.rules B.store self.new) learnt (λ _. ⊤)) }
+        ensures halt { IfErr result (λ h. IsHalt (state_of (reader P.timeline L.values) W.sets W.moves R.rules B.store self.new) h) }
+    {
+        if !self.recent.has(a) {
+            return Ok(false);
+        }
+        self.carry_around(a, point)
+    }
+
+    /// So for so many bytes from an address on.
+    fn carry_near(&mut self, point: u32, start: u32, count: u32) -> Result<bool, Halt>
+        requires writings { AreWritings (state_of (reader P.timeline L.values) W.sets W.moves R.rules B.store self.old) }
+        requires open { self.old.complete ≡ false }
+        ensures grows { Grows (state_of (reader P.timeline L.values) W.sets W.moves R.rules B.store self.old) (state_of (reader P.timeline L.values) W.sets W.moves R.rules B.store self.new) }
+        ensures drew { IfOk result (λ learnt. Drew (state_of (reader P.timeline L.values) W.sets W.moves R.rules B.store self.old) (state_of (reader P.timeline L.values) W.sets W.moves R.rules B.store self.new) learnt (λ _. ⊤)) }
+        ensures halt { IfErr result (λ h. IsHalt (state_of (reader P.timeline L.values) W.sets W.moves R.rules B.store self.new) h) }
+    {
+        let mut learnt = false;
+        for k in 0..count {
+            let new = self.carry_recent(start.wrapping_add(k), point)?;
+            learnt = learnt | new;
+        }
+        Ok(learnt)
+    }
+
+    /// So back and forth from there.
+    fn carry_far(&mut self, point: u32, start: u32, count: u32) -> Result<bool, Halt>
+        requires writings { AreWritings (state_of (reader P.timeline L.values) W.sets W.moves R.rules B.store self.old) }
+        requires open { self.old.complete ≡ false }
+        ensures grows { Grows (state_of (reader P.timeline L.values) W.sets W.moves R.rules B.store self.old) (state_of (reader P.timeline L.values) W.sets W.moves R.rules B.store self.new) }
+        ensures drew { IfOk result (λ learnt. Drew (state_of (reader P.timeline L.values) W.sets W.moves R.rules B.store self.old) (state_of (reader P.timeline L.values) W.sets W.moves R.rules B.store self.new) learnt (λ _. ⊤)) }
+        ensures halt { IfErr result (λ h. IsHalt (state_of (reader P.timeline L.values) W.sets W.moves R.rules B.store self.new) h) }
+    {
+        let mut learnt = false;
+        for k in 0..count {
+            let new = self.carry_away(start.wrapping_add(k), point)?;
+            learnt = learnt | new;
+        }
+        Ok(learnt)
+    }
+
+    /// So in the strip around a number, and where that told something new, back and forth; nothing in the first round.
+    pub(super) fn carry_bytes(&mut self, point: u32, start: u32, count: u32) -> Result<bool, Halt>
+        requires writings { AreWritings (state_of (reader P.timeline L.values) W.sets W.moves R.rules B.store self.old) }
+        requires open { self.old.complete ≡ false }
+        ensures grows { Grows (state_of (reader P.timeline L.values) W.sets W.moves R.rules B.store self.old) (state_of (reader P.timeline L.values) W.sets W.moves R.rules B.store self.new) }
+        ensures drew { IfOk result (λ learnt. Drew (state_of (reader P.timeline L.values) W.sets W.moves R.rules B.store self.old) (state_of (reader P.timeline L.values) W.sets W.moves R.rules B.store self.new) learnt (λ _. ⊤)) }
+        ensures halt { IfErr result (λ h. IsHalt (state_of (reader P.timeline L.values) W.sets W.moves R.rules B.store self.new) h) }
+    {
+        if self.is_first_round() {
+            return Ok(false);
+        }
+        let near = self.carry_near(point, start, count)?;
+        if !near {
+            return Ok(false);
+        }
+        let far = self.carry_far(point, start, count)?;
+        Ok(near | far)
+    }
+
+    /// The byte of the dump at a tracked address, over the last rows that may not write it; nothing in the first round.
+    pub(super) fn draw_dump(&mut self, a: u32) -> Result<bool, Halt>
+        requires tracked { IsTracked a (state_of (reader P.timeline L.values) W.sets W.moves R.rules B.store self.old) }
+        requires writings { AreWritings (state_of (reader P.timeline L.values) W.sets W.moves R.rules B.store self.old) }
+        requires open { self.old.complete ≡ false }
+        ensures grows { Grows (state_of (reader P.timeline L.values) W.sets W.moves R.rules B.store self.old) (state_of (reader P.timeline L.values) W.sets W.moves R.rules B.store self.new) }
+        ensures drew { IfOk result (λ learnt. Drew (state_of (reader P.timeline L.values) W.sets W.moves R.rules B.store self.old) (state_of (reader P.timeline L.values) W.sets W.moves R.rules B.store self.new) learnt (λ _. ⊤)) }
+        ensures halt { IfErr result (λ h. IsHalt (state_of (reader P.timeline L.values) W.sets W.moves R.rules B.store self.new) h) }
+    {
+        if self.is_first_round() {
+            return Ok(false);
+        }
+        let point = self.end();
+        let told = self.draw_last_byte(a)?;
+        let carried = self.carry_around(a, point)?;
+        if !carried {
+            return Ok(told);
+        }
+        let away = self.carry_away(a, point)?;
+        Ok(told | carried | away)
+    }
+}
