@@ -1,14 +1,19 @@
 //! What an analysis answers.
 
+ghost use Rattle.rept_steps.specs.Course.{IsSoundCourse};
+ghost use Rattle.rept_steps.specs.Runs.{course_of};
+
 use rept_amo::Atomic;
 use rept_analysis::{Analysis, Stop, ThreadEnd};
 use rept_dump::Dump;
+use rept_extents::RunRows;
 use rept_isa::Reg;
-use rept_line::OnePath;
 use rept_partial::{Partial, Range};
+use rept_reach::Reaches;
 use rept_reason::{Cell, Fact, Reason};
 use rept_report::Paths;
-use rept_steps::Steps;
+use rept_steps::Run;
+use rept_timeline::{RunPaths, is_small};
 use rept_versions::ByteFacts;
 use std::alloc::{AllocError, Global};
 use test_lines::Numbers;
@@ -23,15 +28,35 @@ pub struct Asked<'a> {
 /// What is answered over such a store of bytes, and whether an answer that was known changed while more was learnt.
 pub fn over_dump<B: ByteFacts>(
     alloc: Global,
-    steps: &Steps,
+    run: &Run,
+    dump: &Dump<'_>,
+    asked: Asked<'_>,
+) -> Result<String, AllocError>
+    requires { IsSoundCourse (course_of run.now) }
+{
+    if !is_small(run) {
+        return String::from_str(alloc, "too many steps");
+    }
+    let paths = RunPaths::new(alloc, run)?;
+    let rows = RunRows::new(alloc, run, &paths)?;
+    over_rows::<RunRows<'_>, B>(alloc, rows, dump, asked)
+}
+
+/// The same over the rows and moments of the run.
+fn over_rows<P: Reaches + Drop, B: ByteFacts>(
+    alloc: Global,
+    rows: P,
     dump: &Dump<'_>,
     asked: Asked<'_>,
 ) -> Result<String, AllocError> {
-    let paths = OnePath::new(steps.rows());
-    let mut analysis: Analysis<OnePath<'_>, ThreadEnd, B, Range, Atomic> = Analysis::prepare(
+    if rows.last_point() > 66_560 {
+        return String::from_str(alloc, "too many points");
+    }
+    let last = ThreadEnd::new(dump.status().regs);
+    let mut analysis: Analysis<P, ThreadEnd, B, Range, Atomic> = Analysis::prepare(
         alloc,
-        paths,
-        ThreadEnd::new(dump.status().regs),
+        rows,
+        last,
         dump,
         Atomic::new(),
     )?;
@@ -44,9 +69,9 @@ pub fn over_dump<B: ByteFacts>(
 }
 
 /// Learns all that follows, however often memory runs out, and answers whether an answer that was known changed.
-fn learn<B: ByteFacts>(
+fn learn<P: Reaches + Drop, B: ByteFacts>(
     alloc: Global,
-    analysis: &mut Analysis<OnePath<'_>, ThreadEnd, B, Range, Atomic>,
+    analysis: &mut Analysis<P, ThreadEnd, B, Range, Atomic>,
     asked: Asked<'_>,
 ) -> Result<bool, AllocError> {
     let mut changed = false;
@@ -69,9 +94,9 @@ fn is_known(word: &str, answer: &str) -> bool {
 
 /// The answer in the end: whether `refine` finds no conflict and no want of memory, which conflict it finds, a reason, or what is answered before
 /// too.
-fn finally<B: ByteFacts>(
+fn finally<P: Reaches + Drop, B: ByteFacts>(
     alloc: Global,
-    analysis: &mut Analysis<OnePath<'_>, ThreadEnd, B, Range, Atomic>,
+    analysis: &mut Analysis<P, ThreadEnd, B, Range, Atomic>,
     asked: Asked<'_>,
 ) -> Result<String, AllocError> {
     match asked.word {
@@ -90,9 +115,9 @@ fn finally<B: ByteFacts>(
 }
 
 /// The reason of a fact: its rule, its premises, and the ranges that were looked at.
-fn why<B: ByteFacts>(
+fn why<P: Reaches + Drop, B: ByteFacts>(
     alloc: Global,
-    analysis: &mut Analysis<OnePath<'_>, ThreadEnd, B, Range, Atomic>,
+    analysis: &mut Analysis<P, ThreadEnd, B, Range, Atomic>,
     cell: Option<Cell>,
     n: &Numbers,
 ) -> Result<String, AllocError> {
@@ -117,9 +142,9 @@ fn told(alloc: Global, reason: &Reason) -> Result<String, AllocError> {
 }
 
 /// What is known of a register or a byte at a point, or which row wrote it last; or how much is known in all.
-fn answer<B: ByteFacts>(
+fn answer<P: Reaches + Drop, B: ByteFacts>(
     alloc: Global,
-    analysis: &Analysis<OnePath<'_>, ThreadEnd, B, Range, Atomic>,
+    analysis: &Analysis<P, ThreadEnd, B, Range, Atomic>,
     asked: Asked<'_>,
 ) -> Result<String, AllocError> {
     let (point, address) = (asked.n.word(0), asked.n.word(1));
@@ -134,9 +159,9 @@ fn answer<B: ByteFacts>(
     }
 }
 
-fn register<B: ByteFacts>(
+fn register<P: Reaches + Drop, B: ByteFacts>(
     alloc: Global,
-    analysis: &Analysis<OnePath<'_>, ThreadEnd, B, Range, Atomic>,
+    analysis: &Analysis<P, ThreadEnd, B, Range, Atomic>,
     asked: Asked<'_>,
 ) -> Result<String, AllocError> {
     let point = asked.n.word(0);
