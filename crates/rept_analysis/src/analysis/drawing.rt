@@ -489,7 +489,9 @@ impl<'a, P: Reaches + Drop, L: LastValues + Drop, B: ByteFacts, W: Transfer, R: 
     fn may_be_recent(&self, number: u32) -> bool {
         match self.fresh.start(number) {
             None => true,
-            Some(start) => self.recent.has_any_since(start, WORD, self.fresh.time(number)),
+            Some(start) => self
+                .recent
+                .has_any_since(start, WORD, self.fresh.time(number)),
         }
     }
 
