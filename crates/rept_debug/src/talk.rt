@@ -5,6 +5,8 @@ ghost use Rattle.rept_runs.specs.Kind.{is_several};
 ghost use Rattle.rept_ports.specs.Port.{move};
 ghost use Rattle.rept_steps.specs.Runs.{course_of};
 ghost use Rattle.rept_moments.specs.Courses.{IsCourseOf};
+ghost use Rattle.rept_session.specs.Shown.{session_told};
+ghost use Rattle.rept_dialog.specs.Converse.{Converses, parties_over};
 ghost use Rattle.rept_found.specs.Crash.{crash_of, means};
 ghost use Rattle.rept_amo.specs.Atomic.{atomic_rules};
 ghost use Rattle.rept_app.specs.Domains.{means_of};
@@ -22,6 +24,7 @@ use rept_dump::Dump;
 use rept_known::Both;
 use rept_partial::Range;
 use rept_ports::{Sink, Source};
+use rept_session::Findings;
 use rept_span::Transfer;
 use rept_steps::Run;
 use rept_stub::Setting;
@@ -127,13 +130,27 @@ fn hold_over<W: Transfer, S: Source, K: Sink>(
     ensures unread { IfErr result (λ _. (input.new ≡ input.old) × (out.new ≡ out.old)) }
 {
     match analyse::<W>(alloc, run, basis, dump) {
-        Ok(mut found) => {
+        Ok(found) => {
             let setting = Setting {
                 skipped: run.skipped,
                 signal: dump.status().signal,
             };
-            Ok(converse(alloc, &mut found, setting, input, out))
+            Ok(converse_found(alloc, found, setting, input, out))
         }
         Err(refusal) => Err(refusal),
     }
+}
+
+/// Answers what arrives over findings that are let go when the dialog ends.
+fn converse_found<F: Findings + Drop, S: Source, K: Sink>(
+    alloc: Global,
+    findings: F,
+    setting: Setting,
+    input: &mut S,
+    out: &mut K,
+) -> Conversed
+    ensures { Converses (parties_over (session_told (F.shown findings) setting.skipped (F.reasons findings)) setting.signal) (move (S.port input.old) (S.port input.new)) (move (K.port out.old) (K.port out.new)) result }
+{
+    let mut findings = findings;
+    converse(alloc, &mut findings, setting, input, out)
 }

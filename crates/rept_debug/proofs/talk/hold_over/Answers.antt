@@ -8,8 +8,8 @@ use Rattle.rept_debug.proofs.talk.hold_over.Goals as goal
 pub returns-in-Ok-clause-held : goal.returns-in-Ok-clause-held
 returns-in-Ok-clause-held g c = λ notes are.
     talks_over (means g.W.Partial.sets g.W.Transfer.moves atomic_rules) c.in-Ok.found (crash_of c.args.dump.now notes) c.args.run.now (c.in-Ok.ensures.found notes are) c.status.result.signal
-    (move (g.S.Source.port c.args.input.now) (g.S.Source.port c.converse.new.input)) (move (g.K.Sink.port c.args.out.now) (g.K.Sink.port c.converse.new.out)) c.converse.result
-    (first_signal c.args.dump.now notes are c.status.result.signal c.status.ensures.signal) c.converse.ensures.talk
+    (move (g.S.Source.port c.args.input.now) (g.S.Source.port c.converse_found.new.input)) (move (g.K.Sink.port c.args.out.now) (g.K.Sink.port c.converse_found.new.out)) c.converse_found.result
+    (first_signal c.args.dump.now notes are c.status.result.signal c.status.ensures.signal) c.converse_found.ensures
 
 pub returns-in-Err-clause-refused : goal.returns-in-Err-clause-refused
 returns-in-Err-clause-refused g c = λ notes are.
