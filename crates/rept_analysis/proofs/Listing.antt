@@ -334,6 +334,9 @@ none_pause e = cc
 pub calm_none : {W : Type 0} (s : AnalysisState W) (a : ℕ) (strip : Strip) → strip.pause ≡ None → IsCalm a strip s
 calm_none s a strip none p some = absurd (none_pause (sym none ∙ some))
 
+pub calm_some : {W : Type 0} (s : AnalysisState W) (a p : ℕ) (strip : Strip) → strip.pause ≡ Some p → IsBridged (passage a p (p + 1)) s → IsCalm a strip s
+calm_some s a p strip is h q some = subst (λ (n : ℕ). IsBridged (passage a n (n + 1)) s) (some_pause (sym is ∙ some)) h
+
 -- of a strip in which nothing else may write the byte
 module _ {W : Type 0} (s : AnalysisState W) (h : AreWritings s) (a : ℕ) (small : a < 2 ^ 32) (strip : Strip) (number : ℕ) (its : IsStrip (timeline_of s) number strip) (calm : IsCalm a strip s) where
   abbrev entries : List Writing
