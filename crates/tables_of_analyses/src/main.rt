@@ -1,64 +1,77 @@
-//! What other tools and tables that were worked out by hand say of instructions and calls, of runs of several threads, and of what is concluded of small runs: the cases are the lines
-//! of `stdin`, and `stdout` has each with its answer. The lines `machine`, `runs` and `analyses` say of which table the next ones are.
+//! What is concluded of small runs and why, over bytes in a list, bytes in spans and a list that refuses every other fact: the cases are the lines of `stdin`, and `stdout` has
+//! each with its answer.
 #![tactic(auto)]
 
-mod analyses;
-mod machine;
-mod runs;
+mod asked;
+mod files;
+mod refusing;
 
-use analyses::AnalysisTable;
-use machine::MachineTable;
-use runs::RunTable;
+use asked::{Asked, over_dump};
+use files::Files;
+use refusing::Refusing;
+use rept_dump::Dump;
+use rept_elf::{Image, Want};
+use rept_steps::Steps;
+use rept_versions::{PlainFacts, SpanFacts};
 use std::alloc::{AllocError, Global};
 use std::io;
 use test_lines::{Numbers, Table, tell};
 
-/// Of which table the lines are.
-#[derive(Clone, Copy)]
-enum Told {
-    Machine,
-    Runs,
-    Analyses,
-}
-
-/// The three tables.
+/// A run: its steps and the registers at its end.
 #[derive(Drop)]
-struct Tables {
-    told: Told,
-    machine: MachineTable,
-    runs: RunTable,
-    analyses: AnalysisTable,
+struct Analyses {
+    files: Files,
 }
 
-impl Tables {
-    fn new(alloc: Global) -> Result<Tables, AllocError> {
-        Ok(Tables {
-            told: Told::Machine,
-            machine: MachineTable::new(alloc)?,
-            runs: RunTable::new(alloc),
-            analyses: AnalysisTable::new(alloc)?,
-        })
-    }
-}
-
-impl Table for Tables {
+impl Table for Analyses {
     fn answer(&mut self, alloc: Global, asked: &str, n: &Numbers) -> Result<String, AllocError> {
-        self.told = match asked {
-            "machine" => Told::Machine,
-            "runs" => Told::Runs,
-            "analyses" => Told::Analyses,
-            _ => {
-                return match self.told {
-                    Told::Machine => self.machine.answer(alloc, asked, n),
-                    Told::Runs => self.runs.answer(alloc, asked, n),
-                    Told::Analyses => self.analyses.answer(alloc, asked, n),
-                };
-            }
-        };
-        String::from_str(alloc, "from here on")
+        match asked {
+            "path" => self.files = Files::new(alloc)?,
+            "steps" => self.files.append(n)?,
+            "last" => self.files.set(n),
+            _ => return self.told(alloc, Asked { word: asked, n }),
+        }
+        format!(in alloc; "{} steps", self.files.count())
     }
+}
+
+impl Analyses {
+    /// What is answered over the dump in which the run ends.
+    fn told(&self, alloc: Global, asked: Asked<'_>) -> Result<String, AllocError> {
+        let Some(steps) = self.files.steps(alloc) else {
+            return String::from_str(alloc, "no path");
+        };
+        let exe = self.files.exe(alloc)?;
+        let core = self.files.core(alloc, &steps)?;
+        let exe = Image::read(exe.as_slice(), Want::Exec);
+        let core = Image::read(core.as_slice(), Want::Core);
+        match (exe, core) {
+            (Ok(exe), Ok(core)) => match Dump::read(exe, core) {
+                Ok(dump) => alike(alloc, &steps, &dump, asked),
+                Err(_) => String::from_str(alloc, "no dump"),
+            },
+            _ => String::from_str(alloc, "no files"),
+        }
+    }
+}
+
+/// What each kind of store answers: one answer where all say the same.
+fn alike(
+    alloc: Global,
+    steps: &Steps,
+    dump: &Dump<'_>,
+    asked: Asked<'_>,
+) -> Result<String, AllocError> {
+    let plain = over_dump::<PlainFacts>(alloc, steps, dump, asked)?;
+    let spans = over_dump::<SpanFacts>(alloc, steps, dump, asked)?;
+    let refusing = over_dump::<Refusing>(alloc, steps, dump, asked)?;
+    if plain == spans && plain == refusing {
+        return Ok(plain);
+    }
+    format!(in alloc; "{plain}, in spans {spans}, in a list that refuses {refusing}")
 }
 
 fn main(rt: HostRuntime) -> io::Result<()> {
-    tell(&rt, &mut Tables::new(rt.alloc())?)
+    let files = Files::new(rt.alloc())?;
+    tell(&rt, &mut Analyses { files })
 }

@@ -1,5 +1,0 @@
-use Rattle.rept_steps.specs.Linked.{EndBefore}
-use Rattle.tables_of_analyses.proofs.runs.made.push_rows.Given as goal
-
-abbrev pub invariant-loop-told : goal.invariant-loop-told
-invariant-loop-told l = EndBefore l.steps 0
