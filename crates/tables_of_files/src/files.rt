@@ -1,24 +1,15 @@
-//! What the ports answer, on memory and on the files, pipes, devices and streams of this machine; and executables, core files and lists of mapped files, whole and damaged.
+//! Files that the lines of a table make, one after another.
 
-mod dumps;
-mod fails;
-mod images;
-mod mapped;
-mod names;
-mod ports;
-mod streams;
-mod system;
-
-use ports::Ports;
+use crate::ports::Ports;
+use crate::{images, system};
 use std::alloc::{AllocError, Global};
 use std::{mem, rt};
-pub use streams::reads;
-use test_lines::Numbers;
 use test_lines::bytes::{append_zeros, changed};
+use test_lines::{Numbers, Table};
 
-/// The table, with what some of its lines make: a real executable and its core file, an executable, a file that is being made, and ports.
+/// A real executable and its core file, an executable, a file that is being made, and ports.
 #[derive(Drop)]
-pub struct FileTable<'r, R> {
+pub struct Files<'r, R> {
     rt: &'r R,
     real: Vec<u8>,
     real_core: Vec<u8>,
@@ -27,16 +18,16 @@ pub struct FileTable<'r, R> {
     ports: Ports,
 }
 
-impl<'r, R: rt::Files> FileTable<'r, R> {
+impl<'r, R: rt::Files> Files<'r, R> {
     /// Beside the real files none is made yet.
     pub fn new(
         alloc: Global,
         rt: &'r R,
         real: Vec<u8>,
         real_core: Vec<u8>,
-    ) -> Result<FileTable<'r, R>, AllocError> {
+    ) -> Result<Files<'r, R>, AllocError> {
         let ports = Ports::new(alloc)?;
-        Ok(FileTable {
+        Ok(Files {
             rt,
             real,
             real_core,
@@ -57,13 +48,10 @@ impl<'r, R: rt::Files> FileTable<'r, R> {
         }
         Ok(true)
     }
+}
 
-    pub fn answer(
-        &mut self,
-        alloc: Global,
-        asked: &str,
-        n: &Numbers,
-    ) -> Result<String, AllocError> {
+impl<'r, R: rt::Files> Table for Files<'r, R> {
+    fn answer(&mut self, alloc: Global, asked: &str, n: &Numbers) -> Result<String, AllocError> {
         if test_lines::bytes::make(alloc, &mut self.file, asked, n)?
             || self.make(asked, n)?
             || self.ports.take(alloc, self.file.as_slice(), asked, n)?

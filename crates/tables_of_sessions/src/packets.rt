@@ -1,0 +1,75 @@
+//! Packets of a debugger, and dialogs of them.
+
+use crate::lines::ports;
+use rept_dialog::converse;
+use rept_ports::MemSource;
+use rept_remote::{Arrival, Packets, push_packet};
+use rept_session::Findings;
+use rept_stub::Setting;
+use rept_word::Text;
+use std::alloc::{AllocError, Global};
+use test_lines::Numbers;
+
+/// The packet of a text after the one of `OK`.
+pub fn framed(alloc: Global, text: &[u8]) -> Result<String, AllocError> {
+    let mut packets = Text::new(alloc);
+    push_packet(alloc, &mut packets, b"OK")?;
+    push_packet(alloc, &mut packets, text)?;
+    format!(in alloc; "{:?}", String::from_utf8_lossy(alloc, packets.bytes())?)
+}
+
+/// The arrival of an input with the first number, from 1 on, where the read with the second one fails: a packet with the bytes that it carries.
+pub fn arrival(alloc: Global, input: &[u8], n: &Numbers) -> Result<String, AllocError> {
+    let mut source = MemSource::new(alloc, input, &[u64::from(n.word(1))])?;
+    let mut packets = Packets::new();
+    let mut last = packets.next(&mut source);
+    for _ in 1..n.word(0) {
+        last = packets.next(&mut source);
+    }
+    match last {
+        Ok(Arrival::Packet) => {
+            let carried = String::from_utf8_lossy(alloc, packets.carried())?;
+            format!(in alloc; "packet {carried}")
+        }
+        _ => format!(in alloc; "{last:?}"),
+    }
+}
+
+/// Appends the packet of a text to an input.
+pub fn push(alloc: Global, input: &mut Vec<u8>, text: &[u8]) -> Result<(), AllocError> {
+    let mut packet = Text::new(alloc);
+    push_packet(alloc, &mut packet, text)?;
+    input.extend_from_slice(packet.bytes())
+}
+
+/// What a dialog whose write with this number fails writes, and how it ends.
+pub fn dialog<F: Findings>(
+    alloc: Global,
+    findings: &mut F,
+    input: &[u8],
+    fail: u32,
+) -> Result<String, AllocError> {
+    let setting = Setting {
+        skipped: 0,
+        signal: 11,
+    };
+    let (mut source, mut sink) = ports(alloc, input, 0, fail)?;
+    let ended = converse(alloc, findings, setting, &mut source, &mut sink);
+    format!(in alloc;
+        "{} {ended:?}",
+        String::from_utf8_lossy(alloc, sink.bytes())?
+    )
+}
+
+/// What a dialog writes after its last acknowledgment, and how it ends.
+pub fn reply<F: Findings>(
+    alloc: Global,
+    findings: &mut F,
+    input: &[u8],
+) -> Result<String, AllocError> {
+    let told = dialog(alloc, findings, input, 0)?;
+    match told.as_str().rsplit_once('+') {
+        None => String::from_str(alloc, told.as_str()),
+        Some((_, last)) => String::from_str(alloc, last),
+    }
+}
