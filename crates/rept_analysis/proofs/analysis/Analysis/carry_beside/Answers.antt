@@ -1,4 +1,4 @@
-use Rattle.std.proofs.Common.{◌≡◌, ◌+◌, ◌||◌, ℕ, Some, inl, inr, arith}
+use Rattle.std.proofs.Common.{◌≡◌, ◌+◌, ◌||◌, ℕ, Some, inl, inr, arith, ◌∙◌}
 use Rattle.rept_report.specs.Spots.{passage}
 use Rattle.rept_analysis.specs.State.{AnalysisState, state_of, reader}
 use Rattle.rept_analysis.specs.Drawing.{IsCarriedFrom, IsCarriedIf, IsCarriedBeside}
@@ -55,3 +55,15 @@ returns-clause-drew g c =
     let R : AnalysisState g.row.W.Denot → Type 0 = λ x. IsCarriedFrom a piece.from piece.to x × P x in
     let both = Drew_both s t u c.in_ok-inside.inside c.in_ok-before.before (IsCarriedFrom a piece.from piece.to) P R c.in_ok-inside.ensures.grows c.in_ok-before.ensures.grows c.in_ok-inside.ensures.drew c.in_ok-before.ensures.drew (λ p q. (p, q)) in
     Drew_both s u v (c.in_ok-inside.inside || c.in_ok-before.before) c.in_ok-after.after R Q (IsCarriedBeside a c.args.strip c.args.point piece.to) (Grows_trans s t u c.in_ok-inside.ensures.grows c.in_ok-before.ensures.grows) c.in_ok-after.ensures.grows both c.in_ok-after.ensures.drew (λ p q. beside_closed s a c.args.point c.args.strip piece c.piece-piece.ensures p.0 p.1 q)
+
+pub carry_segment-requires-clause-spared : goal.carry_segment-requires-clause-spared
+carry_segment-requires-clause-spared g c = c.piece-piece.ensures.spared
+
+pub carry_end-requires-clause-open : goal.carry_end-requires-clause-open
+carry_end-requires-clause-open g c = c.in_ok-inside.ensures.grows.complete ∙ c.requires.open
+
+pub carry_end-requires-2-clause-open : goal.carry_end-requires-2-clause-open
+carry_end-requires-2-clause-open g c = c.in_ok-before.ensures.grows.complete ∙ (c.in_ok-inside.ensures.grows.complete ∙ c.requires.open)
+
+pub returns-clause-onward : goal.returns-clause-onward
+returns-clause-onward g c = (c.piece-piece.ensures.high, c.piece-piece.ensures.within)

@@ -1,4 +1,4 @@
-use Rattle.std.proofs.Common.{◌+◌, ◌-◌, arith}
+use Rattle.std.proofs.Common.{◌+◌, ◌-◌, arith, ◌∙◌}
 use Rattle.rept_report.specs.Spots.{passage}
 use Rattle.rept_analysis.specs.State.{AnalysisState, state_of, reader}
 use Rattle.rept_analysis.specs.Drawing.{IsCarriedIf}
@@ -34,3 +34,25 @@ loop-m-preserved g c =
 
 pub returns-then-not-new-clause-drew : goal.returns-then-not-new-clause-drew
 returns-then-not-new-clause-drew g c = Drew_both (state_of (reader g.P.Paths.timeline g.L.LastValues.values) g.W.Partial.sets g.W.Transfer.moves g.R.RowRules.rules g.B.ByteFacts.store c.args.self.now) (state_of (reader g.P.Paths.timeline g.L.LastValues.values) g.W.Partial.sets g.W.Transfer.moves g.R.RowRules.rules g.B.ByteFacts.store c.loop-m.self) (state_of (reader g.P.Paths.timeline g.L.LastValues.values) g.W.Partial.sets g.W.Transfer.moves g.R.RowRules.rules g.B.ByteFacts.store c.carry_step.new.self) c.loop-m.learnt c.in_ok-new.new (λ (x : AnalysisState g.row.W.Denot). Unit {0}) (IsCarriedIf (passage c.args.a (c.loop-m.m - 1) (c.loop-m.m - 1 + 1))) (λ (x : AnalysisState g.row.W.Denot). Unit {0}) c.loop-m.invariant.grows c.in_ok-new.ensures.grows c.loop-m.invariant.drew c.in_ok-new.ensures.drew (λ p q. tt)
+
+pub carry_step-requires-clause-open : goal.carry_step-requires-clause-open
+carry_step-requires-clause-open g c = c.loop-m.invariant.grows.complete ∙ c.requires.open
+
+pub returns-clause-grows : goal.returns-clause-grows
+returns-clause-grows g c = c.loop-m.invariant.grows
+
+pub returns-clause-drew : goal.returns-clause-drew
+returns-clause-drew g c = c.loop-m.invariant.drew
+
+pub returns-then-not-new-clause-grows : goal.returns-then-not-new-clause-grows
+returns-then-not-new-clause-grows g c = Grows_trans _ _ _ c.loop-m.invariant.grows c.in_ok-new.ensures.grows
+
+pub loop-m-smaller : goal.loop-m-smaller
+loop-m-smaller g c =
+    let more = c.loop-m-test.true in
+    omega (arith, more)
+
+pub overflow_sub-m : goal.overflow_sub-m
+overflow_sub-m g c =
+    let more = c.loop-m-test.true in
+    omega (arith, more)

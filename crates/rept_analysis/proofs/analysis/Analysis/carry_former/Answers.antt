@@ -1,6 +1,6 @@
-use Rattle.std.proofs.Common.{◌-◌, arith}
+use Rattle.std.proofs.Common.{◌-◌, arith, ◌∙◌}
 use Rattle.rept_analysis.specs.State.{AnalysisState, state_of, reader}
-use Rattle.rept_analysis.proofs.Drawn.{Drew_further, Grows_trans}
+use Rattle.rept_analysis.proofs.Drawn.{Drew_further, Grows_trans, Drew_same, Grows_itself}
 use Rattle.rept_analysis.proofs.Going.{strip_at, strip_after}
 use Rattle.rept_analysis.proofs.analysis.Analysis.carry_former.Goals as goal
 
@@ -26,3 +26,54 @@ returns-clause-drew g c =
     let t = (state_of (reader g.P.Paths.timeline g.L.LastValues.values) g.W.Partial.sets g.W.Transfer.moves g.R.RowRules.rules g.B.ByteFacts.store c.carry_over.new.self) in
     let u = (state_of (reader g.P.Paths.timeline g.L.LastValues.values) g.W.Partial.sets g.W.Transfer.moves g.R.RowRules.rules g.B.ByteFacts.store c.carry_under.new.self) in
     Drew_further s t u c.in_ok-new.new c.in_ok-under.under.0 (λ (x : AnalysisState g.row.W.Denot). Unit {0}) (λ (x : AnalysisState g.row.W.Denot). Unit {0}) (λ (x : AnalysisState g.row.W.Denot). Unit {0}) c.in_ok-under.ensures.grows c.if-not-new.false c.in_ok-new.ensures.drew c.in_ok-under.ensures.drew
+
+pub returns-then-not-is_dark_past-clause-grows : goal.returns-then-not-is_dark_past-clause-grows
+returns-then-not-is_dark_past-clause-grows g c = Grows_itself (state_of (reader g.P.Paths.timeline g.L.LastValues.values) g.W.Partial.sets g.W.Transfer.moves g.R.RowRules.rules g.B.ByteFacts.store c.args.self.now)
+
+pub returns-then-not-is_dark_past-clause-drew : goal.returns-then-not-is_dark_past-clause-drew
+returns-then-not-is_dark_past-clause-drew g c = Drew_same (state_of (reader g.P.Paths.timeline g.L.LastValues.values) g.W.Partial.sets g.W.Transfer.moves g.R.RowRules.rules g.B.ByteFacts.store c.args.self.now) (λ (x : AnalysisState g.row.W.Denot). Unit {0}) tt
+
+pub returns-then-is_some-clause-grows : goal.returns-then-is_some-clause-grows
+returns-then-is_some-clause-grows g c = Grows_itself (state_of (reader g.P.Paths.timeline g.L.LastValues.values) g.W.Partial.sets g.W.Transfer.moves g.R.RowRules.rules g.B.ByteFacts.store c.args.self.now)
+
+pub returns-then-is_some-clause-drew : goal.returns-then-is_some-clause-drew
+returns-then-is_some-clause-drew g c = Drew_same (state_of (reader g.P.Paths.timeline g.L.LastValues.values) g.W.Partial.sets g.W.Transfer.moves g.R.RowRules.rules g.B.ByteFacts.store c.args.self.now) (λ (x : AnalysisState g.row.W.Denot). Unit {0}) tt
+
+pub returns-then-not-new-clause-grows : goal.returns-then-not-new-clause-grows
+returns-then-not-new-clause-grows g c = c.in_ok-new.ensures.grows
+
+pub returns-then-not-new-clause-drew : goal.returns-then-not-new-clause-drew
+returns-then-not-new-clause-drew g c = rw c.if-not-new.true at c.in_ok-new.ensures.drew
+
+pub carry_under-requires-clause-open : goal.carry_under-requires-clause-open
+carry_under-requires-clause-open g c = c.in_ok-new.ensures.grows.complete ∙ c.requires.open
+
+pub carry_under-requires-clause-writings : goal.carry_under-requires-clause-writings
+carry_under-requires-clause-writings g c = c.in_ok-new.ensures.grows.writing c.requires.writings
+
+pub carry_over-requires-clause-inside : goal.carry_over-requires-clause-inside
+carry_over-requires-clause-inside g c = c.strip-former.ensures.inside
+
+pub strip-former-requires : goal.strip-former-requires
+strip-former-requires g c =
+    let inside = c.requires.inside in
+    omega (arith, inside)
+
+pub returns-then-is_some-clause-down : goal.returns-then-is_some-clause-down
+returns-then-is_some-clause-down g c =
+    let some = c.requires.some in
+    let from = c.strip-former.ensures.from in
+    omega (arith, some, from)
+
+pub returns-then-not-new-clause-down : goal.returns-then-not-new-clause-down
+returns-then-not-new-clause-down g c =
+    let some = c.requires.some in
+    let from = c.strip-former.ensures.from in
+    omega (arith, some, from)
+
+pub returns-clause-down : goal.returns-clause-down
+returns-clause-down g c =
+    let some = c.requires.some in
+    let from = c.strip-former.ensures.from in
+    let down = c.in_ok-under.ensures.down in
+    omega (arith, some, from, down)

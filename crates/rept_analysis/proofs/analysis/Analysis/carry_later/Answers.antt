@@ -1,5 +1,5 @@
-use Rattle.std.proofs.Common.{◌||◌, arith}
-use Rattle.rept_analysis.specs.State.{AnalysisState, state_of, reader}
+use Rattle.std.proofs.Common.{◌||◌, arith, ◌∙◌, ◌≤◌, sym, subst}
+use Rattle.rept_analysis.specs.State.{AnalysisState, state_of, reader, Subject}
 use Rattle.rept_analysis.specs.Drawing.{IsCarriedIn}
 use Rattle.rept_analysis.proofs.Drawn.{Drew_both, Grows_trans}
 use Rattle.rept_analysis.proofs.Going.{strip_at}
@@ -25,3 +25,34 @@ pub returns-clause-drew : goal.returns-clause-drew
 returns-clause-drew g c =
     let inside = Drew_both (state_of (reader g.P.Paths.timeline g.L.LastValues.values) g.W.Partial.sets g.W.Transfer.moves g.R.RowRules.rules g.B.ByteFacts.store c.args.self.now) (state_of (reader g.P.Paths.timeline g.L.LastValues.values) g.W.Partial.sets g.W.Transfer.moves g.R.RowRules.rules g.B.ByteFacts.store c.carry_strip.new.self) (state_of (reader g.P.Paths.timeline g.L.LastValues.values) g.W.Partial.sets g.W.Transfer.moves g.R.RowRules.rules g.B.ByteFacts.store c.leap_up.new.self) c.in_ok-inside.inside c.in_ok-up.up.0 (IsCarriedIn c.args.a c.strip-later.result) (λ (x : AnalysisState g.row.W.Denot). Unit {0}) (λ (x : AnalysisState g.row.W.Denot). Unit {0}) c.in_ok-inside.ensures.grows c.in_ok-up.ensures.grows c.in_ok-inside.ensures.drew c.in_ok-up.ensures.drew (λ p q. tt) in
     Drew_both (state_of (reader g.P.Paths.timeline g.L.LastValues.values) g.W.Partial.sets g.W.Transfer.moves g.R.RowRules.rules g.B.ByteFacts.store c.args.self.now) (state_of (reader g.P.Paths.timeline g.L.LastValues.values) g.W.Partial.sets g.W.Transfer.moves g.R.RowRules.rules g.B.ByteFacts.store c.leap_up.new.self) (state_of (reader g.P.Paths.timeline g.L.LastValues.values) g.W.Partial.sets g.W.Transfer.moves g.R.RowRules.rules g.B.ByteFacts.store c.carry_links_on.new.self) (c.in_ok-inside.inside || c.in_ok-up.up.0) c.in_ok-links.links (λ (x : AnalysisState g.row.W.Denot). Unit {0}) (λ (x : AnalysisState g.row.W.Denot). Unit {0}) (λ (x : AnalysisState g.row.W.Denot). Unit {0}) (Grows_trans (state_of (reader g.P.Paths.timeline g.L.LastValues.values) g.W.Partial.sets g.W.Transfer.moves g.R.RowRules.rules g.B.ByteFacts.store c.args.self.now) (state_of (reader g.P.Paths.timeline g.L.LastValues.values) g.W.Partial.sets g.W.Transfer.moves g.R.RowRules.rules g.B.ByteFacts.store c.carry_strip.new.self) (state_of (reader g.P.Paths.timeline g.L.LastValues.values) g.W.Partial.sets g.W.Transfer.moves g.R.RowRules.rules g.B.ByteFacts.store c.leap_up.new.self) c.in_ok-inside.ensures.grows c.in_ok-up.ensures.grows) c.in_ok-links.ensures.grows inside c.in_ok-links.ensures.drew (λ p q. tt)
+
+pub leap_up-requires-clause-inside : goal.leap_up-requires-clause-inside
+leap_up-requires-clause-inside g c = subst (λ (P : Subject g.row.W.Denot). c.strip-later.result.last ≤ P.given.moments.end) (sym (c.in_ok-inside.ensures.grows.path)) c.strip-later.ensures.inside
+
+pub leap_up-requires-clause-writings : goal.leap_up-requires-clause-writings
+leap_up-requires-clause-writings g c = c.in_ok-inside.ensures.grows.writing c.requires.writings
+
+pub leap_up-requires-clause-open : goal.leap_up-requires-clause-open
+leap_up-requires-clause-open g c = c.in_ok-inside.ensures.grows.complete ∙ c.requires.open
+
+pub strip-number-requires : goal.strip-number-requires
+strip-number-requires g c = subst (λ (P : Subject g.row.W.Denot). c.in_ok-up.up.1 ≤ P.given.moments.end) (sym c.in_ok-up.ensures.grows.path) c.in_ok-up.ensures.up.1
+
+pub carry_links_on-requires-clause-inside : goal.carry_links_on-requires-clause-inside
+carry_links_on-requires-clause-inside g c = c.strip-number.ensures.inside
+
+pub carry_links_on-requires-clause-tracked : goal.carry_links_on-requires-clause-tracked
+carry_links_on-requires-clause-tracked g c = c.in_ok-up.ensures.grows.tracked c.args.a (c.in_ok-inside.ensures.grows.tracked c.args.a c.requires.tracked)
+
+pub carry_links_on-requires-clause-writings : goal.carry_links_on-requires-clause-writings
+carry_links_on-requires-clause-writings g c = c.in_ok-up.ensures.grows.writing (c.in_ok-inside.ensures.grows.writing c.requires.writings)
+
+pub carry_links_on-requires-clause-open : goal.carry_links_on-requires-clause-open
+carry_links_on-requires-clause-open g c = c.in_ok-up.ensures.grows.complete ∙ (c.in_ok-inside.ensures.grows.complete ∙ c.requires.open)
+
+pub returns-clause-up : goal.returns-clause-up
+returns-clause-up g c =
+    let later = c.strip-later.ensures.to in
+    let up = c.in_ok-up.ensures.up.0 in
+    let number = c.strip-number.ensures.to in
+    (omega (arith, later, up, number), subst (λ (P : Subject g.row.W.Denot). c.strip-number.result.last ≤ P.given.moments.end) (c.in_ok-up.ensures.grows.path ∙ c.in_ok-inside.ensures.grows.path) c.strip-number.ensures.inside)

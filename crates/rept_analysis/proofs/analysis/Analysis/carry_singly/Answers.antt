@@ -1,4 +1,4 @@
-use Rattle.std.proofs.Common.{◌+◌, Some, None, refl, false, arith}
+use Rattle.std.proofs.Common.{◌+◌, Some, None, refl, false, arith, ◌∙◌}
 use Rattle.rept_versions.specs.Facts.{Nexts}
 use Rattle.rept_report.specs.Spots.{passage}
 use Rattle.rept_analysis.specs.State.{AnalysisState, state_of, reader}
@@ -74,3 +74,26 @@ returns-clause-drew g c =
     let t = (state_of (reader g.P.Paths.timeline g.L.LastValues.values) g.W.Partial.sets g.W.Transfer.moves g.R.RowRules.rules g.B.ByteFacts.store c.loop-from.self) in
     let ended = c.loop-from-test.false in
     Drew_as s t c.loop-from.learnt (IsCarriedBelow c.args.a c.args.strip c.loop-from.from) (IsCarriedIn c.args.a c.args.strip) c.loop-from.invariant.drew (λ p. in_all s c.args.a c.loop-from.from c.args.strip p ended)
+
+pub carry_border-requires-clause-open : goal.carry_border-requires-clause-open
+carry_border-requires-clause-open g c = c.loop-from.invariant.grows.complete ∙ c.requires.open
+
+pub returns-clause-grows : goal.returns-clause-grows
+returns-clause-grows g c = c.loop-from.invariant.grows
+
+pub returns-in_default-clause-grows : goal.returns-in_default-clause-grows
+returns-in_default-clause-grows g c = c.loop-from.invariant.grows
+
+pub returns-then-m-strip-clause-grows : goal.returns-then-m-strip-clause-grows
+returns-then-m-strip-clause-grows g c = c.loop-from.invariant.grows
+
+pub loop-from-smaller : goal.loop-from-smaller
+loop-from-smaller g c =
+    let more = c.loop-from-test.true in
+    let onward = border_onward (state_of (reader g.P.Paths.timeline g.L.LastValues.values) g.W.Partial.sets g.W.Transfer.moves g.R.RowRules.rules g.B.ByteFacts.store c.loop-from.self) c.args.a c.loop-from.from c.in-Some.stretch (rw c.in-Some.is at c.stretch.ensures) c.border-m.result c.border-m.ensures in
+    omega (arith, more, onward)
+
+pub overflow_add-from : goal.overflow_add-from
+overflow_add-from g c =
+    let inside = c.if-m-strip.false in
+    omega (arith, inside)

@@ -1,5 +1,5 @@
-use Rattle.std.proofs.Common.{refl}
-use Rattle.rept_analysis.specs.State.{state_of, with_draws, reader}
+use Rattle.std.proofs.Common.{refl, ◌<◌, ◌∙◌, sym, ap, subst}
+use Rattle.rept_analysis.specs.State.{state_of, with_draws, reader, AnalysisState, Subject}
 use Rattle.rept_analysis.specs.Drawing.{DrawnKnown}
 use Rattle.rept_analysis.proofs.Drawn.{list_conclusions}
 use Rattle.rept_analysis.proofs.Learning.{known_words}
@@ -28,3 +28,21 @@ returns-clause-grows g c = cut_grows (state_of (reader g.P.Paths.timeline g.L.La
 
 pub returns-clause-halt : goal.returns-clause-halt
 returns-clause-halt g c = halt_after (state_of (reader g.P.Paths.timeline g.L.LastValues.values) g.W.Partial.sets g.W.Transfer.moves g.R.RowRules.rules g.B.ByteFacts.store c.conclude_all.new.self) (state_of (reader g.P.Paths.timeline g.L.LastValues.values) g.W.Partial.sets g.W.Transfer.moves g.R.RowRules.rules g.B.ByteFacts.store c.keep_pass-in-Err.new.self) _ c.in-Err.halt c.keep_pass-in-Err.ensures refl c.in-Err.ensures.halt
+
+pub conclude_all-requires-clause-inside : goal.conclude_all-requires-clause-inside
+conclude_all-requires-clause-inside g c = subst (λ (P : Subject g.row.W.Denot). c.args.i < P.given.legs.count) (sym (ap (λ (x : AnalysisState g.row.W.Denot). x.path) c.list_drawn-list.ensures.same)) c.requires.inside
+
+pub conclude_all-requires-clause-open : goal.conclude_all-requires-clause-open
+conclude_all-requires-clause-open g c = ap (λ (x : AnalysisState g.row.W.Denot). x.complete) c.list_drawn-list.ensures.same ∙ c.requires.open
+
+pub keep_pass-requires-clause-inside : goal.keep_pass-requires-clause-inside
+keep_pass-requires-clause-inside g c = subst (λ (P : Subject g.row.W.Denot). c.args.i < P.given.legs.count) (sym (c.conclude_all.ensures.grows.path ∙ ap (λ (x : AnalysisState g.row.W.Denot). x.path) c.list_drawn-list.ensures.same)) c.requires.inside
+
+pub keep_pass-requires-clause-open : goal.keep_pass-requires-clause-open
+keep_pass-requires-clause-open g c = c.conclude_all.ensures.grows.complete ∙ (ap (λ (x : AnalysisState g.row.W.Denot). x.complete) c.list_drawn-list.ensures.same ∙ c.requires.open)
+
+pub keep_pass-requires-in-Err-clause-inside : goal.keep_pass-requires-in-Err-clause-inside
+keep_pass-requires-in-Err-clause-inside g c = subst (λ (P : Subject g.row.W.Denot). c.args.i < P.given.legs.count) (sym (c.conclude_all.ensures.grows.path ∙ ap (λ (x : AnalysisState g.row.W.Denot). x.path) c.list_drawn-list.ensures.same)) c.requires.inside
+
+pub keep_pass-requires-in-Err-clause-open : goal.keep_pass-requires-in-Err-clause-open
+keep_pass-requires-in-Err-clause-open g c = c.conclude_all.ensures.grows.complete ∙ (ap (λ (x : AnalysisState g.row.W.Denot). x.complete) c.list_drawn-list.ensures.same ∙ c.requires.open)

@@ -1,7 +1,7 @@
 use Rattle.std.proofs.Common.{true, sym, subst}
 use Rattle.rept_analysis.specs.State.{AnalysisState, Whole, state_of, reader}
-use Rattle.rept_analysis.specs.Drawing.{Drew, IsSpreadTo}
-use Rattle.rept_analysis.proofs.Drawn.{Grows_same, Drew_new}
+use Rattle.rept_analysis.specs.Drawing.{Drew, IsSpreadTo, Grows}
+use Rattle.rept_analysis.proofs.Drawn.{Grows_same, Drew_new, Drew_none}
 use Rattle.rept_analysis.proofs.analysis.Analysis.spread_led.Goals as goal
 
 pub returns-in-Ok-More-clause-drew : goal.returns-in-Ok-More-clause-drew
@@ -15,3 +15,30 @@ pub returns-in-Ok-Same-clause-grows : goal.returns-in-Ok-Same-clause-grows
 returns-in-Ok-Same-clause-grows g c =
     let sent = rw c.in-Ok-Same.field-0-is at c.in-Ok-Same.ensures in
     Grows_same _ _ sent.0
+
+pub returns-in-Ok-More-clause-grows : goal.returns-in-Ok-More-clause-grows
+returns-in-Ok-More-clause-grows g c =
+    let sent = rw c.in-Ok-More.field-0-is at c.in-Ok-More.ensures in
+    subst (λ (x : Whole g.row.P.Denot g.row.L.Denot g.row.B.Denot g.row.W.Denot g.row.R.Denot). Grows (state_of (reader g.P.Paths.timeline g.L.LastValues.values) g.W.Partial.sets g.W.Transfer.moves g.R.RowRules.rules g.B.ByteFacts.store c.args.self.now) (state_of (reader g.P.Paths.timeline g.L.LastValues.values) g.W.Partial.sets g.W.Transfer.moves g.R.RowRules.rules g.B.ByteFacts.store x)) (sym c.note_byte.ensures) sent.0
+
+pub returns-in-Ok-Same-clause-drew : goal.returns-in-Ok-Same-clause-drew
+returns-in-Ok-Same-clause-drew g c =
+    let sent = rw c.in-Ok-Same.field-0-is at c.in-Ok-Same.ensures in
+    let P : AnalysisState g.row.W.Denot → Type 0 = IsSpreadTo (record { address = c.args.a; from = c.args.from; to = c.args.to; value = c.args.value }) in
+    Drew_none (state_of (reader g.P.Paths.timeline g.L.LastValues.values) g.W.Partial.sets g.W.Transfer.moves g.R.RowRules.rules g.B.ByteFacts.store c.args.self.now) (state_of (reader g.P.Paths.timeline g.L.LastValues.values) g.W.Partial.sets g.W.Transfer.moves g.R.RowRules.rules g.B.ByteFacts.store c.send.new.self) P sent.0 sent.1
+
+pub returns-in-Ok-Stop-clause-grows : goal.returns-in-Ok-Stop-clause-grows
+returns-in-Ok-Stop-clause-grows g c =
+    let sent = rw c.in-Ok-Stop.field-0-is at c.in-Ok-Stop.ensures in
+    sent.0
+
+pub returns-in-Ok-Stop-clause-halt : goal.returns-in-Ok-Stop-clause-halt
+returns-in-Ok-Stop-clause-halt g c =
+    let sent = rw c.in-Ok-Stop.field-0-is at c.in-Ok-Stop.ensures in
+    sent.1
+
+pub returns-in-Err-clause-grows : goal.returns-in-Err-clause-grows
+returns-in-Err-clause-grows g c = c.in-Err.ensures.0
+
+pub returns-in-Err-clause-halt : goal.returns-in-Err-clause-halt
+returns-in-Err-clause-halt g c = c.in-Err.ensures.1
