@@ -77,11 +77,16 @@ fn append_notes(file: &mut Vec<u8>, n: &Numbers) -> Result<(), AllocError> {
     let size = n.word(2);
     let mut process = n.word(1);
     for _ in 0..n.word(0) {
-        for word in [5, size, 1, 0x4552_4f43, 0, 0, 0, 0, 0, 0, 0, process] {
-            file.extend_from_slice(&u32::to_le_bytes(word))?;
-        }
-        append_zeros(file, size.saturating_sub(28))?;
+        append_note(file, size, process)?;
         process = process.wrapping_add(1);
     }
     Ok(())
+}
+
+/// Appends the register note of a process, with a descriptor of a size.
+fn append_note(file: &mut Vec<u8>, size: u32, process: u32) -> Result<(), AllocError> {
+    for word in [5, size, 1, 0x4552_4f43, 0, 0, 0, 0, 0, 0, 0, process] {
+        file.extend_from_slice(&u32::to_le_bytes(word))?;
+    }
+    append_zeros(file, size.saturating_sub(28))
 }
