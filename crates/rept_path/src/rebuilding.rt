@@ -113,11 +113,13 @@ fn rebuild_once(
     rebuild_program(alloc, packets, &program, from)
 }
 
-/// The path that a trace tells of the program of a dump: the steps from the first start packet whose number is `from` or more
-/// and after which no packets were lost, to the dump's program counter (Efficient Trace for RISC-V 2.0, reference decoder;
-/// `docs/PATH.md` explains the rules). `packets` is as `Packets::open` gave it, of fewer than 2^32 bytes; where its `halves` answers true, code may be compressed. A `Packet` fault comes
-/// before any other; else the fault is the one that comes first along the trace. `OutOfMemory` alone may come at any time. The
-/// memory that is taken grows with the steps, and not with the packets.
+/// The path that a trace means: the steps from the first start packet whose number is `from` or more
+/// and after which no packets were lost, to the dump's program counter (Efficient Trace for RISC-V
+/// 2.0, reference decoder; `docs/DESIGN.md` explains the rules). `packets` is as `Packets::open`
+/// gave it, of fewer than 2^32 bytes; where its `halves` answers true, code may be compressed. A
+/// `Packet` fault comes before any other; else the fault is the one that comes first along the
+/// trace. `OutOfMemory` alone may come at any time. The memory that is taken grows with the steps,
+/// and not with the packets.
 pub fn rebuild(
     alloc: Global,
     packets: Packets<'_>,

@@ -76,11 +76,18 @@ fn rebuild_once(
     }
 }
 
-/// The run that several streams of packets tell of the program of a dump and its threads, those of its notes in their order (`docs/PATH.md` explains the rules). `streams` is as
-/// `Streams::open` gave it, of fewer than 2^32 bytes; windows begin at start packets of the number `from` in their stream or a later one. A slice begins at a start packet, and has the rows up to the
-/// next one of its stream or to the end of the trace there. The refusals come in this order: those of `survey_all`; those of the walks, stream by stream, as `rebuild` has them but for gaps and the
-/// end; `SliceOverlap`, of the first thread of which two streams tell at one time, with the least such time; and those of the joins, thread by thread: of a slice with the next one of its thread
-/// (`Gap`), and of the last one with the thread's program counter (`End`). More than 65,536 rows in all threads are `TooLong`. `OutOfMemory` alone may come at any time.
+/// The run that several streams of packets mean for a dump's program and its threads, those of the
+/// notes in their order (`docs/DESIGN.md` explains the rules). `streams` is as `Streams::open` gave
+/// it, of fewer than 2^32 bytes; windows begin at start packets of the number `from` in their
+/// stream or a later one. A slice begins at a start packet, and has the steps up to the next one of
+/// its stream or to the end of the trace there.
+///
+/// The refusals come in this order: those of `survey_all`; those of the walks, stream by stream, as
+/// `rebuild` has them but for gaps and the end; `SliceOverlap`, of the first thread of which two
+/// streams tell at one time, with the least such time; and those of the joins, thread by thread: of
+/// a slice with the next one of its thread (`Gap`), and of the last one with the thread's program
+/// counter (`End`). More than 65,536 steps in all threads are `TooLong`. `OutOfMemory` alone may
+/// come at any time.
 pub fn rebuild_many(
     alloc: Global,
     streams: Streams<'_>,
