@@ -1,13 +1,21 @@
 -- The bytes of calls over ranges and of one call.
-use Rattle.std.proofs.Common.{◌≡◌, ℕ, ◌+◌, ◌-◌, ◌%◌, ◌^◌, ◌<◌, ◌≤◌, ◌⊎◌, true, false, inl, inr, refl, sym, ap, subst, ◌∙◌, Bool, nat_le, nat_lt, ◌==◌, ◌||◌, ◌&&◌, arith, if◌then◌else◌, Option, Some, None, lit≤}
+use Rattle.std.proofs.Common.{◌≡◌, ◌≢◌, ℕ, ◌+◌, ◌-◌, ◌*◌, ◌%◌, ◌^◌, ◌<◌, ◌≤◌, ◌⊎◌, min, List, [], ◌∷◌, true, false, inl, inr, refl, sym, ap, subst, ◌∙◌, Bool, nat_le, nat_lt, ◌==◌, ◌||◌, ◌&&◌, arith, if◌then◌else◌, Option, Some, None, lit≤}
+use Rattle.std.proofs.Math.Nat.{min-le_left, min-le_right, min-eq_left, min-eq_right}
+use Rattle.std.proofs.lemmas.Nat.{row_fits}
 use Rattle.rept_partial.specs.declared.range.Range.{Range}
 use Rattle.rept_partial.specs.declared.flat.Flat.{Flat}
 use Rattle.rept_partial.specs.declared.flat.Flat.TheVariants.{Unknown, Known}
 use Rattle.rept_alias.specs.declared.addresses.Access.{Access}
 use Rattle.rept_alias.specs.declared.addresses.CallAccess.{CallAccess}
 use Rattle.rept_alias.specs.Accesses.{hits, hits_part, call_hits, distance, between, everywhere}
-use Rattle.rept_machine.specs.Calls.{within, is_silent, is_error, may_change}
-use Rattle.rept_havoc.specs.Havoc.{nothing, one, every_byte, interval, grown, mapped, changed_by, changed, Lies, IsExact, MeetsArguments, AreExact, IsNumber, RangeWithin, AreArgumentsWithin, NumberWithin}
+use Rattle.rept_machine.specs.declared.calls.ByteCount.{ByteCount}
+use Rattle.rept_machine.specs.declared.calls.ByteCount.TheVariants.{Fixed, Register, Pages, Records}
+use Rattle.rept_machine.specs.declared.calls.CallEffect.{CallEffect}
+use Rattle.rept_machine.specs.declared.calls.CallEffect.TheVariants.{Area, Read, Received, Heap, Mapping}
+use Rattle.rept_machine.specs.declared.calls.CallRow.{CallRow}
+use Rattle.rept_machine.specs.declared.calls.TheConstants.{CALLS}
+use Rattle.rept_machine.specs.Calls.{within, is_error, bad_address, counted, was_read, effect_has, part_has, call_of, row_has, may_change}
+use Rattle.rept_havoc.specs.Havoc.{every_byte, interval, grown, mapped, was_read_over, counted_over, effect_over, part_over, row_over, changed_by, changed, Lies, IsExact, MeetsArguments, AreExact, IsNumber, RangeWithin, AreArgumentsWithin, NumberWithin}
 
 true≢false : true ≡ false → ⊥
 true≢false e = cc
@@ -108,11 +116,11 @@ interval_within base wide n size a w few t = elim (form wide size) [
 ]
 
 -- the heap
-data Heap (image_end : ℕ) (answered : Range) : Type 0 where
-  shrunk : answered.hi ≤ image_end → grown image_end answered ≡ None → Heap image_end answered
-  more : image_end < answered.hi → grown image_end answered ≡ Some (between image_end (answered.hi - 1)) → Heap image_end answered
+data HeapForm (image_end : ℕ) (answered : Range) : Type 0 where
+  shrunk : answered.hi ≤ image_end → grown image_end answered ≡ None → HeapForm image_end answered
+  more : image_end < answered.hi → grown image_end answered ≡ Some (between image_end (answered.hi - 1)) → HeapForm image_end answered
 
-heap : (image_end : ℕ) (answered : Range) → Heap image_end answered
+heap : (image_end : ℕ) (answered : Range) → HeapForm image_end answered
 heap image_end answered = elim (either_way (nat_lt image_end answered.hi)) [
   | inl t ↦ more (grind (arith, t)) (rw t refl)
   | inr f ↦ shrunk (grind (arith, f)) (rw f refl)
@@ -163,11 +171,11 @@ grown_within image_end answered wide a w t = elim (heap image_end answered) [
 abbrev in_pages : ℕ → ℕ → ℕ → Bool
 in_pages answer size a = if is_error answer then false else within answer (size + 4095) a
 
-data Pages (answered size : Range) : Type 0 where
-  failed : 2 ^ 32 ≤ answered.lo + 4095 → mapped answered size ≡ None → Pages answered size
-  made : answered.lo + 4095 < 2 ^ 32 → mapped answered size ≡ interval answered (size.hi + 4095) → Pages answered size
+data PagesForm (answered size : Range) : Type 0 where
+  failed : 2 ^ 32 ≤ answered.lo + 4095 → mapped answered size ≡ None → PagesForm answered size
+  made : answered.lo + 4095 < 2 ^ 32 → mapped answered size ≡ interval answered (size.hi + 4095) → PagesForm answered size
 
-pages : (answered size : Range) → Pages answered size
+pages : (answered size : Range) → PagesForm answered size
 pages answered size = elim (either_way (is_error answered.lo)) [
   | inl t ↦ failed (grind (arith, t)) (rw t refl)
   | inr f ↦ made (grind (arith, f)) (rw f refl)
@@ -206,93 +214,320 @@ mapped_within answered size wide longer a w few t = elim (pages answered size) [
   ]
 ]
 
--- one more line of the table
-covers_line : (b : Bool) (x y : CallAccess) (p q : Bool) (a : ℕ) → (p ≡ true → call_hits x a ≡ true) → (q ≡ true → call_hits y a ≡ true) → (if b then p else q) ≡ true → call_hits (if b then x else y) a ≡ true
-covers_line true x y p q a f g t = f t
-covers_line false x y p q a f g t = g t
-
-exact_line : (b : Bool) (x y : CallAccess) (p q : Bool) (a : ℕ) → call_hits x a ≡ p → call_hits y a ≡ q → call_hits (if b then x else y) a ≡ (if b then p else q)
-exact_line true x y p q a f g = f
-exact_line false x y p q a f g = g
-
-within_line : (b : Bool) (x y u v : CallAccess) (a : ℕ) → (call_hits x a ≡ true → call_hits u a ≡ true) → (call_hits y a ≡ true → call_hits v a ≡ true) → call_hits (if b then x else y) a ≡ true → call_hits (if b then u else v) a ≡ true
-within_line true x y u v a f g t = f t
-within_line false x y u v a f g t = g t
-
-or-false : (p : Bool) → (p || false) ≡ p
-or-false true = refl
-or-false false = refl
-
-one_is : (x : Option Access) (a : ℕ) → call_hits (one x) a ≡ hits_part x a
-one_is x a = or-false (hits_part x a)
-
-covers_one : (x : Option Access) (p : Bool) (a : ℕ) → (p ≡ true → hits_part x a ≡ true) → p ≡ true → call_hits (one x) a ≡ true
-covers_one x p a f t = one_is x a ∙ f t
-
-within_one : (x y : Option Access) (a : ℕ) → (hits_part x a ≡ true → hits_part y a ≡ true) → call_hits (one x) a ≡ true → call_hits (one y) a ≡ true
-within_one x y a f t = one_is y a ∙ f (sym (one_is x a) ∙ t)
-
 either : (p q r s : Bool) → (p ≡ true → r ≡ true) → (q ≡ true → s ≡ true) → (p || q) ≡ true → (r || s) ≡ true
 either true q r s f g t = rw (f refl) refl
 either false q true s f g t = refl
 either false q false s f g t = g t
 
+min_up : (a b c d : ℕ) → a ≤ c → b ≤ d → min a b ≤ min c d
+min_up a b c d p q = elim (either_way (nat_le c d)) [
+  | inl t ↦
+      let least : c ≤ d = grind (arith, t) in
+      let e : min c d ≡ c = min-eq_left least in
+      let l = min-le_left a b in
+      omega (arith, e, l, p)
+  | inr t ↦
+      let least : d ≤ c = grind (arith, t) in
+      let e : min c d ≡ d = min-eq_right least in
+      let r = min-le_right a b in
+      omega (arith, e, r, q)
+]
+
+-- fewer records of one size are fewer bytes
+fewer : (a b size : ℕ) → a ≤ b → a * size ≤ b * size
+fewer a b size h = let f : a * size + size ≤ (b + 1) * size = row_fits a size (b + 1) size (omega (arith, h)) (omega arith) in omega (arith, f)
+
+-- reads
+data ReadForm (base most answered : Range) : Type 0 where
+  counted_read : answered.hi + 4095 < 2 ^ 32 → was_read_over base most answered ≡ interval base (min most.hi answered.hi) → ReadForm base most answered
+  failed_read : 2 ^ 32 ≤ answered.lo + 4095 → (bad_address < answered.lo) ⊎ (answered.hi < bad_address) → was_read_over base most answered ≡ None → ReadForm base most answered
+  open_read : was_read_over base most answered ≡ interval base most.hi → 2 ^ 32 ≤ answered.hi + 4095 → (answered.lo + 4095 < 2 ^ 32) ⊎ ((answered.lo ≤ bad_address) × (bad_address ≤ answered.hi)) → ReadForm base most answered
+
+read_form : (base most answered : Range) → ReadForm base most answered
+read_form base most answered = elim (either_way (nat_lt (answered.hi + 4095) (2 ^ 32))) [
+  | inl t ↦ counted_read (grind (arith, t)) (rw t refl)
+  | inr f ↦ elim (either_way (is_error answered.lo)) [
+    | inr g ↦ open_read (rw (f, g) refl) (grind (arith, f)) (inl (grind (arith, g)))
+    | inl e ↦ elim (either_way (nat_lt bad_address answered.lo)) [
+      | inl s ↦ failed_read (grind (arith, e)) (inl (grind (arith, s))) (rw (f, e, s) refl)
+      | inr s ↦ elim (either_way (nat_lt answered.hi bad_address)) [
+        | inl u ↦ failed_read (grind (arith, e)) (inr (grind (arith, u))) (rw (f, e, s, u) refl)
+        | inr u ↦ open_read (rw (f, e, s, u) refl) (grind (arith, f)) (inr (grind (arith, s), grind (arith, u)))
+      ]
+    ]
+  ]
+]
+
+read_fits : (base most answer a : ℕ) → answer + 4095 < 2 ^ 32 → was_read base most answer a ≡ within base (min most answer) a
+read_fits base most answer a h =
+    let e : is_error answer ≡ false = grind (arith, h) in
+    let f : (answer == bad_address) ≡ false = grind (arith, h) in
+    rw (f, e) refl
+
+read_fails : (base most answer a : ℕ) → 2 ^ 32 ≤ answer + 4095 → answer ≢ bad_address → was_read base most answer a ≡ false
+read_fails base most answer a h n =
+    let e : is_error answer ≡ true = grind (arith, h) in
+    elim (either_way (answer == bad_address)) [
+      | inl t ↦ absurd (n (grind (arith, t)))
+      | inr f ↦ rw (f, e) refl
+    ]
+
+read_open : (base most answer a : ℕ) → answer ≡ bad_address → was_read base most answer a ≡ within base most a
+read_open base most answer a h = let t : (answer == bad_address) ≡ true = grind (arith, h) in rw t refl
+
+-- no more than the most bytes, whatever the answer
+data ReadAtMost (base most answer a : ℕ) : Type 0 where
+  some_read : (n : ℕ) → n ≤ most → within base n a ≡ true → ReadAtMost base most answer a
+
+read_at_most : (base most answer a : ℕ) → was_read base most answer a ≡ true → ReadAtMost base most answer a
+read_at_most base most answer a t = elim (either_way (answer == bad_address)) [
+  | inl e ↦ some_read most (omega arith) (sym (read_open base most answer a (grind (arith, e))) ∙ t)
+  | inr f ↦ elim (either_way (is_error answer)) [
+    | inl e ↦ absurd (true≢false (sym t ∙ read_fails base most answer a (grind (arith, e)) (λ h. let y : (answer == bad_address) ≡ true = grind (arith, h) in true≢false (sym y ∙ f))))
+    | inr e ↦ some_read (min most answer) (min-le_left most answer) (sym (read_fits base most answer a (grind (arith, e))) ∙ t)
+  ]
+]
+
+read_covers : (base most answered : Range) (b n answer a : ℕ) → Lies b base → Lies n most → Lies answer answered → was_read b n answer a ≡ true → hits_part (was_read_over base most answered) a ≡ true
+read_covers base most answered b n answer a lies few says t = elim (read_form base most answered) [
+  | counted_read fits is ↦ rw is (interval_covers base (min most.hi answered.hi) b (min n answer) a lies (min_up n answer most.hi answered.hi few.1 says.1) (sym (read_fits b n answer a (omega (arith, says))) ∙ t))
+  | failed_read fails other is ↦ absurd (true≢false (sym t ∙ read_fails b n answer a (omega (arith, says)) (λ h. elim other [ inl x ↦ omega (arith, says, h) | inr x ↦ omega (arith, says, h) ])))
+  | open_read is past why ↦ elim (read_at_most b n answer a t) [ some_read k small has ↦ rw is (interval_covers base most.hi b k a lies (omega (arith, few)) has) ]
+]
+
+read_exact : (base most answered : Range) (b n answer a : ℕ) → IsExact base b → IsExact most n → IsExact answered answer → a < 2 ^ 32 → hits_part (was_read_over base most answered) a ≡ was_read b n answer a
+read_exact base most answered b n answer a exact few says fits = elim (read_form base most answered) [
+  | counted_read small is ↦
+      ap (λ (x : Option Access). hits_part x a) is ∙ ap (λ (k : ℕ). hits_part (interval base k) a) (ap (λ (k : ℕ). min k answered.hi) few.1 ∙ ap (λ (k : ℕ). min n k) says.1)
+      ∙ interval_exact base b (min n answer) a exact fits ∙ sym (read_fits b n answer a (omega (arith, says)))
+  | failed_read fails other is ↦ ap (λ (x : Option Access). hits_part x a) is ∙ sym (read_fails b n answer a (omega (arith, says)) (λ h. elim other [ inl x ↦ omega (arith, says, h) | inr x ↦ omega (arith, says, h) ]))
+  | open_read is past why ↦
+      let bad : answer ≡ bad_address = elim why [ inl x ↦ absurd (omega (arith, says)) | inr x ↦ omega (arith, says, x) ] in
+      ap (λ (x : Option Access). hits_part x a) is ∙ ap (λ (k : ℕ). hits_part (interval base k) a) few.1 ∙ interval_exact base b n a exact fits ∙ sym (read_open b n answer a bad)
+]
+
+read_within : (base most answered wide longer wider : Range) (a : ℕ) → RangeWithin base wide → RangeWithin most longer → RangeWithin answered wider → hits_part (was_read_over base most answered) a ≡ true → hits_part (was_read_over wide longer wider) a ≡ true
+read_within base most answered wide longer wider a w few v t = elim (read_form wide longer wider) [
+  | counted_read fits is ↦ elim (read_form base most answered) [
+    | counted_read small from ↦ rw is (interval_within base wide (min most.hi answered.hi) (min longer.hi wider.hi) a w (min_up most.hi answered.hi longer.hi wider.hi few.1 v.1) (sym (ap (λ (x : Option Access). hits_part x a) from) ∙ t))
+    | failed_read fails other from ↦ absurd (true≢false (sym t ∙ ap (λ (x : Option Access). hits_part x a) from))
+    | open_read from past why ↦ absurd (omega (arith, v))
+  ]
+  | failed_read fails other is ↦ elim (read_form base most answered) [
+    | counted_read small from ↦ let o = answered.ordered in absurd (omega (arith, v))
+    | failed_read lost more_other from ↦ absurd (true≢false (sym t ∙ ap (λ (x : Option Access). hits_part x a) from))
+    | open_read from past why ↦ absurd (elim why [
+      | inl x ↦ omega (arith, v)
+      | inr x ↦ elim other [ inl y ↦ omega (arith, v, x) | inr y ↦ omega (arith, v, x) ]
+    ])
+  ]
+  | open_read is past why ↦ elim (read_form base most answered) [
+    | counted_read small from ↦ rw is (interval_within base wide (min most.hi answered.hi) longer.hi a w (let l = min-le_left most.hi answered.hi in omega (arith, few)) (sym (ap (λ (x : Option Access). hits_part x a) from) ∙ t))
+    | failed_read fails other from ↦ absurd (true≢false (sym t ∙ ap (λ (x : Option Access). hits_part x a) from))
+    | open_read from also because ↦ rw is (interval_within base wide most.hi longer.hi a w few.1 (sym (ap (λ (x : Option Access). hits_part x a) from) ∙ t))
+  ]
+]
+
+-- of three parts
+three_covers : {p q r s t u : Bool} → (p ≡ true → s ≡ true) → (q ≡ true → t ≡ true) → (r ≡ true → u ≡ true) → (p || q || r) ≡ true → (s || t || u) ≡ true
+three_covers {p} {q} {r} {s} {t} {u} f g h e = either (p || q) r (s || t) u (either p q s t f g) h e
+
+three_are : {p q r s t u : Bool} → p ≡ s → q ≡ t → r ≡ u → (p || q || r) ≡ (s || t || u)
+three_are e f g = rw (e, f, g) refl
+
+-- which registers a row names: those of arguments alone
+abbrev is_argument : ℕ → Bool
+is_argument r = nat_le 10 r && nat_le r 15
+
+abbrev counts_by_arguments : ByteCount → Bool
+counts_by_arguments (Fixed bytes) = true
+counts_by_arguments (Register r) = is_argument r
+counts_by_arguments (Pages r) = is_argument r
+counts_by_arguments (Records r bytes most) = is_argument r
+
+abbrev goes_by_arguments : CallEffect → Bool
+goes_by_arguments (Area base count) = is_argument base && counts_by_arguments count
+goes_by_arguments (Read base most) = is_argument base && is_argument most
+goes_by_arguments (Received base most) = is_argument base && is_argument most
+goes_by_arguments Heap = true
+goes_by_arguments (Mapping length) = is_argument length
+
+abbrev part_goes : Option CallEffect → Bool
+part_goes None = true
+part_goes (Some effect) = goes_by_arguments effect
+
+abbrev row_goes : CallRow → Bool
+row_goes row = part_goes row.first && part_goes row.second && part_goes row.third
+
+abbrev rows_go : List CallRow → Bool
+rows_go [] = true
+rows_go (row ∷ rows) = row_goes row && rows_go rows
+
+all_rows_go : rows_go CALLS ≡ true
+all_rows_go = refl
+
+-- what a row of the table says of its registers
+data Goes : Option CallRow → Type 0 where
+  by_no_row : Goes None
+  by_row : (row : CallRow) → row_goes row ≡ true → Goes (Some row)
+
+both_parts : (p q : Bool) → (p && q) ≡ true → (p ≡ true) × (q ≡ true)
+both_parts true true h = (refl, refl)
+both_parts true false h = cc
+both_parts false q h = cc
+
+found_goes : (rows : List CallRow) (number : ℕ) → rows_go rows ≡ true → Goes (call_of rows number)
+found_goes [] number h = by_no_row
+found_goes (row ∷ rows) number h =
+    let both = both_parts (row_goes row) (rows_go rows) h in
+    by_test (row.number == number) both.0 (found_goes rows number both.1)
+  where
+    by_test : (b : Bool) → row_goes row ≡ true → Goes (call_of rows number) → Goes (if b then Some row else call_of rows number)
+    by_test true here later = by_row row here
+    by_test false here later = later
+
+-- a register of an argument
+argument_of : (r : ℕ) → is_argument r ≡ true → (10 ≤ r) × (r ≤ 15)
+argument_of r h = grind (arith, h)
+
+module _ (x : ℕ → Range) (answered : Range) (image_end : ℕ) (register : ℕ → ℕ) (answer a : ℕ) where
+  module _ (meets : MeetsArguments x register) (lies : Lies answer answered) where
+    meets_at : (r : ℕ) → is_argument r ≡ true → Lies (register r) (x r)
+    meets_at r h = let o = argument_of r h in meets r o.0 o.1
+
+    area_covers : (base : ℕ) (count : ByteCount) → is_argument base ≡ true → counts_by_arguments count ≡ true → within (register base) (counted register count) a ≡ true → hits_part (interval (x base) (counted_over x count)) a ≡ true
+    area_covers base (Fixed bytes) b c t = interval_covers (x base) bytes (register base) bytes a (meets_at base b) (omega arith) t
+    area_covers base (Register r) b c t = interval_covers (x base) (x r).hi (register base) (register r) a (meets_at base b) ((meets_at r c).1) t
+    area_covers base (Pages r) b c t = interval_covers (x base) ((x r).hi + 4095) (register base) (register r + 4095) a (meets_at base b) (let m = meets_at r c in omega (arith, m)) t
+    area_covers base (Records r bytes most) b c t = elim (either_way (nat_le (x r).hi most)) [
+      | inl few ↦
+          let m = meets_at r c in
+          let within_most : nat_le (register r) most ≡ true = grind (arith, few, m) in
+          let small : register r * bytes ≤ (x r).hi * bytes = fewer (register r) (x r).hi bytes m.1 in
+          rw few (interval_covers (x base) ((x r).hi * bytes) (register base) (register r * bytes) a (meets_at base b) small (subst (λ (k : Bool). within (register base) (if k then register r * bytes else 2 ^ 33) a ≡ true) within_most t))
+      | inr many ↦ rw many (every_covers (x base))
+    ]
+      where
+        every_covers : (base : Range) → hits_part (interval base (2 ^ 33)) a ≡ true
+        every_covers base = elim (form base (2 ^ 33)) [
+          | empty e is ↦ absurd (omega (arith, e))
+          | row_of some fits is ↦ absurd (omega (arith, fits))
+          | all some past is ↦ rw is refl
+        ]
+
+    effect_covers : (effect : CallEffect) → goes_by_arguments effect ≡ true → effect_has image_end register answer effect a ≡ true → hits_part (effect_over image_end x answered effect) a ≡ true
+    effect_covers (Area base count) h t = let both = both_parts _ _ h in area_covers base count both.0 both.1 t
+    effect_covers (Read base most) h t = let both = both_parts _ _ h in read_covers (x base) (x most) answered (register base) (register most) answer a (meets_at base both.0) (meets_at most both.1) lies t
+    effect_covers (Received base most) h t =
+        let both = both_parts _ _ h in
+        let m = meets_at most both.1 in
+        interval_covers (x base) (min (x most).hi answered.hi) (register base) (min (register most) answer) a (meets_at base both.0) (min_up (register most) answer (x most).hi answered.hi m.1 lies.1) t
+    effect_covers Heap h t = grown_covers image_end answered answer a lies t
+    effect_covers (Mapping length) h t = mapped_covers answered (x length) answer (register length) a lies (meets_at length h) t
+
+    part_covers : (part : Option CallEffect) → part_goes part ≡ true → part_has image_end register answer part a ≡ true → hits_part (part_over image_end x answered part) a ≡ true
+    part_covers None h t = t
+    part_covers (Some effect) h t = effect_covers effect h t
+
+    row_covers : (row : Option CallRow) → Goes row → row_has image_end register answer row a ≡ true → call_hits (row_over image_end x answered row) a ≡ true
+    row_covers None goes t = refl
+    row_covers (Some row) (by_row same h) t =
+        let one = both_parts (part_goes row.first && part_goes row.second) (part_goes row.third) h in
+        let two = both_parts (part_goes row.first) (part_goes row.second) one.0 in
+        three_covers (part_covers row.first two.0) (part_covers row.second two.1) (part_covers row.third one.1) t
+
+  module _ (known : AreExact x register) (exact : IsExact answered answer) (fits : a < 2 ^ 32) where
+    known_at : (r : ℕ) → is_argument r ≡ true → IsExact (x r) (register r)
+    known_at r h = let o = argument_of r h in known r o.0 o.1
+
+    counted_exact : (count : ByteCount) → counts_by_arguments count ≡ true → counted_over x count ≡ counted register count
+    counted_exact (Fixed bytes) c = refl
+    counted_exact (Register r) c = (known_at r c).1
+    counted_exact (Pages r) c = ap (λ (k : ℕ). k + 4095) ((known_at r c).1)
+    counted_exact (Records r bytes most) c = ap (λ (k : ℕ). if nat_le k most then k * bytes else 2 ^ 33) ((known_at r c).1)
+
+    effect_exact : (effect : CallEffect) → goes_by_arguments effect ≡ true → hits_part (effect_over image_end x answered effect) a ≡ effect_has image_end register answer effect a
+    effect_exact (Area base count) h =
+        let both = both_parts _ _ h in
+        ap (λ (k : ℕ). hits_part (interval (x base) k) a) (counted_exact count both.1) ∙ interval_exact (x base) (register base) (counted register count) a (known_at base both.0) fits
+    effect_exact (Read base most) h = let both = both_parts _ _ h in read_exact (x base) (x most) answered (register base) (register most) answer a (known_at base both.0) (known_at most both.1) exact fits
+    effect_exact (Received base most) h =
+        let both = both_parts _ _ h in
+        ap (λ (k : ℕ). hits_part (interval (x base) k) a) (ap (λ (k : ℕ). min k answered.hi) ((known_at most both.1).1) ∙ ap (λ (k : ℕ). min (register most) k) exact.1) ∙ interval_exact (x base) (register base) (min (register most) answer) a (known_at base both.0) fits
+    effect_exact Heap h = grown_exact image_end answered answer a exact fits
+    effect_exact (Mapping length) h = mapped_exact answered (x length) answer (register length) a exact (known_at length h) fits
+
+    part_exact : (part : Option CallEffect) → part_goes part ≡ true → hits_part (part_over image_end x answered part) a ≡ part_has image_end register answer part a
+    part_exact None h = refl
+    part_exact (Some effect) h = effect_exact effect h
+
+    row_exact : (row : Option CallRow) → Goes row → call_hits (row_over image_end x answered row) a ≡ row_has image_end register answer row a
+    row_exact None goes = refl
+    row_exact (Some row) (by_row same h) =
+        let one = both_parts (part_goes row.first && part_goes row.second) (part_goes row.third) h in
+        let two = both_parts (part_goes row.first) (part_goes row.second) one.0 in
+        three_are (part_exact row.first two.0) (part_exact row.second two.1) (part_exact row.third one.1)
+
+module _ (x wide : ℕ → Range) (answered wider : Range) (image_end a : ℕ) (w : AreArgumentsWithin x wide) (v : RangeWithin answered wider) where
+  within_at : (r : ℕ) → is_argument r ≡ true → RangeWithin (x r) (wide r)
+  within_at r h = let o = argument_of r h in w r o.0 o.1
+
+  area_within : (base : ℕ) (count : ByteCount) → is_argument base ≡ true → counts_by_arguments count ≡ true → hits_part (interval (x base) (counted_over x count)) a ≡ true → hits_part (interval (wide base) (counted_over wide count)) a ≡ true
+  area_within base (Fixed bytes) b c t = interval_within (x base) (wide base) bytes bytes a (within_at base b) (omega arith) t
+  area_within base (Register r) b c t = interval_within (x base) (wide base) (x r).hi (wide r).hi a (within_at base b) ((within_at r c).1) t
+  area_within base (Pages r) b c t = interval_within (x base) (wide base) ((x r).hi + 4095) ((wide r).hi + 4095) a (within_at base b) (let m = within_at r c in omega (arith, m)) t
+  area_within base (Records r bytes most) b c t = elim (either_way (nat_le (wide r).hi most)) [
+    | inl few ↦
+        let m = within_at r c in
+        let within_most : nat_le (x r).hi most ≡ true = grind (arith, few, m) in
+        let small : (x r).hi * bytes ≤ (wide r).hi * bytes = fewer (x r).hi (wide r).hi bytes m.1 in
+        rw few (interval_within (x base) (wide base) ((x r).hi * bytes) ((wide r).hi * bytes) a (within_at base b) small (subst (λ (k : Bool). hits_part (interval (x base) (if k then (x r).hi * bytes else 2 ^ 33)) a ≡ true) within_most t))
+    | inr many ↦ rw many (every_within (wide base))
+  ]
+    where
+      every_within : (base : Range) → hits_part (interval base (2 ^ 33)) a ≡ true
+      every_within base = elim (form base (2 ^ 33)) [
+        | empty e is ↦ absurd (omega (arith, e))
+        | row_of some fits is ↦ absurd (omega (arith, fits))
+        | all some past is ↦ rw is refl
+      ]
+
+  effect_within : (effect : CallEffect) → goes_by_arguments effect ≡ true → hits_part (effect_over image_end x answered effect) a ≡ true → hits_part (effect_over image_end wide wider effect) a ≡ true
+  effect_within (Area base count) h t = let both = both_parts _ _ h in area_within base count both.0 both.1 t
+  effect_within (Read base most) h t = let both = both_parts _ _ h in read_within (x base) (x most) answered (wide base) (wide most) wider a (within_at base both.0) (within_at most both.1) v t
+  effect_within (Received base most) h t =
+      let both = both_parts _ _ h in
+      let m = within_at most both.1 in
+      interval_within (x base) (wide base) (min (x most).hi answered.hi) (min (wide most).hi wider.hi) a (within_at base both.0) (min_up (x most).hi answered.hi (wide most).hi wider.hi m.1 v.1) t
+  effect_within Heap h t = grown_within image_end answered wider a v t
+  effect_within (Mapping length) h t = mapped_within answered (x length) wider (wide length) a v (within_at length h) t
+
+  part_within : (part : Option CallEffect) → part_goes part ≡ true → hits_part (part_over image_end x answered part) a ≡ true → hits_part (part_over image_end wide wider part) a ≡ true
+  part_within None h t = t
+  part_within (Some effect) h t = effect_within effect h t
+
+  row_within : (row : Option CallRow) → Goes row → call_hits (row_over image_end x answered row) a ≡ true → call_hits (row_over image_end wide wider row) a ≡ true
+  row_within None goes t = refl
+  row_within (Some row) (by_row same h) t =
+      let one = both_parts (part_goes row.first && part_goes row.second) (part_goes row.third) h in
+      let two = both_parts (part_goes row.first) (part_goes row.second) one.0 in
+      three_covers (part_within row.first two.0) (part_within row.second two.1) (part_within row.third one.1) t
+
 -- each byte that a call may change is one of those that its ranges give
 pub changed_covers : (number : ℕ) (x : ℕ → Range) (answered : Range) (image_end : ℕ) (register : ℕ → ℕ) (answer a : ℕ) → number ≡ register 17 → MeetsArguments x register → Lies answer answered → may_change image_end register answer a ≡ true → call_hits (changed_by number x answered image_end) a ≡ true
 changed_covers number x answered image_end register answer a named meets lies t =
     subst (λ (n : ℕ). call_hits (changed_by n x answered image_end) a ≡ true) (sym named)
-    (covers_line (is_silent (register 17)) nothing _ false _ a (λ e. e)
-    (covers_line (register 17 == 63) (one (interval (x 11) (x 12).hi)) _ (within (register 11) (register 12) a) _ a (covers_one _ _ a (interval_covers (x 11) (x 12).hi (register 11) (register 12) a (meets 11 (lit≤ tt) (lit≤ tt)) ((meets 12 (lit≤ tt) (lit≤ tt)).1)))
-    (covers_line (register 17 == 135) (one (interval (x 12) 8)) _ (within (register 12) 8 a) _ a (covers_one _ _ a (interval_covers (x 12) 8 (register 12) 8 a (meets 12 (lit≤ tt) (lit≤ tt)) (lit≤ tt)))
-    (covers_line (register 17 == 214) (one (grown image_end answered)) _ (in_heap image_end answer a) _ a (covers_one _ _ a (grown_covers image_end answered answer a lies))
-    (covers_line (register 17 == 215) (one (interval (x 10) ((x 11).hi + 4095))) _ (within (register 10) (register 11 + 4095) a) _ a (covers_one _ _ a (interval_covers (x 10) ((x 11).hi + 4095) (register 10) (register 11 + 4095) a (meets 10 (lit≤ tt) (lit≤ tt)) (let m = meets 11 (lit≤ tt) (lit≤ tt) in omega (arith, m))))
-    (covers_line (register 17 == 222) (one (mapped answered (x 11))) _ (in_pages answer (register 11) a) _ a (covers_one _ _ a (mapped_covers answered (x 11) answer (register 11) a lies (meets 11 (lit≤ tt) (lit≤ tt))))
-    (covers_line (register 17 == 278) (one (interval (x 10) (x 11).hi)) _ (within (register 10) (register 11) a) _ a (covers_one _ _ a (interval_covers (x 10) (x 11).hi (register 10) (register 11) a (meets 10 (lit≤ tt) (lit≤ tt)) ((meets 11 (lit≤ tt) (lit≤ tt)).1)))
-    (covers_line (register 17 == 403) (one (interval (x 11) 16)) _ (within (register 11) 16 a) _ a (covers_one _ _ a (interval_covers (x 11) 16 (register 11) 16 a (meets 11 (lit≤ tt) (lit≤ tt)) (lit≤ tt)))
-    (covers_line (register 17 == 422) (record { first = interval (x 10) 4; second = interval (x 14) 4 }) every_byte (within (register 10) 4 a || within (register 14) 4 a) true a
-    (either (within (register 10) 4 a) (within (register 14) 4 a) _ _ (interval_covers (x 10) 4 (register 10) 4 a (meets 10 (lit≤ tt) (lit≤ tt)) (lit≤ tt)) (interval_covers (x 14) 4 (register 14) 4 a (meets 14 (lit≤ tt) (lit≤ tt)) (lit≤ tt)))
-    (λ e. refl)))))))))
-    t)
+    (row_covers x answered image_end register answer a meets lies (call_of CALLS (register 17)) (found_goes CALLS (register 17) all_rows_go) t)
 
 -- where all is known, no others
 pub changed_exact : (number : ℕ) (x : ℕ → Range) (answered : Range) (image_end : ℕ) (register : ℕ → ℕ) (answer a : ℕ) → number ≡ register 17 → AreExact x register → IsExact answered answer → a < 2 ^ 32 → call_hits (changed_by number x answered image_end) a ≡ may_change image_end register answer a
 changed_exact number x answered image_end register answer a named known exact fits =
     subst (λ (n : ℕ). call_hits (changed_by n x answered image_end) a ≡ may_change image_end register answer a) (sym named)
-    (exact_line (is_silent (register 17)) nothing _ false _ a refl
-    (exact_line (register 17 == 63) (one (interval (x 11) (x 12).hi)) _ (within (register 11) (register 12) a) _ a (of_two 11 12 (known 11 (lit≤ tt) (lit≤ tt)) (known 12 (lit≤ tt) (lit≤ tt)))
-    (exact_line (register 17 == 135) (one (interval (x 12) 8)) _ (within (register 12) 8 a) _ a (of_one 12 8 (known 12 (lit≤ tt) (lit≤ tt)))
-    (exact_line (register 17 == 214) (one (grown image_end answered)) _ (in_heap image_end answer a) _ a (one_is (grown image_end answered) a ∙ grown_exact image_end answered answer a exact fits)
-    (exact_line (register 17 == 215) (one (interval (x 10) ((x 11).hi + 4095))) _ (within (register 10) (register 11 + 4095) a) _ a (ap (λ (k : ℕ). call_hits (one (interval (x 10) (k + 4095))) a) ((known 11 (lit≤ tt) (lit≤ tt)).1) ∙ of_one 10 (register 11 + 4095) (known 10 (lit≤ tt) (lit≤ tt)))
-    (exact_line (register 17 == 222) (one (mapped answered (x 11))) _ (in_pages answer (register 11) a) _ a (one_is (mapped answered (x 11)) a ∙ mapped_exact answered (x 11) answer (register 11) a exact (known 11 (lit≤ tt) (lit≤ tt)) fits)
-    (exact_line (register 17 == 278) (one (interval (x 10) (x 11).hi)) _ (within (register 10) (register 11) a) _ a (of_two 10 11 (known 10 (lit≤ tt) (lit≤ tt)) (known 11 (lit≤ tt) (lit≤ tt)))
-    (exact_line (register 17 == 403) (one (interval (x 11) 16)) _ (within (register 11) 16 a) _ a (of_one 11 16 (known 11 (lit≤ tt) (lit≤ tt)))
-    (exact_line (register 17 == 422) (record { first = interval (x 10) 4; second = interval (x 14) 4 }) every_byte (within (register 10) 4 a || within (register 14) 4 a) true a
-    (both_are (interval_exact (x 10) (register 10) 4 a (known 10 (lit≤ tt) (lit≤ tt)) fits) (interval_exact (x 14) (register 14) 4 a (known 14 (lit≤ tt) (lit≤ tt)) fits))
-    refl)))))))))
-  where
-    of_one : (r k : ℕ) → IsExact (x r) (register r) → call_hits (one (interval (x r) k)) a ≡ within (register r) k a
-    of_one r k e = one_is (interval (x r) k) a ∙ interval_exact (x r) (register r) k a e fits
-
-    of_two : (r s : ℕ) → IsExact (x r) (register r) → IsExact (x s) (register s) → call_hits (one (interval (x r) (x s).hi)) a ≡ within (register r) (register s) a
-    of_two r s e f = ap (λ (k : ℕ). call_hits (one (interval (x r) k)) a) f.1 ∙ of_one r (register s) e
-
-    both_are : {p q r s : Bool} → p ≡ r → q ≡ s → (p || q) ≡ (r || s)
-    both_are e f = rw (e, f) refl
+    (row_exact x answered image_end register answer a known exact fits (call_of CALLS (register 17)) (found_goes CALLS (register 17) all_rows_go))
 
 -- narrower ranges give no more
 within_by : (n : ℕ) (x wide : ℕ → Range) (answered wider : Range) (image_end a : ℕ) → AreArgumentsWithin x wide → RangeWithin answered wider → call_hits (changed_by n x answered image_end) a ≡ true → call_hits (changed_by n wide wider image_end) a ≡ true
-within_by n x wide answered wider image_end a w v =
-    within_line (is_silent n) nothing _ nothing _ a (λ e. e)
-    (within_line (n == 63) (one (interval (x 11) (x 12).hi)) _ (one (interval (wide 11) (wide 12).hi)) _ a (within_one _ _ a (interval_within (x 11) (wide 11) (x 12).hi (wide 12).hi a (w 11 (lit≤ tt) (lit≤ tt)) ((w 12 (lit≤ tt) (lit≤ tt)).1)))
-    (within_line (n == 135) (one (interval (x 12) 8)) _ (one (interval (wide 12) 8)) _ a (within_one _ _ a (interval_within (x 12) (wide 12) 8 8 a (w 12 (lit≤ tt) (lit≤ tt)) (lit≤ tt)))
-    (within_line (n == 214) (one (grown image_end answered)) _ (one (grown image_end wider)) _ a (within_one _ _ a (grown_within image_end answered wider a v))
-    (within_line (n == 215) (one (interval (x 10) ((x 11).hi + 4095))) _ (one (interval (wide 10) ((wide 11).hi + 4095))) _ a (within_one _ _ a (interval_within (x 10) (wide 10) ((x 11).hi + 4095) ((wide 11).hi + 4095) a (w 10 (lit≤ tt) (lit≤ tt)) (let m = w 11 (lit≤ tt) (lit≤ tt) in omega (arith, m))))
-    (within_line (n == 222) (one (mapped answered (x 11))) _ (one (mapped wider (wide 11))) _ a (within_one _ _ a (mapped_within answered (x 11) wider (wide 11) a v (w 11 (lit≤ tt) (lit≤ tt))))
-    (within_line (n == 278) (one (interval (x 10) (x 11).hi)) _ (one (interval (wide 10) (wide 11).hi)) _ a (within_one _ _ a (interval_within (x 10) (wide 10) (x 11).hi (wide 11).hi a (w 10 (lit≤ tt) (lit≤ tt)) ((w 11 (lit≤ tt) (lit≤ tt)).1)))
-    (within_line (n == 403) (one (interval (x 11) 16)) _ (one (interval (wide 11) 16)) _ a (within_one _ _ a (interval_within (x 11) (wide 11) 16 16 a (w 11 (lit≤ tt) (lit≤ tt)) (lit≤ tt)))
-    (within_line (n == 422) (record { first = interval (x 10) 4; second = interval (x 14) 4 }) every_byte (record { first = interval (wide 10) 4; second = interval (wide 14) 4 }) every_byte a
-    (either (hits_part (interval (x 10) 4) a) (hits_part (interval (x 14) 4) a) _ _ (interval_within (x 10) (wide 10) 4 4 a (w 10 (lit≤ tt) (lit≤ tt)) (lit≤ tt)) (interval_within (x 14) (wide 14) 4 4 a (w 14 (lit≤ tt) (lit≤ tt)) (lit≤ tt)))
-    (λ e. e)))))))))
+within_by n x wide answered wider image_end a w v t = row_within x wide answered wider image_end a w v (call_of CALLS n) (found_goes CALLS n all_rows_go) t
 
 pub changed_within : (number wider_number : Flat) (x wide : ℕ → Range) (answered wider : Range) (image_end a : ℕ) → NumberWithin number wider_number → AreArgumentsWithin x wide → RangeWithin answered wider → call_hits (changed number x answered image_end) a ≡ true → call_hits (changed wider_number wide wider image_end) a ≡ true
 changed_within number Unknown x wide answered wider image_end a n w v t = refl

@@ -1,6 +1,6 @@
 -- The bytes that a system call may change, where ranges are known of its arguments and of its answer. What one call changes, with
 -- its sources, is told in rept_machine's `Calls`; this is the same table over ranges, this project's own.
-use Rattle.std.specs.Prelude.{◌≡◌, ℕ, ◌+◌, ◌-◌, ◌^◌, ◌≤◌, nat_le, nat_lt, ◌==◌, if◌then◌else◌, Option, Some, None, List, slice_index_or, ⊤}
+use Rattle.std.specs.Prelude.{◌≡◌, ℕ, ◌+◌, ◌-◌, ◌*◌, ◌^◌, ◌≤◌, nat_le, nat_lt, min, ◌==◌, ◌&&◌, ◌||◌, if◌then◌else◌, Option, Some, None, List, slice_index_or, ⊤}
 use Rattle.rept_partial.specs.declared.range.Range.{Range}
 use Rattle.rept_partial.specs.declared.flat.Flat.{Flat}
 use Rattle.rept_partial.specs.declared.flat.Flat.TheVariants.{Unknown, Known}
@@ -8,16 +8,16 @@ use Rattle.rept_partial.specs.Ranges.{from_to}
 use Rattle.rept_alias.specs.declared.addresses.Access.{Access}
 use Rattle.rept_alias.specs.declared.addresses.CallAccess.{CallAccess}
 use Rattle.rept_alias.specs.Accesses.{between, everywhere}
-use Rattle.rept_machine.specs.Calls.{is_silent, is_error}
-
-abbrev pub nothing : CallAccess
-nothing = record { first = None; second = None }
-
-abbrev pub one : Option Access → CallAccess
-one part = record { first = part; second = None }
+use Rattle.rept_machine.specs.declared.calls.ByteCount.{ByteCount}
+use Rattle.rept_machine.specs.declared.calls.ByteCount.TheVariants.{Fixed, Register, Pages, Records}
+use Rattle.rept_machine.specs.declared.calls.CallEffect.{CallEffect}
+use Rattle.rept_machine.specs.declared.calls.CallEffect.TheVariants.{Area, Read, Received, Heap, Mapping}
+use Rattle.rept_machine.specs.declared.calls.CallRow.{CallRow}
+use Rattle.rept_machine.specs.declared.calls.TheConstants.{CALLS}
+use Rattle.rept_machine.specs.Calls.{is_error, bad_address, call_of}
 
 abbrev pub every_byte : CallAccess
-every_byte = one (Some everywhere)
+every_byte = record { first = Some everywhere; second = None; third = None }
 
 -- So many bytes from a base in a range on: from the lowest base up to the last byte of the highest one. None where there are none. Where
 -- the highest one passes the end of the address space, every byte.
@@ -32,20 +32,41 @@ grown image_end answered = if nat_lt image_end answered.hi then Some (between im
 abbrev pub mapped : Range → Range → Option Access
 mapped answered size = if is_error answered.lo then None else interval answered (size.hi + 4095)
 
--- The call of this number: read 63, rt_sigprocmask 135, brk 214, munmap 215, mmap2 222, getrandom 278, clock_gettime64 403,
--- futex_time64 422. `x r` is the range of argument register x10 to x15. The last line is a call that isn't listed.
+-- A read, over the ranges of its address, of the most bytes and of its answer: no more than the
+-- answer says where that is no error, none where it is an error other than EFAULT, else the most.
+abbrev pub was_read_over : Range → Range → Range → Option Access
+was_read_over base most answered =
+    if nat_lt (answered.hi + 4095) (2 ^ 32) then interval base (min most.hi answered.hi)
+    else if is_error answered.lo && (nat_lt bad_address answered.lo || nat_lt answered.hi bad_address) then None
+    else interval base most.hi
+
+-- the most bytes, over the ranges of argument registers
+abbrev pub counted_over : (ℕ → Range) → ByteCount → ℕ
+counted_over x (Fixed bytes) = bytes
+counted_over x (Register r) = (x r).hi
+counted_over x (Pages r) = (x r).hi + 4095
+counted_over x (Records r bytes most) = if nat_le (x r).hi most then (x r).hi * bytes else 2 ^ 33
+
+-- A part of what a call may change. `x r` is the range of argument register x10 to x15.
+abbrev pub effect_over : ℕ → (ℕ → Range) → Range → CallEffect → Option Access
+effect_over image_end x answered (Area base count) = interval (x base) (counted_over x count)
+effect_over image_end x answered (Read base most) = was_read_over (x base) (x most) answered
+effect_over image_end x answered (Received base most) = interval (x base) (min (x most).hi answered.hi)
+effect_over image_end x answered Heap = grown image_end answered
+effect_over image_end x answered (Mapping length) = mapped answered (x length)
+
+abbrev pub part_over : ℕ → (ℕ → Range) → Range → Option CallEffect → Option Access
+part_over image_end x answered None = None
+part_over image_end x answered (Some effect) = effect_over image_end x answered effect
+
+-- a call of a row, or of none
+abbrev pub row_over : ℕ → (ℕ → Range) → Range → Option CallRow → CallAccess
+row_over image_end x answered None = every_byte
+row_over image_end x answered (Some row) = record { first = part_over image_end x answered row.first; second = part_over image_end x answered row.second; third = part_over image_end x answered row.third }
+
+-- the call of this number
 abbrev pub changed_by : ℕ → (ℕ → Range) → Range → ℕ → CallAccess
-changed_by number x answered image_end =
-    if is_silent number then nothing
-    else if number == 63 then one (interval (x 11) (x 12).hi)
-    else if number == 135 then one (interval (x 12) 8)
-    else if number == 214 then one (grown image_end answered)
-    else if number == 215 then one (interval (x 10) ((x 11).hi + 4095))
-    else if number == 222 then one (mapped answered (x 11))
-    else if number == 278 then one (interval (x 10) (x 11).hi)
-    else if number == 403 then one (interval (x 11) 16)
-    else if number == 422 then record { first = interval (x 10) 4; second = interval (x 14) 4 }
-    else every_byte
+changed_by number x answered image_end = row_over image_end x answered (call_of CALLS number)
 
 -- a call of a known or an unknown number
 abbrev pub changed : Flat → (ℕ → Range) → Range → ℕ → CallAccess

@@ -5,10 +5,17 @@ ghost use Rattle.rept_partial.specs.declared.range.Range.{Range};
 ghost use Rattle.rept_partial.specs.declared.flat.Flat.{Flat};
 ghost use Rattle.rept_alias.specs.Accesses.{call_hits};
 ghost use Rattle.rept_machine.specs.Calls.{may_change};
-ghost use Rattle.rept_havoc.specs.Havoc.{nothing, one, every_byte, interval, grown, mapped, changed_by, changed, argument, MeetsArguments, AreExact, IsNumber, AreArgumentsWithin, NumberWithin, RangeWithin, Lies, IsExact};
+ghost use Rattle.rept_havoc.specs.Havoc.{every_byte, interval, grown, mapped, was_read_over, counted_over, part_over, changed_by, changed, argument, MeetsArguments, AreExact, IsNumber, AreArgumentsWithin, NumberWithin, RangeWithin, Lies, IsExact};
 
 use rept_alias::{Access, CallAccess};
+use rept_machine::{ByteCount, CallEffect, call_of};
 use rept_partial::{Flat, Partial, Range};
+
+/// The least answer of a call that is an error: -4095.
+const LEAST_ERROR: u32 = 0xffff_f001;
+
+/// The answer EFAULT: -14.
+const BAD_ADDRESS: u32 = 0xffff_fff2;
 
 /// The bytes that a system call may change (Linux on 32-bit RISC-V), from what is known of its number in x17 (a7), of its
 /// arguments in x10 to x15 (a0 to a5), and of its answer, which is in x10 after it. `image_end` is the address after the
@@ -31,60 +38,107 @@ pub fn havoc(number: Flat, args: &[Range; 6], answered: Range, image_end: u64) -
 fn changed_by(call: u32, args: &[Range; 6], answered: Range, image_end: u64) -> CallAccess
     ensures { result ≡ changed_by call (argument args.now) answered image_end }
 {
-    match call {
-        56 | 57 | 64 | 66 | 129 | 131 | 172..=178 => nothing(),
-        63 => one(interval(args[1], u64::from(args[2].hi()))),
-        135 => one(interval(args[2], 8)),
-        214 => one(grown(image_end, answered)),
-        215 => one(interval(args[0], u64::from(args[1].hi()) + 4095)),
-        222 => one(mapped(answered, args[1])),
-        278 => one(interval(args[0], u64::from(args[1].hi()))),
-        403 => one(interval(args[1], 16)),
-        422 => CallAccess {
-            first: interval(args[0], 4),
-            second: interval(args[4], 4),
+    match call_of(call) {
+        None => every_byte(),
+        Some(row) => CallAccess {
+            first: part_over(row.first, args, answered, image_end),
+            second: part_over(row.second, args, answered, image_end),
+            third: part_over(row.third, args, answered, image_end),
         },
-        _ => every_byte(),
     }
 }
 
-fn nothing() -> CallAccess
-    ensures { result ≡ nothing }
+/// One part of the bytes of a call, if there is one.
+fn part_over(
+    part: Option<CallEffect>,
+    args: &[Range; 6],
+    answered: Range,
+    image_end: u64,
+) -> Option<Access>
+    ensures { result ≡ part_over image_end (argument args.now) answered part }
 {
-    CallAccess {
-        first: None,
-        second: None,
+    match part? {
+        CallEffect::Area { base, count } => {
+            interval(argument(args, base), counted_over(args, count))
+        }
+        CallEffect::Read { base, most } => {
+            was_read_over(argument(args, base), argument(args, most), answered)
+        }
+        CallEffect::Received { base, most } => {
+            let count = argument(args, most).hi().min(answered.hi());
+            interval(argument(args, base), u64::from(count))
+        }
+        CallEffect::Heap => grown(image_end, answered),
+        CallEffect::Mapping { length } => mapped(answered, argument(args, length)),
     }
 }
 
-fn one(part: Option<Access>) -> CallAccess
-    ensures { result ≡ one part }
+/// The range of an argument register; every value of a register that is none.
+fn argument(args: &[Range; 6], register: u8) -> Range
+    ensures { result ≡ argument args.now register }
 {
-    CallAccess {
-        first: part,
-        second: None,
+    match args.get(usize::from(register.saturating_sub(10))) {
+        Some(range) => *range,
+        None => Range::new(0, u32::MAX),
+    }
+}
+
+/// The most bytes, over the ranges of argument registers.
+fn counted_over(args: &[Range; 6], count: ByteCount) -> u64
+    ensures value { result ≡ counted_over (argument args.now) count }
+{
+    match count {
+        ByteCount::Fixed(bytes) => u64::from(bytes),
+        ByteCount::Register(r) => u64::from(argument(args, r).hi()),
+        ByteCount::Pages(r) => u64::from(argument(args, r).hi()) + 4095,
+        ByteCount::Records { count, bytes, most } => {
+            let records = argument(args, count).hi();
+            if records <= most {
+                u64::from(records) * u64::from(bytes)
+            } else {
+                1 << 33
+            }
+        }
+    }
+}
+
+/// The bytes of a read, over the ranges of its address, of the most bytes and of its answer.
+fn was_read_over(base: Range, most: Range, answered: Range) -> Option<Access>
+    ensures { result ≡ was_read_over base most answered }
+{
+    if answered.hi() < LEAST_ERROR {
+        interval(base, u64::from(most.hi().min(answered.hi())))
+    } else if answered.lo() >= LEAST_ERROR
+        && (BAD_ADDRESS < answered.lo() || answered.hi() < BAD_ADDRESS)
+    {
+        None
+    } else {
+        interval(base, u64::from(most.hi()))
     }
 }
 
 fn every_byte() -> CallAccess
     ensures { result ≡ every_byte }
 {
-    one(Some(Access {
-        all: true,
-        lo: 0,
-        hi: u32::MAX,
-    }))
+    CallAccess {
+        first: Some(Access {
+            all: true,
+            lo: 0,
+            hi: u32::MAX,
+        }),
+        second: None,
+        third: None,
+    }
 }
 
 /// So many bytes from a base in a range on.
 fn interval(base: Range, size: u64) -> Option<Access>
-    requires { size < 2 ^ 33 }
     ensures { result ≡ interval base size }
 {
     if size == 0 {
         return None;
     }
-    let end = u64::from(base.hi()) + size;
+    let end = u64::from(base.hi()).saturating_add(size);
     if end <= 0x1_0000_0000 {
         Some(Access {
             all: false,
@@ -119,7 +173,7 @@ fn grown(image_end: u64, answered: Range) -> Option<Access>
 fn mapped(answered: Range, length: Range) -> Option<Access>
     ensures { result ≡ mapped answered length }
 {
-    if answered.lo() >= 0xffff_f001 {
+    if answered.lo() >= LEAST_ERROR {
         None
     } else {
         interval(answered, u64::from(length.hi()) + 4095)

@@ -2,11 +2,13 @@
 #![tactic(auto)]
 
 pub mod arithmetic;
+pub mod calls;
 mod execute;
 pub mod machine;
 mod memory;
 mod registers;
 mod store;
 
+pub use calls::{ByteCount, CALLS, CallEffect, CallRow, call_of};
 pub use machine::{Halt, Machine};
 pub use store::store_width;
