@@ -1,6 +1,6 @@
 use Rattle.std.proofs.Common.{◌<◌, ◌∙◌, sym, drop, arith}
-use Rattle.rept_sound.proofs.Deciding.{too_far}
-use Rattle.rept_sound.proofs.slices.take_rows.Goals as goal
+use Rattle.rept_steps.proofs.Deciding.{too_far}
+use Rattle.rept_steps.proofs.sound.slices.take_rows.Goals as goal
 
 pub returns-then-from : goal.returns-then-from
 returns-then-from c =

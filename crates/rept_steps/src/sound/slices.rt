@@ -2,9 +2,9 @@
 
 ghost use Rattle.std.specs.Prelude.{◌≡◌, ◌<◌, suc, length, slice_get};
 ghost use Rattle.rept_steps.specs.Course.{slice_of};
-ghost use Rattle.rept_sound.specs.Tested.{takes, begins_from, in_time, keeps_to, ends_after};
+ghost use Rattle.rept_steps.specs.Tested.{takes, begins_from, in_time, keeps_to, ends_after};
 
-use rept_steps::Slice;
+use crate::slice::Slice;
 
 /// Whether they take so many rows one after the other, each once.
 pub fn take_rows(slices: &[Slice], rows: u32) -> bool
@@ -33,7 +33,8 @@ fn begins_from(slices: &[Slice], number: usize, time: u64) -> bool
     }
 }
 
-/// Whether the slice of a number begins no later than it ends, and ends no later than the next one begins.
+/// Whether the slice of a number begins no later than it ends, and ends no later than the next one
+/// begins.
 fn in_time(slices: &[Slice], number: usize) -> bool
     requires { number < length slices.now }
     ensures { result ≡ in_time (slice_get slices.now number) (slice_get slices.now (suc number)) }

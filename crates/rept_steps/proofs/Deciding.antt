@@ -5,7 +5,7 @@ use Rattle.std.proofs.lemmas.Option.{slice_get_past}
 use Rattle.rept_steps.specs.declared.slice.Slice.{Slice}
 use Rattle.rept_steps.specs.declared.threads.ThreadRows.{ThreadRows}
 use Rattle.rept_steps.specs.Course.{Course, no_thread, thread_at, rows_of, slices_of, is_call_row, slice_of, first_slice, TakeRows, BeginsFrom, KeepTime, CallsEnd, IsAlone, IsSoundCourse}
-use Rattle.rept_sound.specs.Tested.{takes, begins_from, in_time, keeps_to, ends_after, call_ends, calls_end_to, calls_end, fits, fit_to, end_to, is_one, is_told, is_alone, is_sound}
+use Rattle.rept_steps.specs.Tested.{takes, begins_from, in_time, keeps_to, ends_after, call_ends, calls_end_to, calls_end, fits, fit_to, end_to, is_one, is_told, is_alone, is_sound}
 
 -- rows
 pub taken_true : (from : ℕ) (slices : List Slice) (to : ℕ) → takes from slices to ≡ true → TakeRows from slices to

@@ -1,6 +1,6 @@
 use Rattle.std.proofs.Common.{◌≡◌, drop}
 use Rattle.rept_steps.specs.Course.{slice_of}
-use Rattle.rept_sound.proofs.slices.slice_holding.Given as goal
+use Rattle.rept_steps.proofs.sound.slices.slice_holding.Given as goal
 
 -- the slices that are left decide
 abbrev pub invariant-loop-slice : goal.invariant-loop-slice

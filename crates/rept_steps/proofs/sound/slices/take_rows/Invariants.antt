@@ -1,6 +1,6 @@
 use Rattle.std.proofs.Common.{◌≡◌, ◌<◌, ◌^◌, drop}
-use Rattle.rept_sound.specs.Tested.{takes}
-use Rattle.rept_sound.proofs.slices.take_rows.Given as goal
+use Rattle.rept_steps.specs.Tested.{takes}
+use Rattle.rept_steps.proofs.sound.slices.take_rows.Given as goal
 
 -- the slices that are left decide
 abbrev pub invariant-loop-slice : goal.invariant-loop-slice

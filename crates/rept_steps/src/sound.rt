@@ -1,12 +1,15 @@
-//! Whether a run is sound.
+//! Whether the slices of a run fit its rows and keep time, as all that is said of its order asks.
 
 ghost use Rattle.std.specs.Prelude.{◌≡◌, ◌↔◌, length, IsTrue};
 ghost use Rattle.rept_steps.specs.Course.{IsSoundCourse};
 ghost use Rattle.rept_steps.specs.Runs.{course_of};
-ghost use Rattle.rept_sound.specs.Tested.{call_ends, calls_end, fits, fit_to, end_to, is_alone, is_sound};
+ghost use Rattle.rept_steps.specs.Tested.{call_ends, calls_end, fits, fit_to, end_to, is_alone, is_sound};
 
-use crate::slices::{ends_slice, keep_time, take_rows};
-use rept_steps::{Run, ThreadRows};
+mod slices;
+
+use crate::run::Run;
+use crate::threads::ThreadRows;
+use slices::{ends_slice, keep_time, take_rows};
 
 /// Whether the row is no call, or the last one of its slice.
 fn call_ends(thread: &ThreadRows, step: u32) -> bool
@@ -86,8 +89,9 @@ fn keeps_all(run: &Run) -> bool
     fit && (alone || end)
 }
 
-/// Whether the slices of each thread take its rows, each once and in order, and keep time, and each call is the last row of its slice; of one thread alone, in one slice, all of
-/// which is told, calls may stand anywhere. It takes time for each call and each slice of its thread.
+/// Whether the slices of each thread take its rows, each once and in order, and keep time, and
+/// each call is the last row of its slice. Of one thread alone, in one slice, all of which is told,
+/// calls may stand anywhere. It takes time for each call and each slice of its thread.
 pub fn is_sound(run: &Run) -> bool
     ensures { IsTrue result ↔ IsSoundCourse (course_of run.now) }
 {
