@@ -12,9 +12,9 @@ use rept_runs::{is_several, read_run};
 use rept_slices::survey::survey_all;
 use rept_steps::{PushFault, Run, Steps};
 use rept_trace::Streams;
-use rept_woven::reading::rebuild_trace;
 use std::alloc::{AllocError, Global};
 use test_lines::Numbers;
+use test_threads::woven::reading::rebuild_trace;
 
 /// The time from which on these streams tell, and how many slices they tell and leave, of the processes 1 and 2.
 fn times(alloc: Global, bytes: &[u8], from: u32) -> Result<(u64, usize, usize), PathFault>
