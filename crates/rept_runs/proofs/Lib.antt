@@ -1,3 +1,3 @@
 pub mod Few
-pub mod Once
+pub mod Notes
 pub mod Paths

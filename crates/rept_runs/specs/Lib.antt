@@ -1,3 +1,3 @@
 pub mod Told
-pub mod Opened
+pub mod Notes
 pub mod Kind

@@ -1,3 +1,4 @@
 pub mod Course
 pub mod Linked
 pub mod Runs
+pub mod Tested

@@ -9,8 +9,7 @@ mod rows;
 
 use made::Made;
 use rept_moments::has_room;
-use rept_sound::is_sound;
-use rept_steps::Run;
+use rept_steps::{Run, is_sound};
 use rept_timeline::{RunPaths, is_small};
 use std::alloc::{AllocError, Global};
 use std::io;

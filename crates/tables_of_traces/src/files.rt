@@ -2,14 +2,14 @@
 
 use rept_dump::{CoreFault, Dump};
 use rept_elf::{Image, Want};
-use rept_maderuns::make_run;
 use rept_make::make;
-use rept_play::Sizes;
 use std::alloc::{AllocError, Global};
 use std::mem;
 use test_lines::Numbers;
 use test_lines::bytes::append_bytes;
 use test_lines::files::{core_of_threads, executable};
+use test_threads::maderuns::make_run;
+use test_threads::play::Sizes;
 
 /// An executable, a core file and a trace, or in its place a log.
 #[derive(Drop)]

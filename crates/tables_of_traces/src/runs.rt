@@ -6,14 +6,15 @@ ghost use Rattle.rept_steps.specs.Linked.{EndBefore};
 use crate::files::Files;
 use crate::rows::{ToldStep, told};
 use rept_isa::{Instr, StepRow};
+use rept_moments::one_path;
 use rept_path::PathFault;
-use rept_runs::{CrashFiles, is_several, one_path, open_run};
+use rept_runs::{is_several, read_run};
 use rept_slices::survey::survey_all;
 use rept_steps::{PushFault, Run, Steps};
 use rept_trace::Streams;
-use rept_woven::reading::rebuild_trace;
 use std::alloc::{AllocError, Global};
 use test_lines::Numbers;
+use test_threads::woven::reading::rebuild_trace;
 
 /// The time from which on these streams tell, and how many slices they tell and leave, of the processes 1 and 2.
 fn times(alloc: Global, bytes: &[u8], from: u32) -> Result<(u64, usize, usize), PathFault>
@@ -52,24 +53,23 @@ pub fn run(
     }
 }
 
-/// Whether a trace is one of several streams; and what the files of a crash tell, with how many steps the one path has; or the fault.
+/// Whether a trace is one of several streams; and what the files of a crash tell, with how many
+/// steps the one path has; or the fault of the core file's notes or of the trace.
 pub fn opened(alloc: Global, files: &Files, trace: &[u8]) -> Result<String, AllocError>
     requires { length trace.now < 2 ^ 32 }
 {
     let several = is_several(trace);
-    let files = CrashFiles {
-        exe: files.exe(),
-        core: files.core(),
-        trace,
-        from: 0,
-    };
-    match open_run(alloc, files) {
-        Err(fault) => format!(in alloc; "{several} {fault:?}"),
-        Ok(opened) => {
-            let path = one_path(&opened.run).map(|steps| steps.len());
-            let told = threads(alloc, &opened.run, None)?;
-            format!(in alloc; "{several} path {path:?}, {told}")
-        }
+    match files.dump(true) {
+        None => String::from_str(alloc, "no dump"),
+        Some(Err(fault)) => format!(in alloc; "{several} Core({fault:?})"),
+        Some(Ok(dump)) => match read_run(alloc, trace, &dump, 0) {
+            Err(fault) => format!(in alloc; "{several} Trace({fault:?})"),
+            Ok(run) => {
+                let path = one_path(&run).map(|steps| steps.len());
+                let told = threads(alloc, &run, None)?;
+                format!(in alloc; "{several} path {path:?}, {told}")
+            }
+        },
     }
 }
 

@@ -1,5 +1,5 @@
 use Rattle.rept_runs.proofs.Few.{run_small}
-use Rattle.rept_runs.proofs.Once.{notes_apart, notes_once}
+use Rattle.rept_runs.proofs.Notes.{notes_apart, notes_once}
 use Rattle.rept_runs.proofs.laws.runs_are_small.Goals as goal
 
 pub returns-clause-small : goal.returns-clause-small

@@ -1,6 +1,0 @@
-use Rattle.std.proofs.Common.{◌≡◌}
-use Rattle.rept_sound.specs.Tested.{keeps_to}
-use Rattle.rept_sound.proofs.slices.keep_time.Given as goal
-
-abbrev pub invariant-loop-number : goal.invariant-loop-number
-invariant-loop-number l = l.kept ≡ keeps_to l.slices l.number

@@ -1,7 +1,0 @@
-use Rattle.std.proofs.Common.{◌≡◌}
-use Rattle.rept_steps.specs.Runs.{course_of}
-use Rattle.rept_sound.specs.Tested.{fit_to}
-use Rattle.rept_sound.proofs.sound.all_fit.Given as goal
-
-abbrev pub invariant-loop-number : goal.invariant-loop-number
-invariant-loop-number l = l.kept ≡ fit_to (course_of l.run) l.number

@@ -1,7 +1,0 @@
-//! Runs of several threads, one turn after the other: the course that such a run has, and its execution.
-#![tactic(auto)]
-
-pub mod laws;
-mod turn;
-
-pub use turn::Turn;

@@ -1,9 +1,0 @@
-mod Telling
-mod Origins
-mod Zipped
-mod Sliced
-mod Ways
-mod Unskipped
-mod Threaded
-mod Whole
-mod Example

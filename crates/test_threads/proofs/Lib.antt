@@ -1,0 +1,4 @@
+pub mod TurnsLemmas
+pub mod PlayLemmas
+pub mod WovenLemmas
+pub mod MaderunsLemmas

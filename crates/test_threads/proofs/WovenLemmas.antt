@@ -1,0 +1,9 @@
+pub mod Telling
+pub mod Origins
+pub mod Zipped
+pub mod Sliced
+pub mod Ways
+pub mod Unskipped
+pub mod Threaded
+pub mod Whole
+pub mod Example

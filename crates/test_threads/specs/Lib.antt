@@ -1,0 +1,4 @@
+pub mod Turns
+pub mod Play
+pub mod Woven
+pub mod Maderuns
