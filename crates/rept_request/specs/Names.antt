@@ -4,6 +4,7 @@ use Rattle.std.specs.Prelude.{ℕ, ◌+◌, List, drop, take, Bool, ◌==◌, Op
 use Rattle.std.specs.List.{position}
 use Rattle.std.specs.Str.{bytes_eq}
 use Rattle.rept_number.specs.Numbers.{hexadecimal_of}
+use Rattle.rept_request.specs.Numbers.{pair_of}
 use Rattle.rept_request.specs.declared.request.ThreadName.{ThreadName}
 use Rattle.rept_request.specs.declared.request.ThreadName.TheVariants as name
 
@@ -40,6 +41,14 @@ named_after action (Some i) = thread_name (drop (i + 1) action)
 -- the thread of an action comes after `:`; one without it is for any thread
 abbrev pub action_thread : List ℕ → ThreadName
 action_thread action = named_after action (position is_colon action)
+
+-- an action without its thread
+abbrev pub before_colon : List ℕ → List ℕ
+before_colon action = up_to action (position is_colon action)
+
+-- the two numbers of the first action after `vCont;`, which stand after the letter that says which one it is
+abbrev pub acted_range : List ℕ → Option (ℕ × ℕ)
+acted_range packet = pair_of (before_colon (first_action (drop 7 packet)))
 
 -- the thread of the first action after `vCont;`
 abbrev pub acted_thread : List ℕ → ThreadName

@@ -6,9 +6,12 @@ use Rattle.std.specs.Option.{option_or}
 use Rattle.std.specs.Str.{bytes_eq}
 use Rattle.rept_number.specs.Numbers.{hexadecimal_of}
 use Rattle.rept_request.specs.Numbers.{pair_of}
-use Rattle.rept_request.specs.Names.{acted_thread, thread_after}
+use Rattle.rept_request.specs.Names.{acted_range, acted_thread, thread_after}
 use Rattle.rept_request.specs.declared.request.Request.{Request}
 use Rattle.rept_request.specs.declared.request.Request.TheVariants as request
+use Rattle.rept_request.specs.declared.request.CodeRange.{CodeRange}
+use Rattle.rept_request.specs.declared.request.WatchKind.{WatchKind}
+use Rattle.rept_request.specs.declared.request.WatchKind.TheVariants as kind
 use Rattle.rept_request.specs.declared.request.Way.{Way}
 use Rattle.rept_request.specs.declared.request.Way.TheVariants as way
 use Rattle.rept_request.specs.declared.request.ThreadName.TheVariants as name
@@ -45,12 +48,23 @@ has_prefix packet front = starts_with nat_eq packet front
 abbrev pub acted : List ℕ → Way → Request
 acted packet way = request.Move way (acted_thread packet)
 
+abbrev pub within : ℕ → ℕ → Way
+within first end = way.StepWithin (record { first = first; end = end })
+
+-- a move out of a range, which needs its two numbers
+abbrev pub out_of : List ℕ → Option (ℕ × ℕ) → Request
+out_of packet None = request.Unknown
+out_of packet (Some range) = acted packet (within range.0 range.1)
+
+abbrev pub acted_within : List ℕ → Request
+acted_within packet = out_of packet (acted_range packet)
+
 -- packets that are known by how they begin
 abbrev pub move_begun : List ℕ → Option Request
 move_begun packet =
     if has_prefix packet (codes "vCont;s") then Some (acted packet way.Step)
     else if has_prefix packet (codes "vCont;S") then Some (acted packet way.Step)
-    else if has_prefix packet (codes "vCont;r") then Some (acted packet way.Step)
+    else if has_prefix packet (codes "vCont;r") then Some (acted_within packet)
     else if has_prefix packet (codes "vCont;c") then Some (acted packet way.Continue)
     else if has_prefix packet (codes "vCont;C") then Some (acted packet way.Continue)
     else None
@@ -90,18 +104,19 @@ with_pair f None = request.Unknown
 with_pair f (Some pair) = f pair.0 pair.1
 
 -- a breakpoint or a watchpoint, by the digit after `Z` or `z`
-abbrev pub with_spot : (ℕ → Request) → (ℕ → ℕ → Request) → List ℕ → Request
-with_spot code writes rest =
-    if has_prefix rest (codes "0,") then with_pair (λ address kind. code address) (pair_of (drop 2 rest))
-    else if has_prefix rest (codes "1,") then with_pair (λ address kind. code address) (pair_of (drop 2 rest))
-    else if has_prefix rest (codes "2,") then with_pair writes (pair_of (drop 2 rest))
+abbrev pub with_spot : (ℕ → Request) → (WatchKind → ℕ → ℕ → Request) → List ℕ → Request
+with_spot code watched rest =
+    if has_prefix rest (codes "0,") then with_pair (λ address size. code address) (pair_of (drop 2 rest))
+    else if has_prefix rest (codes "1,") then with_pair (λ address size. code address) (pair_of (drop 2 rest))
+    else if has_prefix rest (codes "2,") then with_pair (watched kind.Writes) (pair_of (drop 2 rest))
+    else if has_prefix rest (codes "4,") then with_pair (watched kind.Accesses) (pair_of (drop 2 rest))
     else request.Unknown
 
--- the same of what the code found there
-abbrev pub request_at : (ℕ → Request) → (ℕ → ℕ → Request) → Option Spot → Request
-request_at code writes None = request.Unknown
-request_at code writes (Some (spot.Code address)) = code address
-request_at code writes (Some (spot.Writes address length)) = writes address length
+-- the request of a breakpoint or a watchpoint that the code found there
+abbrev pub request_at : (ℕ → Request) → (WatchKind → ℕ → ℕ → Request) → Option Spot → Request
+request_at code watched None = request.Unknown
+request_at code watched (Some (spot.Code address)) = code address
+request_at code watched (Some (spot.Bytes kind address length)) = watched kind address length
 
 -- packets with numbers in them, by their first byte
 abbrev pub numbered : ℕ → List ℕ → Request

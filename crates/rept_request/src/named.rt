@@ -1,10 +1,10 @@
 //! Packets that are known by a word.
 
 ghost use Rattle.std.specs.Prelude.{◌≡◌};
-ghost use Rattle.rept_request.specs.Requests.{acted, change_begun, move_begun, move_named, query_begun, query_named, thread_begun};
+ghost use Rattle.rept_request.specs.Requests.{acted, acted_within, change_begun, move_begun, move_named, query_begun, query_named, thread_begun};
 
-use crate::names::{acted_thread, thread_after};
-use crate::request::{Request, ThreadName, Way};
+use crate::names::{acted_range, acted_thread, thread_after};
+use crate::request::{CodeRange, Request, ThreadName, Way};
 use rept_number::is_word;
 
 /// Packets that move.
@@ -58,6 +58,16 @@ fn acted(packet: &[u8], way: Way) -> Request
     Request::Move(way, acted_thread(packet))
 }
 
+/// A move out of the range that `vCont;r` names.
+fn acted_within(packet: &[u8]) -> Request
+    ensures { result ≡ acted_within packet.now }
+{
+    match acted_range(packet) {
+        Some((first, end)) => acted(packet, Way::StepWithin(CodeRange { first, end })),
+        None => Request::Unknown,
+    }
+}
+
 /// Packets that move, by how they begin.
 pub fn move_begun(packet: &[u8]) -> Option<Request>
     ensures { result ≡ move_begun packet.now }
@@ -67,7 +77,7 @@ pub fn move_begun(packet: &[u8]) -> Option<Request>
     } else if packet.starts_with(b"vCont;S") {
         Some(acted(packet, Way::Step))
     } else if packet.starts_with(b"vCont;r") {
-        Some(acted(packet, Way::Step))
+        Some(acted_within(packet))
     } else if packet.starts_with(b"vCont;c") {
         Some(acted(packet, Way::Continue))
     } else if packet.starts_with(b"vCont;C") {

@@ -2,8 +2,9 @@
 
 ghost use Rattle.std.specs.Prelude.{◌≡◌};
 ghost use Rattle.std.specs.List.{position};
-ghost use Rattle.rept_request.specs.Names.{acted_thread, action_thread, first_action, is_colon, is_semicolon, name_of, thread_after, thread_name};
+ghost use Rattle.rept_request.specs.Names.{acted_range, acted_thread, action_thread, before_colon, first_action, is_colon, is_semicolon, name_of, thread_after, thread_name};
 
+use crate::numbers::pair_of;
 use crate::request::ThreadName;
 use rept_number::{hexadecimal, is_word};
 
@@ -42,6 +43,24 @@ pub fn acted_thread(packet: &[u8]) -> ThreadName
 {
     let start = packet.len().min(6);
     action_thread(first_action(&packet[start..]))
+}
+
+/// The two numbers of the first action of `vCont;`, after the letter that says which one it is.
+pub fn acted_range(packet: &[u8]) -> Option<(u32, u32)>
+    ensures { result ≡ acted_range packet.now }
+{
+    let start = packet.len().min(7);
+    pair_of(before_colon(first_action(&packet[start..])))
+}
+
+/// An action without its thread.
+fn before_colon(action: &[u8]) -> &[u8]
+    ensures { result.now ≡ before_colon action.now }
+{
+    match colon_in(action) {
+        Some(colon) => &action[..colon],
+        None => action,
+    }
 }
 
 /// The first of some actions.

@@ -7,7 +7,7 @@ ghost use Rattle.rept_request.specs.Requests.{is_part, lettered, named, numbered
 
 use crate::named::{change_begun, move_begun, move_named, query_begun, query_named, thread_begun};
 use crate::numbers::pair_of;
-use crate::request::Request;
+use crate::request::{Request, WatchKind};
 use rept_number::hexadecimal;
 
 /// What a packet asks for. Each packet asks for something; what isn't known is `Unknown`.
@@ -115,7 +115,7 @@ fn spot_set(rest: &[u8]) -> Request
 {
     match spot_of(rest) {
         Some(Spot::Code(address)) => Request::Break(address),
-        Some(Spot::Writes(address, length)) => Request::Watch(address, length),
+        Some(Spot::Bytes(kind, address, length)) => Request::Watch(kind, address, length),
         None => Request::Unknown,
     }
 }
@@ -126,7 +126,7 @@ fn spot_taken(rest: &[u8]) -> Request
 {
     match spot_of(rest) {
         Some(Spot::Code(address)) => Request::Unbreak(address),
-        Some(Spot::Writes(address, length)) => Request::Unwatch(address, length),
+        Some(Spot::Bytes(kind, address, length)) => Request::Unwatch(kind, address, length),
         None => Request::Unknown,
     }
 }
@@ -135,12 +135,12 @@ fn spot_taken(rest: &[u8]) -> Request
 #[derive(Clone, Copy)]
 enum Spot {
     Code(u32),
-    Writes(u32, u32),
+    Bytes(WatchKind, u32, u32),
 }
 
 /// The breakpoint or watchpoint of what comes after `Z` or `z`.
 fn spot_of(rest: &[u8]) -> Option<Spot>
-    ensures { (code : ℕ → Request) (writes : ℕ → ℕ → Request) → with_spot code writes rest.now ≡ request_at code writes result }
+    ensures { (code : ℕ → Request) (watched : WatchKind → ℕ → ℕ → Request) → with_spot code watched rest.now ≡ request_at code watched result }
 {
     if rest.starts_with(b"0,") || rest.starts_with(b"1,") {
         let (address, _kind) = pair_of(&rest[2..])?;
@@ -148,7 +148,11 @@ fn spot_of(rest: &[u8]) -> Option<Spot>
     }
     if rest.starts_with(b"2,") {
         let (address, length) = pair_of(&rest[2..])?;
-        return Some(Spot::Writes(address, length));
+        return Some(Spot::Bytes(WatchKind::Writes, address, length));
+    }
+    if rest.starts_with(b"4,") {
+        let (address, length) = pair_of(&rest[2..])?;
+        return Some(Spot::Bytes(WatchKind::Accesses, address, length));
     }
     None
 }

@@ -13,11 +13,31 @@ pub enum ThreadName {
     Unreadable,
 }
 
+/// Addresses of instructions: `first` and those after it, up to `end`, which is none of them.
+#[derive(Clone, Copy, Debug)]
+pub struct CodeRange {
+    /// the first address
+    pub first: u32,
+    /// the address after the last one
+    pub end: u32,
+}
+
+/// What is told of bytes that are watched.
+#[derive(Clone, Copy, Debug)]
+pub enum WatchKind {
+    /// `Z2`: a write, of which gdb then looks whether it changed them.
+    Writes,
+    /// `Z4`: each write. That they are read isn't told.
+    Accesses,
+}
+
 /// A move.
 #[derive(Clone, Copy, Debug)]
 pub enum Way {
     /// One step forward.
     Step,
+    /// Forward out of a range: one step, and on as long as the address is one of these.
+    StepWithin(CodeRange),
     /// Forward to the next stop.
     Continue,
     /// One step back.
@@ -43,8 +63,9 @@ pub enum Request {
     Memory(u32, u32),
     /// `x A,LEN`: the same, as they are.
     Bytes(u32, u32),
-    /// `s`, `vCont;s`, `vCont;S`, `vCont;r`: one step forward; `c`, `vCont;c`, `vCont;C`: forward to the next stop; `bs` and `bc`: the same
-    /// back. `vCont;` may name a thread in its first action, and further actions are for other threads.
+    /// `s`, `vCont;s`, `vCont;S`: one step forward; `vCont;rFIRST,END`: forward out of a range; `c`, `vCont;c`, `vCont;C`: forward to
+    /// the next stop; `bs` and `bc`: one step back, and back to the last stop. `vCont;` may name a thread in its first action, and
+    /// further actions are for other threads.
     Move(Way, ThreadName),
     /// `vCont?`: which moves are known.
     Moves,
@@ -52,10 +73,10 @@ pub enum Request {
     Break(u32),
     /// `z0 A`, `z1 A`: it is taken away.
     Unbreak(u32),
-    /// `Z2 A,LEN`: writes of so many bytes from an address on are watched.
-    Watch(u32, u32),
-    /// `z2 A,LEN`: they are no longer.
-    Unwatch(u32, u32),
+    /// `Z2 A,LEN`, `Z4 A,LEN`: writes of so many bytes from an address on are watched.
+    Watch(WatchKind, u32, u32),
+    /// `z2 A,LEN`, `z4 A,LEN`: they are no longer.
+    Unwatch(WatchKind, u32, u32),
     /// `qXfer:features:read:target.xml:OFFSET,LEN`: a part of the description of the registers.
     Description(u32, u32),
     /// `qRcmd,`: a line of a session, in pairs of digits.

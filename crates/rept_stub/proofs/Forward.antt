@@ -12,7 +12,7 @@ use Rattle.rept_session.specs.LastWriters.{AreLastWriters, IsNamed, named_row, w
 use Rattle.rept_session.specs.Shown.{IsThreadPoint, Shown}
 use Rattle.rept_session.specs.Texts.{at}
 use Rattle.rept_session.specs.declared.place.ThreadPoint.{ThreadPoint}
-use Rattle.rept_stub.specs.Halts.{NamesNoOther, came, has_changed, is_break, is_new, is_open, is_row, is_stop, is_touched, names, wanted}
+use Rattle.rept_stub.specs.Halts.{NamesNoOther, came, has_changed, is_break, is_new, is_open, is_row, is_stop, is_touched, names}
 use Rattle.rept_stub.proofs.Ranges.{find_on, range_front}
 
 same_some : {X : Type 0} {x y : X} → Some x ≡ Some y → x ≡ y
@@ -265,7 +265,7 @@ pub up_to_stop : (f g : ℕ → Bool) (point n stop : ℕ) → point < stop → 
 up_to_stop f g point n stop h e = either_some f g (point + 1) n stop (stop - 1 - point) e (omega arith)
 
 -- one byte more
-one_byte : (s : Shown) (breaks front : List ℕ) (a : ℕ) (c : ThreadPoint) → (is_stop s (wanted breaks front) c || is_touched s c a) ≡ is_stop s (wanted breaks (front ++ a ∷ [])) c
+one_byte : (s : Shown) (breaks front : List ℕ) (a : ℕ) (c : ThreadPoint) → (is_stop s breaks front c || is_touched s c a) ≡ is_stop s breaks (front ++ a ∷ []) c
 one_byte s breaks front a c =
     by_parts (is_break s breaks c) (list_any (is_touched s c) front) (is_touched s c a) ∙ ap (λ b. is_break s breaks c || b) (sym (list_any-append (is_touched s c) front (a ∷ [])))
   where
@@ -276,7 +276,7 @@ one_byte s breaks front a c =
     by_parts false false false = refl
 
 pub one_byte_more : (s : Shown) (breaks addresses : List ℕ) (thread : ℕ) (xs : List ℕ) (i d : ℕ) → i < length addresses
-    → find (λ p. is_stop s (wanted breaks (take i addresses)) (at thread p) || is_touched s (at thread p) (get_or addresses i d)) xs ≡ find (λ p. is_stop s (wanted breaks (take (i + 1) addresses)) (at thread p)) xs
+    → find (λ p. is_stop s breaks (take i addresses) (at thread p) || is_touched s (at thread p) (get_or addresses i d)) xs ≡ find (λ p. is_stop s breaks (take (i + 1) addresses) (at thread p)) xs
 one_byte_more s breaks addresses thread xs i d h =
-    find_same (λ p. is_stop s (wanted breaks (take i addresses)) (at thread p) || is_touched s (at thread p) (get_or addresses i d)) (λ p. is_stop s (wanted breaks (take i addresses ++ get_or addresses i d ∷ [])) (at thread p)) (λ p. one_byte s breaks (take i addresses) (get_or addresses i d) (at thread p)) xs
-    ∙ ap (λ (front : List ℕ). find (λ p. is_stop s (wanted breaks front) (at thread p)) xs) (sym (take_more addresses i d h))
+    find_same (λ p. is_stop s breaks (take i addresses) (at thread p) || is_touched s (at thread p) (get_or addresses i d)) (λ p. is_stop s breaks (take i addresses ++ get_or addresses i d ∷ []) (at thread p)) (λ p. one_byte s breaks (take i addresses) (get_or addresses i d) (at thread p)) xs
+    ∙ ap (λ (front : List ℕ). find (λ p. is_stop s breaks front (at thread p)) xs) (sym (take_more addresses i d h))

@@ -1,7 +1,7 @@
 -- What is answered to a packet, and where a debugger stands then: the answers to a list of packets are a fold over it (GDB manual, appendix
 -- Remote Serial Protocol, sections Packets, General Query Packets and vCont). What is asked of no thread by name is asked of the selected one, at
 -- its cursor.
-use Rattle.std.specs.Prelude.{◌≡◌, ℕ, List, [], drop, length, Option, None, Some, codes, if◌then◌else◌}
+use Rattle.std.specs.Prelude.{◌≡◌, ℕ, List, [], ◌++◌, drop, length, Option, None, Some, codes, if◌then◌else◌}
 use Rattle.rept_session.specs.Shown.{SessionTold, Shown}
 use Rattle.rept_session.specs.Session.{IsReply, said_at}
 use Rattle.rept_session.specs.declared.place.ThreadPoint.{ThreadPoint}
@@ -11,12 +11,12 @@ use Rattle.rept_request.specs.declared.request.Request.TheVariants as request
 use Rattle.rept_request.specs.declared.request.Way.{Way}
 use Rattle.rept_request.specs.declared.request.Way.TheVariants as way
 use Rattle.rept_stub.specs.Description.{description_text}
-use Rattle.rept_stub.specs.Halts.{Wanted, continued, continued_back, stepped, stepped_back, wanted}
+use Rattle.rept_stub.specs.Halts.{Wanted, continued, continued_back, stepped, stepped_back, stepped_within, wanted}
 use Rattle.rept_stub.specs.Replies.{bytes_told, decoded, error, memory_bytes, memory_digits, part_reply, register_reply, registers_reply, text_reply}
 use Rattle.rept_stub.specs.Monitoring.{asked_of, help_text, signal_text, writers_text}
-use Rattle.rept_stub.specs.Spots.{Spots, is_small, watched, with_break, with_region, without_break, without_region}
-use Rattle.rept_stub.specs.Standing.{cursor_of, here, named_thread, put, selected, selected_moving}
-use Rattle.rept_stub.specs.Threads.{about_reply, reason_reply, stop_reply, there_reply, thread_reply, threads_reply}
+use Rattle.rept_stub.specs.Spots.{Spots, is_small, region, watch_of, with_break, with_region, without_break, without_region}
+use Rattle.rept_stub.specs.Standing.{cursor_of, here, moving_thread, named_thread, put, selected, selected_moving}
+use Rattle.rept_stub.specs.Threads.{about_reply, cursor_words, reason_reply, stop_reply, there_reply, thread_reply, threads_reply}
 use Rattle.rept_session.specs.Texts.{at}
 use Rattle.rept_stub.specs.declared.halt.Halt.{Halt}
 use Rattle.rept_stub.specs.declared.monitoring.Asked.{Asked}
@@ -24,12 +24,13 @@ use Rattle.rept_stub.specs.declared.monitoring.Asked.TheVariants as asked
 use Rattle.rept_stub.specs.declared.answers.Stand.{Stand}
 
 abbrev pub wanted_by : Spots → Wanted
-wanted_by spots = wanted spots.breaks (watched spots)
+wanted_by spots = wanted spots.breaks (watch_of spots)
 
 -- where a way leads to from a point of a thread
 abbrev pub halt_by : Shown → Spots → Way → ThreadPoint → Halt
-halt_by s spots way.Step c = stepped s (watched spots) c
-halt_by s spots way.StepBack c = stepped_back s (watched spots) c
+halt_by s spots way.Step c = stepped s (watch_of spots) c
+halt_by s spots (way.StepWithin range) c = stepped_within s (wanted_by spots) range c
+halt_by s spots way.StepBack c = stepped_back s (watch_of spots) c
 halt_by s spots way.Continue c = continued s (wanted_by spots) c
 halt_by s spots way.ContinueBack c = continued_back s (wanted_by spots) c
 
@@ -37,7 +38,7 @@ halt_by s spots way.ContinueBack c = continued_back s (wanted_by spots) c
 abbrev pub halt_of : Shown → Stand → Way → ℕ → Halt
 halt_of s stand way thread = halt_by s stand.spots way (cursor_of stand thread)
 
--- a move of a thread: its cursor is where it stops, and it is the selected thread then; without a thread nothing moves
+-- a move of a thread: its cursor is where it stops, and it is the one that stopped and the selected one then; without a thread nothing moves
 abbrev pub moved : Shown → Stand → Way → Option ℕ → Stand
 moved s stand way None = stand
 moved s stand way (Some thread) = put stand (at thread (halt_of s stand way thread).point)
@@ -50,8 +51,8 @@ move_reply s stand way (Some thread) = stop_reply s thread (halt_of s stand way 
 abbrev pub spots_after : Spots → Request → Option Spots
 spots_after spots (request.Break address) = Some (with_break spots address)
 spots_after spots (request.Unbreak address) = Some (without_break spots address)
-spots_after spots (request.Watch address length) = if is_small length then Some (with_region spots address length) else None
-spots_after spots (request.Unwatch address length) = Some (without_region spots address length)
+spots_after spots (request.Watch kind address length) = if is_small length then Some (with_region spots (region kind address length)) else None
+spots_after spots (request.Unwatch kind address length) = Some (without_region spots (region kind address length))
 spots_after spots _ = None
 
 -- answers that are always the same; one to a packet that isn't known is empty
@@ -62,7 +63,7 @@ fixed_reply request.Moves = codes "vCont;c;C;s;S;r"
 fixed_reply request.MoreThreads = codes "l"
 fixed_reply request.Attached = codes "1"
 fixed_reply request.Change = error
-fixed_reply (request.Watch address length) = error
+fixed_reply (request.Watch kind address length) = error
 fixed_reply request.Detach = codes "OK"
 fixed_reply _ = []
 
@@ -78,7 +79,7 @@ threads_still s stand request = fixed_reply request
 
 -- the answer where nothing moves or changes
 abbrev pub still_reply : Shown → ℕ → Stand → Request → List ℕ
-still_reply s signal stand request.Reason = reason_reply s signal (here stand)
+still_reply s signal stand request.Reason = reason_reply s signal (cursor_of stand stand.stopped)
 still_reply s signal stand request.Registers = registers_reply s (here stand)
 still_reply s signal stand (request.Register number) = register_reply s (here stand) number
 still_reply s signal stand (request.Memory address count) = memory_digits (bytes_told s (here stand) address count)
@@ -95,7 +96,7 @@ IsLineAnswered t signal c line asked.Session said = IsReply t c (said_at t.shown
 
 abbrev pub IsMonitored : SessionTold → ℕ → ThreadPoint → Option (List ℕ) → List ℕ → Type 0
 IsMonitored t signal c None text = text ≡ error
-IsMonitored t signal c (Some line) text = (said : List ℕ) × IsLineAnswered t signal c line (asked_of line) said × (text ≡ text_reply said)
+IsMonitored t signal c (Some line) text = (said : List ℕ) × IsLineAnswered t signal c line (asked_of line) said × (text ≡ text_reply (cursor_words t.shown c ++ said))
 
 -- the answer to a packet, where a debugger stands, and with the signal that ended the process
 pub record Still : Type 0 where
@@ -113,7 +114,7 @@ IsChanged t still request (Some spots) text = text ≡ codes "OK"
 IsChanged t still request None text = IsStillAnswer t still request text
 
 abbrev pub IsAnswerTo : SessionTold → Still → Request → List ℕ → Type 0
-IsAnswerTo t still (request.Move way name) text = text ≡ move_reply t.shown still.stand way (named_thread t.shown still.stand name)
+IsAnswerTo t still (request.Move way name) text = text ≡ move_reply t.shown still.stand way (moving_thread t.shown still.stand name)
 IsAnswerTo t still request text = IsChanged t still request (spots_after still.stand.spots request) text
 
 -- whether a text answers a packet; the signal is that which ended the process
@@ -131,7 +132,7 @@ changed s stand request (Some spots) = record stand { spots = spots }
 changed s stand request None = selected_by s stand request
 
 abbrev pub stand_by : Shown → Stand → Request → Stand
-stand_by s stand (request.Move way name) = moved s stand way (named_thread s stand name)
+stand_by s stand (request.Move way name) = moved s stand way (moving_thread s stand name)
 stand_by s stand request = changed s stand request (spots_after stand.spots request)
 
 -- where it stands after a packet

@@ -64,6 +64,7 @@ memory_bytes bytes = codes "b" ++ bytes
 abbrev pub stop_part : Stop → List ℕ
 stop_part stop.Step = []
 stop_part (stop.Write address) = codes "watch:" ++ big_word address ++ codes ";"
+stop_part (stop.Access address) = codes "awatch:" ++ big_word address ++ codes ";"
 stop_part stop.Begin = codes "replaylog:begin;"
 stop_part stop.End = codes "replaylog:end;"
 

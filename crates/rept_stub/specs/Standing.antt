@@ -15,9 +15,9 @@ use Rattle.rept_stub.specs.declared.answers.Stand.{Stand}
 abbrev pub last_points : Shown → List ℕ
 last_points s = map (λ t. length (s.rows t)) (range_with_len 0 s.threads)
 
--- a debugger that begins: each cursor is at the last point of its thread, and thread 0 is selected
+-- a debugger that begins: each cursor is at the last point of its thread, and thread 0 is selected, and is the one that stopped
 abbrev pub start_of : Shown → Spots → Stand
-start_of s spots = record { cursors = last_points s; thread = 0; moving = None; spots = spots }
+start_of s spots = record { cursors = last_points s; thread = 0; stopped = 0; moving = None; spots = spots }
 
 -- the cursor of a thread
 abbrev pub cursor_of : Stand → ℕ → ThreadPoint
@@ -32,9 +32,9 @@ pub record AreCursors (s : Shown) (cursors : List ℕ) : Type 0 where
   pub each : length cursors ≡ s.threads
   pub within : (t : ℕ) → t < s.threads → get_or cursors t 0 ≤ length (s.rows t)
 
--- so it is, and the selected threads are some of the run
+-- so it is, and the selected threads and the one that stopped are some of the run
 abbrev pub IsStandLawful : Shown → Stand → Type 0
-IsStandLawful s stand = AreCursors s stand.cursors × (stand.thread < s.threads) × IfSome stand.moving (λ t. t < s.threads)
+IsStandLawful s stand = AreCursors s stand.cursors × (stand.thread < s.threads) × (stand.stopped < s.threads) × IfSome stand.moving (λ t. t < s.threads)
 
 -- a run of one thread, which has any name
 abbrev pub is_alone : Shown → Bool
@@ -44,9 +44,9 @@ is_alone s = nat_le s.threads 1
 abbrev pub thread_of : Shown → ℕ → Option ℕ
 thread_of s process = find (λ t. s.process t == process) (range_with_len 0 s.threads)
 
--- of several threads, the one that a packet names: the one that was selected for moves, or else the selected one; any one is the selected one
+-- of several threads, the one that a packet names which is no move; any one is the selected one
 abbrev pub named_of_several : Shown → Stand → ThreadName → Option ℕ
-named_of_several s stand name.Selected = Some (unwrap_or stand.moving stand.thread)
+named_of_several s stand name.Selected = Some stand.thread
 named_of_several s stand name.Any = Some stand.thread
 named_of_several s stand (name.One process) = thread_of s process
 named_of_several s stand name.Unreadable = None
@@ -54,6 +54,18 @@ named_of_several s stand name.Unreadable = None
 -- the thread that a packet names
 abbrev pub named_thread : Shown → Stand → ThreadName → Option ℕ
 named_thread s stand name = if is_alone s then Some stand.thread else named_of_several s stand name
+
+-- Of several threads, the one that a move names: the one that was selected for moves, or else the one that stopped last; any one is the one that
+-- stopped last. A thread that is selected for all else moves only by its name: gdb selects one to look at it.
+abbrev pub moving_of_several : Shown → Stand → ThreadName → Option ℕ
+moving_of_several s stand name.Selected = Some (unwrap_or stand.moving stand.stopped)
+moving_of_several s stand name.Any = Some stand.stopped
+moving_of_several s stand (name.One process) = thread_of s process
+moving_of_several s stand name.Unreadable = None
+
+-- the thread that a move names
+abbrev pub moving_thread : Shown → Stand → ThreadName → Option ℕ
+moving_thread s stand name = if is_alone s then Some stand.thread else moving_of_several s stand name
 
 -- a thread is selected, where there is one
 abbrev pub selected : Stand → Option ℕ → Stand
@@ -66,6 +78,6 @@ selected_moving stand name.Any named = record stand { moving = None }
 selected_moving stand name None = stand
 selected_moving stand name (Some thread) = record stand { moving = Some thread }
 
--- the cursor of a thread is put to one of its points, and the thread is selected
+-- the cursor of a thread is put to one of its points, and the thread is the one that stopped, and the selected one
 abbrev pub put : Stand → ThreadPoint → Stand
-put stand c = record stand { cursors = set stand.cursors c.thread c.point; thread = c.thread }
+put stand c = record stand { cursors = set stand.cursors c.thread c.point; thread = c.thread; stopped = c.thread }

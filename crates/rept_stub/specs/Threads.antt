@@ -37,6 +37,10 @@ abbrev pub there_reply : Option ℕ → List ℕ
 there_reply None = error
 there_reply (Some thread) = codes "OK"
 
+-- `thread T point P`, before an answer to a line of the debugger's user in a run of several: where that is asked
+abbrev pub cursor_words : Shown → ThreadPoint → List ℕ
+cursor_words s c = if is_alone s then [] else codes "thread " ++ decimal c.thread ++ codes " point " ++ decimal c.point ++ 10 ∷ []
+
 -- why a move stopped, and of which thread
 abbrev pub stop_reply : Shown → ℕ → Stop → List ℕ
 stop_reply s thread stop = codes "T05" ++ thread_part s thread ++ stop_part stop

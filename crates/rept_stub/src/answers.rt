@@ -1,26 +1,28 @@
 //! The answer to a packet.
 
-ghost use Rattle.std.specs.Prelude.{◌≡◌, ◌≤◌, ◌<◌, [], drop, length, None, Some, option_map, IfOk, OnOk, OnErr, MatchBool};
+ghost use Rattle.std.specs.Prelude.{◌≡◌, ◌≤◌, ◌<◌, ◌++◌, [], drop, length, None, Some, option_map, IfOk, OnOk, OnErr, MatchBool};
 ghost use Rattle.rept_request.specs.Requests.{request_of};
 ghost use Rattle.rept_session.specs.Shown.{IsThreadPoint, SameReasons, session_told};
 ghost use Rattle.rept_stub.specs.Answers.{IsChanged, IsLineAnswered, IsMonitored, IsStillAnswer, IsStubAnswer, changed, fixed_reply, halt_by, move_reply, moved, selected_by, spots_after, stand_after, still_reply, threads_still};
 ghost use Rattle.rept_stub.specs.Monitoring.{asked_of};
 ghost use Rattle.rept_stub.specs.Replies.{bytes_told, decoded, memory_bytes, memory_digits};
-ghost use Rattle.rept_stub.specs.Standing.{AreCursors, IsStandLawful, cursor_of, here, named_thread, start_of};
+ghost use Rattle.rept_stub.specs.Spots.{region};
+ghost use Rattle.rept_stub.specs.Standing.{AreCursors, IsStandLawful, cursor_of, here, moving_thread, start_of};
 
 use crate::cursors::Cursors;
 use crate::description::description;
 use crate::halt::Halt;
 use crate::monitoring::{Asked, asked_of, help_text, signal_text, writers_text};
-use crate::moves::{continued, continued_back, stepped, stepped_back};
+use crate::moves::{continued, continued_back, stepped, stepped_back, stepped_within};
 use crate::pieces::{
     decoded, known_bytes, memory_bytes, memory_digits, part, register, registers, text_reply, whole,
 };
-use crate::spots::Spots;
+use crate::spots::{Region, Spots};
 use crate::threads::{
-    about_text, named_thread, reason, stop_text, there_text, thread_text, threads_text,
+    about_text, cursor_words, moving_thread, named_thread, reason, stop_text, there_text,
+    thread_text, threads_text,
 };
-use rept_request::{Request, ThreadName, Way, parse};
+use rept_request::{Request, ThreadName, WatchKind, Way, parse};
 use rept_session::findings::moment_of;
 use rept_session::{Findings, ThreadPoint, answer_line};
 use rept_word::{OutOfMemory, Text};
@@ -33,6 +35,8 @@ pub struct Stand {
     pub cursors: Cursors,
     /// the thread that is selected, of which is asked
     pub thread: u32,
+    /// the one of which a stop was told last
+    pub stopped: u32,
     /// the one that is selected for moves, where that was selected apart
     pub moving: Option<u32>,
     /// its breakpoints and watchpoints
@@ -50,6 +54,7 @@ pub fn start<F: Findings>(alloc: Global, findings: &F) -> Result<Stand, OutOfMem
     Ok(Stand {
         cursors,
         thread: 0,
+        stopped: 0,
         moving: None,
         spots: Spots::new(alloc),
     })
@@ -167,11 +172,11 @@ fn answer_move<F: Findings>(
     name: ThreadName,
 ) -> Result<Text, OutOfMemory>
     requires { IsStandLawful (F.shown findings.now) stand.old }
-    ensures text { IfOk result (λ text. text ≡ move_reply (F.shown findings.now) stand.old way (named_thread (F.shown findings.now) stand.old name)) }
-    ensures stand { OnOk result (stand.new ≡ moved (F.shown findings.now) stand.old way (named_thread (F.shown findings.now) stand.old name)) }
+    ensures text { IfOk result (λ text. text ≡ move_reply (F.shown findings.now) stand.old way (moving_thread (F.shown findings.now) stand.old name)) }
+    ensures stand { OnOk result (stand.new ≡ moved (F.shown findings.now) stand.old way (moving_thread (F.shown findings.now) stand.old name)) }
     ensures within { IsStandLawful (F.shown findings.now) stand.new }
 {
-    match named_thread(findings, stand, name) {
+    match moving_thread(findings, stand, name) {
         Some(thread) => move_thread(alloc, findings, stand, way, thread),
         None => whole(alloc, b"E01"),
     }
@@ -196,6 +201,7 @@ fn move_thread<F: Findings>(
     let text = stop_text(alloc, findings, thread, halt.stop)?;
     stand.cursors.put(thread, halt.point);
     stand.thread = thread;
+    stand.stopped = thread;
     Ok(text)
 }
 
@@ -237,8 +243,10 @@ fn monitor<F: Findings>(
     let Some(line) = line_in(alloc, packet)? else {
         return whole(alloc, b"E01");
     };
+    let mut text = cursor_words(alloc, findings, at)?;
     let said = line_answer(alloc, findings, setting, at, line.as_slice())?;
-    text_reply(alloc, said.bytes())
+    text.push(said.bytes())?;
+    text_reply(alloc, text.bytes())
 }
 
 /// The line that such a packet carries after `qRcmd,`.
@@ -285,13 +293,13 @@ fn halt_by<F: Findings>(
     ensures value { IfOk result (λ halt. halt ≡ halt_by (F.shown findings.now) spots.now way at) }
     ensures within { IfOk result (λ halt. halt.point ≤ length ((F.shown findings.now).rows at.thread)) }
 {
-    let watched = spots.watched(alloc)?;
-    let addresses = watched.as_slice();
+    let watch = spots.watch(alloc)?;
     Ok(match way {
-        Way::Step => stepped(findings, addresses, at),
-        Way::StepBack => stepped_back(findings, addresses, at),
-        Way::Continue => continued(findings, spots.breaks(), addresses, at),
-        Way::ContinueBack => continued_back(findings, spots.breaks(), addresses, at),
+        Way::Step => stepped(findings, &watch, at),
+        Way::StepWithin(range) => stepped_within(findings, spots.breaks(), &watch, range, at),
+        Way::StepBack => stepped_back(findings, &watch, at),
+        Way::Continue => continued(findings, spots.breaks(), &watch, at),
+        Way::ContinueBack => continued_back(findings, spots.breaks(), &watch, at),
     })
 }
 
@@ -303,23 +311,39 @@ fn change(spots: &mut Spots, request: Request) -> Result<bool, OutOfMemory>
     match request {
         Request::Break(address) => spots.set_break(address)?,
         Request::Unbreak(address) => spots.drop_break(address),
-        Request::Watch(address, length) => return watch(spots, address, length),
-        Request::Unwatch(address, length) => spots.drop_region(address, length),
+        Request::Watch(kind, address, length) => return watch(
+            spots,
+            region_of(kind, address, length),
+        ),
+        Request::Unwatch(kind, address, length) => {
+            spots.drop_region(region_of(kind, address, length))
+        }
         _ => return Ok(false),
     }
     Ok(true)
 }
 
 /// Watches a region of 1 to 1024 bytes.
-fn watch(spots: &mut Spots, address: u32, length: u32) -> Result<bool, OutOfMemory>
-    ensures ok { IfOk result (λ changed. MatchBool changed (spots_after spots.old (Request.Watch address length) ≡ Some spots.new) ((spots_after spots.old (Request.Watch address length) ≡ None) × (spots.new ≡ spots.old))) }
+fn watch(spots: &mut Spots, region: Region) -> Result<bool, OutOfMemory>
+    ensures ok { IfOk result (λ changed. MatchBool changed (spots_after spots.old (Request.Watch region.kind region.address region.length) ≡ Some spots.new) ((spots_after spots.old (Request.Watch region.kind region.address region.length) ≡ None) × (spots.new ≡ spots.old))) }
     ensures err { OnErr result (spots.new ≡ spots.old) }
 {
-    if length == 0 || length > 1024 {
+    if region.length == 0 || region.length > 1024 {
         return Ok(false);
     }
-    spots.set_region(address, length)?;
+    spots.set_region(region)?;
     Ok(true)
+}
+
+/// So many bytes from an address on.
+fn region_of(kind: WatchKind, address: u32, length: u32) -> Region
+    ensures { result ≡ region kind address length }
+{
+    Region {
+        kind,
+        address,
+        length,
+    }
 }
 
 /// Answers that are always the same.
@@ -373,7 +397,10 @@ fn still<F: Findings>(
     ensures { IfOk result (λ text. text ≡ still_reply (F.shown findings.now) signal stand.now request) }
 {
     match request {
-        Request::Reason => reason(alloc, findings, signal, here(findings, stand)),
+        Request::Reason => {
+            let stopped = cursor_of(findings, stand, stand.stopped);
+            reason(alloc, findings, signal, stopped)
+        }
         Request::Registers => registers(alloc, findings, here(findings, stand)),
         Request::Register(number) => register(alloc, findings, here(findings, stand), number),
         Request::Memory(address, count) => memory(

@@ -3,10 +3,13 @@
 /// Why a move stops.
 #[derive(Clone, Copy)]
 pub enum Stop {
-    /// After the step, or at a breakpoint, or where rows of several threads may have written a watched byte and none is named.
+    /// After the step, or at a breakpoint, or where rows of several threads may have written a watched byte and none is named, or past
+    /// a row by which a watched byte may have changed and gdb couldn't see it.
     Step,
-    /// At a row that writes the byte at this address, or may, or where such a row of another thread came.
+    /// Short of a row that writes the byte at this address, or of such a row of another thread: gdb makes the step over it by itself.
     Write(u32),
+    /// Short of a row that writes the byte at this address, or may, each of which is to be told: gdb makes the step over it by itself.
+    Access(u32),
     /// Nothing is known of what came before.
     Begin,
     /// Nothing comes after.

@@ -15,6 +15,6 @@ mod threads;
 pub use answers::{Setting, Stand, answer_packet, start};
 pub use cursors::Cursors;
 pub use halt::{Halt, Stop, Written};
-pub use moves::{continued, continued_back, stepped, stepped_back};
+pub use moves::{continued, continued_back, stepped, stepped_back, stepped_within};
 pub use signal::debugger_signal;
-pub use spots::Spots;
+pub use spots::{Region, Spots, Watch};

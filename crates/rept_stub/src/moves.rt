@@ -6,10 +6,12 @@ ghost use Rattle.std.specs.Option.{option_or};
 ghost use Rattle.rept_session.specs.LastWriters.{AreLastWriters, IsNamed, named_row, writer_at};
 ghost use Rattle.rept_session.specs.Shown.{IsThreadPoint, Shown};
 ghost use Rattle.rept_session.specs.Texts.{at};
-ghost use Rattle.rept_stub.specs.Halts.{NamesNoOther, before, break_before, came, continued, continued_back, halt, has_changed, has_open, is_break, is_open, is_row, is_stop, is_touched, is_written, last_below, last_write, later, latest, names, point_before, stepped, stepped_back, stop_by, wanted, write_before, written};
+ghost use Rattle.rept_stub.specs.Halts.{NamesNoOther, are_known, back_over, backward, before, break_before, break_halt, came, continued, continued_back, first_outside, first_stop, forward, halt_at, has_changed, has_open, is_break, is_compared, is_known, is_later, is_open, is_outside, is_row, is_stepped_over, is_sure, is_touched, is_written, last_below, last_write, later, names, point_before, sooner_of, stepped, stepped_back, stepped_within, stop_at, wanted, write_before, write_stop, written};
 
 use crate::halt::{Halt, Stop, Written};
+use crate::spots::Watch;
 use rept_report::Writer;
+use rept_request::CodeRange;
 use rept_session::findings::{address_at, moment_of};
 use rept_session::{Findings, ThreadPoint};
 
@@ -109,19 +111,111 @@ fn written<F: Findings>(findings: &F, at: ThreadPoint, addresses: &[u32]) -> Opt
     None
 }
 
-fn stop_by(address: Option<u32>) -> Stop
-    ensures { result ≡ stop_by address }
+/// Whether a byte is known at a point.
+fn is_known<F: Findings>(findings: &F, at: ThreadPoint, address: u32) -> bool
+    requires { IsThreadPoint (F.shown findings.now) at }
+    ensures { result ≡ is_known (F.shown findings.now) at address }
 {
-    match address {
-        Some(address) => Stop::Write(address),
+    findings.byte(moment_of(findings, at), address).is_some()
+}
+
+/// Whether each of these bytes is known at a point.
+fn are_known<F: Findings>(findings: &F, at: ThreadPoint, addresses: &[u32]) -> bool
+    requires { IsThreadPoint (F.shown findings.now) at }
+    ensures { result ≡ are_known (F.shown findings.now) at addresses.now }
+{
+    for address in addresses {
+        if !is_known(findings, at, *address) {
+            return false;
+        }
+    }
+    true
+}
+
+/// Whether the watched bytes can be read at a point, or at the point before it.
+fn is_compared<F: Findings>(findings: &F, at: ThreadPoint, addresses: &[u32]) -> bool
+    requires some { 0 < at.point }
+    requires at { IsThreadPoint (F.shown findings.now) at }
+    ensures { result ≡ is_compared (F.shown findings.now) at addresses.now }
+{
+    are_known(findings, at, addresses) || are_known(findings, point_at(at, at.point - 1), addresses)
+}
+
+/// Whether a report names a row that surely wrote a byte.
+fn is_sure(writer: Writer) -> bool
+    ensures { result ≡ is_sure writer }
+{
+    matches!(writer, Writer::Writes(_))
+}
+
+/// What is told of the row before a point by which a byte was written, or may have been.
+fn write_stop<F: Findings>(findings: &F, watch: &Watch, at: ThreadPoint, address: u32) -> Stop
+    requires some { 0 < at.point }
+    requires at { IsThreadPoint (F.shown findings.now) at }
+    ensures { result ≡ write_stop (F.shown findings.now) watch.now at address }
+{
+    if has_address(watch.accesses(), address) {
+        Stop::Access(address)
+    } else if is_sure(writer_at(findings, at, address))
+        && is_compared(findings, at, watch.addresses())
+    {
+        Stop::Write(address)
+    } else {
+        Stop::Step
+    }
+}
+
+/// What is told of the rows since the point before.
+fn stop_at<F: Findings>(findings: &F, watch: &Watch, at: ThreadPoint) -> Stop
+    requires some { 0 < at.point }
+    requires at { IsThreadPoint (F.shown findings.now) at }
+    ensures { result ≡ stop_at (F.shown findings.now) watch.now at }
+{
+    match written(findings, at, watch.addresses()) {
+        Some(address) => write_stop(findings, watch, at, address),
         None => Stop::Step,
     }
 }
 
-/// One step forward. `addresses` are those of the bytes that are watched.
-pub fn stepped<F: Findings>(findings: &F, addresses: &[u32], at: ThreadPoint) -> Halt
+/// Whether gdb makes a step over the row by itself.
+fn is_stepped_over(stop: Stop) -> bool
+    ensures { result ≡ is_stepped_over stop }
+{
+    matches!(stop, Stop::Write(_) | Stop::Access(_))
+}
+
+/// A stop of a move forward over the row before a point.
+fn forward(at: ThreadPoint, stop: Stop) -> Halt
+    requires { 0 < at.point }
+    ensures value { result ≡ forward at stop }
+    ensures within { result.point ≤ at.point }
+{
+    let point = if is_stepped_over(stop) {
+        at.point - 1
+    } else {
+        at.point
+    };
+    Halt { point, stop }
+}
+
+/// A stop of a move back over the row before a point.
+fn backward(at: ThreadPoint, stop: Stop) -> Halt
+    requires { 0 < at.point }
+    ensures value { result ≡ backward at stop }
+    ensures within { result.point ≤ at.point }
+{
+    let point = if is_stepped_over(stop) {
+        at.point
+    } else {
+        at.point - 1
+    };
+    Halt { point, stop }
+}
+
+/// One step forward.
+pub fn stepped<F: Findings>(findings: &F, watch: &Watch, at: ThreadPoint) -> Halt
     requires { IsThreadPoint (F.shown findings.now) at }
-    ensures value { result ≡ stepped (F.shown findings.now) addresses.now at }
+    ensures value { result ≡ stepped (F.shown findings.now) watch.now at }
     ensures within { result.point ≤ length ((F.shown findings.now).rows at.thread) }
 {
     let point = at.point;
@@ -131,16 +225,14 @@ pub fn stepped<F: Findings>(findings: &F, addresses: &[u32], at: ThreadPoint) ->
             stop: Stop::End,
         };
     }
-    Halt {
-        point: point + 1,
-        stop: stop_by(written(findings, point_at(at, point + 1), addresses)),
-    }
+    let after = point_at(at, point + 1);
+    forward(after, stop_at(findings, watch, after))
 }
 
 /// One step back.
-pub fn stepped_back<F: Findings>(findings: &F, addresses: &[u32], at: ThreadPoint) -> Halt
+pub fn stepped_back<F: Findings>(findings: &F, watch: &Watch, at: ThreadPoint) -> Halt
     requires { IsThreadPoint (F.shown findings.now) at }
-    ensures value { result ≡ stepped_back (F.shown findings.now) addresses.now at }
+    ensures value { result ≡ stepped_back (F.shown findings.now) watch.now at }
     ensures within { result.point ≤ at.point }
 {
     let point = at.point;
@@ -150,10 +242,7 @@ pub fn stepped_back<F: Findings>(findings: &F, addresses: &[u32], at: ThreadPoin
             stop: Stop::Begin,
         };
     }
-    Halt {
-        point: point - 1,
-        stop: stop_by(written(findings, at, addresses)),
-    }
+    backward(at, stop_at(findings, watch, at))
 }
 
 /// Whether a breakpoint stands at a point.
@@ -370,7 +459,7 @@ fn first_stop<F: Findings>(
     here: ThreadPoint,
 ) -> Option<u32>
     requires { IsThreadPoint (F.shown findings.now) here }
-    ensures value { result ≡ find (λ point. is_stop (F.shown findings.now) (wanted breaks.now addresses.now) (at here.thread point)) (range_with_len (here.point + 1) (length ((F.shown findings.now).rows here.thread) - here.point)) }
+    ensures value { result ≡ first_stop (F.shown findings.now) breaks.now addresses.now here }
     ensures within { IfSome result (λ found. (here.point < found) × (found ≤ length ((F.shown findings.now).rows here.thread))) }
 {
     let mut first = break_after(findings, breaks, here);
@@ -381,34 +470,84 @@ fn first_stop<F: Findings>(
 }
 
 /// Forward to the first stop, or to the last point.
-pub fn continued<F: Findings>(
+pub fn continued<F: Findings>(findings: &F, breaks: &[u32], watch: &Watch, at: ThreadPoint) -> Halt
+    requires { IsThreadPoint (F.shown findings.now) at }
+    ensures value { result ≡ continued (F.shown findings.now) (wanted breaks.now watch.now) at }
+    ensures within { result.point ≤ length ((F.shown findings.now).rows at.thread) }
+{
+    let first = first_stop(findings, breaks, watch.addresses(), at);
+    halt_at(findings, watch, at, first)
+}
+
+/// Forward to the first point outside of a range, or to the first stop where that comes before; or to the last point.
+pub fn stepped_within<F: Findings>(
     findings: &F,
     breaks: &[u32],
-    addresses: &[u32],
+    watch: &Watch,
+    range: CodeRange,
     at: ThreadPoint,
 ) -> Halt
     requires { IsThreadPoint (F.shown findings.now) at }
-    ensures value { result ≡ continued (F.shown findings.now) (wanted breaks.now addresses.now) at }
+    ensures value { result ≡ stepped_within (F.shown findings.now) (wanted breaks.now watch.now) range at }
     ensures within { result.point ≤ length ((F.shown findings.now).rows at.thread) }
 {
-    match first_stop(findings, breaks, addresses, at) {
-        Some(next) => stop_at(findings, addresses, point_at(at, next)),
+    let outside = first_outside(findings, range, at);
+    let stop = first_stop(findings, breaks, watch.addresses(), at);
+    halt_at(findings, watch, at, sooner_of(outside, stop))
+}
+
+/// The first point after this one whose address is none of a range.
+fn first_outside<F: Findings>(findings: &F, range: CodeRange, here: ThreadPoint) -> Option<u32>
+    requires { IsThreadPoint (F.shown findings.now) here }
+    ensures value { result ≡ first_outside (F.shown findings.now) range here }
+    ensures within { IfSome result (λ found. (here.point < found) × (found ≤ length ((F.shown findings.now).rows here.thread))) }
+{
+    let last = last_point(findings, here.thread);
+    for next in here.point + 1..last + 1 {
+        if is_outside(findings, range, point_at(here, next)) {
+            return Some(next);
+        }
+    }
+    None
+}
+
+/// Whether the address at a point is none of a range.
+fn is_outside<F: Findings>(findings: &F, range: CodeRange, at: ThreadPoint) -> bool
+    requires { IsThreadPoint (F.shown findings.now) at }
+    ensures { result ≡ is_outside (F.shown findings.now) range at }
+{
+    let here = address_at(findings, at);
+    !(range.first <= here && here < range.end)
+}
+
+/// The lesser of two points.
+fn sooner_of(point: Option<u32>, other: Option<u32>) -> Option<u32>
+    ensures value { result ≡ sooner_of point other }
+    ensures within { (low high : ℕ) → IfSome point (λ p. (low < p) × (p ≤ high)) → IfSome other (λ p. (low < p) × (p ≤ high)) → IfSome result (λ p. (low < p) × (p ≤ high)) }
+{
+    match (point, other) {
+        (None, _) => other,
+        (Some(_), None) => point,
+        (Some(first), Some(second)) => Some(if first < second { first } else { second }),
+    }
+}
+
+/// Where a move forward ends that first stops at this point, or nowhere.
+fn halt_at<F: Findings>(findings: &F, watch: &Watch, at: ThreadPoint, first: Option<u32>) -> Halt
+    requires at { IsThreadPoint (F.shown findings.now) at }
+    requires first { IfSome first (λ found. (at.point < found) × (found ≤ length ((F.shown findings.now).rows at.thread))) }
+    ensures value { result ≡ halt_at (F.shown findings.now) watch.now at.thread first }
+    ensures within { result.point ≤ length ((F.shown findings.now).rows at.thread) }
+{
+    match first {
+        Some(next) => {
+            let after = point_at(at, next);
+            forward(after, stop_at(findings, watch, after))
+        }
         None => Halt {
             point: last_point(findings, at.thread),
             stop: Stop::End,
         },
-    }
-}
-
-/// A stop at a point.
-fn stop_at<F: Findings>(findings: &F, addresses: &[u32], at: ThreadPoint) -> Halt
-    requires some { 0 < at.point }
-    requires at { IsThreadPoint (F.shown findings.now) at }
-    ensures { result ≡ halt at.point (stop_by (written (F.shown findings.now) at addresses.now)) }
-{
-    Halt {
-        point: at.point,
-        stop: stop_by(written(findings, at, addresses)),
     }
 }
 
@@ -508,71 +647,68 @@ fn last_write<F: Findings>(findings: &F, at: ThreadPoint, addresses: &[u32]) -> 
     best
 }
 
-/// The later of a breakpoint and a write.
-fn latest(found: Option<u32>, write: Option<Written>) -> Halt
-    ensures { result ≡ latest found write }
+/// Whether a write isn't before a breakpoint.
+fn is_later(write: Written, found: Option<u32>) -> bool
+    ensures { result ≡ is_later write found }
 {
     match found {
-        Some(point) => later_halt(point, write),
-        None => match write {
-            Some(write) => at_write(write),
-            None => Halt {
-                point: 0,
-                stop: Stop::Begin,
-            },
+        Some(point) => point <= write.point,
+        None => true,
+    }
+}
+
+/// A breakpoint at a point, or the begin of the path.
+fn break_halt(found: Option<u32>) -> Halt
+    ensures value { result ≡ break_halt found }
+    ensures within { (n : ℕ) → IfSome found (λ point. point < n) → result.point ≤ n }
+{
+    match found {
+        Some(point) => Halt {
+            point,
+            stop: Stop::Step,
+        },
+        None => Halt {
+            point: 0,
+            stop: Stop::Begin,
         },
     }
 }
 
-/// The later of a breakpoint at a point and a write.
-fn later_halt(point: u32, write: Option<Written>) -> Halt
-    ensures { result ≡ latest (Some point) write }
+/// Back over the row of a write, which is before a point.
+fn back_over<F: Findings>(findings: &F, watch: &Watch, at: ThreadPoint, write: Written) -> Halt
+    requires at { IsThreadPoint (F.shown findings.now) at }
+    requires write { write.point < at.point }
+    ensures value { result ≡ back_over (F.shown findings.now) watch.now at.thread write }
+    ensures within { result.point ≤ at.point }
 {
-    match write {
-        Some(write) => {
-            if write.point < point {
-                return at_break(point);
-            }
-            at_write(write)
-        }
-        None => at_break(point),
-    }
+    let after = point_at(at, write.point + 1);
+    backward(after, write_stop(findings, watch, after, write.address))
 }
 
-fn at_write(write: Written) -> Halt
-    ensures { result ≡ halt write.point (Stop.Write write.address) }
-{
-    Halt {
-        point: write.point,
-        stop: Stop::Write(write.address),
-    }
-}
-
-fn at_break(point: u32) -> Halt
-    ensures { result ≡ halt point Stop.Step }
-{
-    Halt {
-        point,
-        stop: Stop::Step,
-    }
-}
-
-/// Back to before the last write that the report names of a watched byte, or to the last breakpoint; one step back where it names none of a byte that rows
-/// may have written.
+/// Back over the last write that the report names of a watched byte, or to the last breakpoint; one step back where it names none of a byte that rows may
+/// have written.
 pub fn continued_back<F: Findings>(
     findings: &F,
     breaks: &[u32],
-    addresses: &[u32],
+    watch: &Watch,
     at: ThreadPoint,
 ) -> Halt
     requires { IsThreadPoint (F.shown findings.now) at }
-    ensures value { result ≡ continued_back (F.shown findings.now) (wanted breaks.now addresses.now) at }
+    ensures value { result ≡ continued_back (F.shown findings.now) (wanted breaks.now watch.now) at }
     ensures within { result.point ≤ at.point }
 {
-    if has_open(findings, at, addresses) {
-        return stepped_back(findings, addresses, at);
+    if has_open(findings, at, watch.addresses()) {
+        return stepped_back(findings, watch, at);
     }
     let found = break_before(findings, breaks, at);
-    let write = last_write(findings, at, addresses);
-    latest(found, write)
+    match last_write(findings, at, watch.addresses()) {
+        Some(write) => {
+            if is_later(write, found) {
+                back_over(findings, watch, at, write)
+            } else {
+                break_halt(found)
+            }
+        }
+        None => break_halt(found),
+    }
 }

@@ -171,6 +171,7 @@ pub fn push_stop(text: &mut Text, stop: Stop) -> Result<(), OutOfMemory>
     match stop {
         Stop::Step => Ok(()),
         Stop::Write(address) => push_named(text, b"watch:", address),
+        Stop::Access(address) => push_named(text, b"awatch:", address),
         Stop::Begin => text.push(b"replaylog:begin;"),
         Stop::End => text.push(b"replaylog:end;"),
     }

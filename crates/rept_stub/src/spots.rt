@@ -2,8 +2,9 @@
 
 ghost use Rattle.std.specs.Prelude.{◌≡◌, ◌++◌, [], map, IfOk, OnOk, OnErr};
 ghost use Rattle.std.specs.List.{position, range_with_len};
-ghost use Rattle.rept_stub.specs.Spots.{address_in, addresses_of, has_break, has_region, is_address, is_same, removed, watched, with_break, with_region, without_break, without_region};
+ghost use Rattle.rept_stub.specs.Spots.{accessed, accesses_of, address_in, addresses_of, has_break, has_region, is_address, is_kind, is_same, removed, watch_of, watched, with_break, with_region, without_break, without_region};
 
+use rept_request::WatchKind;
 use rept_word::OutOfMemory;
 use std::alloc::Global;
 use std::marker::Model;
@@ -11,10 +12,43 @@ use std::marker::Model;
 /// Bytes from an address on.
 #[derive(Clone, Copy)]
 pub struct Region {
+    /// what is told of them
+    pub kind: WatchKind,
     /// the address of the first byte
     pub address: u32,
     /// how many bytes
     pub length: u32,
+}
+
+/// The addresses of the bytes whose writes are watched.
+#[derive(Drop)]
+pub struct Watch {
+    addresses: Vec<u32>,
+    accesses: Vec<u32>,
+}
+
+impl Model for Watch {
+    ghost use Rattle.rept_stub.specs.Spots.{Watch};
+
+    ghost Value = { Watch };
+
+    ghost view = { λ w. record { addresses = w.addresses.items; accesses = w.accesses.items } };
+}
+
+impl Watch {
+    /// Those of all bytes, in the order in which they were set.
+    pub fn addresses(&self) -> &[u32]
+        ensures { result.now ≡ self.now.addresses }
+    {
+        self.addresses.as_slice()
+    }
+
+    /// Those of the bytes of which each write is to be told.
+    pub fn accesses(&self) -> &[u32]
+        ensures { result.now ≡ self.now.accesses }
+    {
+        self.accesses.as_slice()
+    }
 }
 
 /// The addresses of breakpoints, and the regions whose writes are watched.
@@ -51,10 +85,10 @@ impl Spots {
     }
 
     /// Whether this region is watched.
-    fn has_region(&self, address: u32, length: u32) -> bool
-        ensures { result ≡ has_region self.now address length }
+    fn has_region(&self, wanted: Region) -> bool
+        ensures { result ≡ has_region self.now wanted }
     {
-        self.regions.iter().any(|region| region.address == address && region.length == length)
+        self.regions.iter().any(|region| is_same(wanted, *region))
     }
 
     /// Sets a breakpoint. The only refusal is out of memory, and changes nothing.
@@ -77,22 +111,22 @@ impl Spots {
     }
 
     /// Watches a region. The only refusal is out of memory, and changes nothing.
-    pub fn set_region(&mut self, address: u32, length: u32) -> Result<(), OutOfMemory>
-        ensures ok { OnOk result (self.new ≡ with_region self.old address length) }
+    pub fn set_region(&mut self, region: Region) -> Result<(), OutOfMemory>
+        ensures ok { OnOk result (self.new ≡ with_region self.old region) }
         ensures err { OnErr result (self.new ≡ self.old) }
     {
-        if self.has_region(address, length) {
+        if self.has_region(region) {
             return Ok(());
         }
-        self.regions.push(Region { address, length })?;
+        self.regions.push(region)?;
         Ok(())
     }
 
     /// Watches a region no longer.
-    pub fn drop_region(&mut self, address: u32, length: u32)
-        ensures { self.new ≡ without_region self.old address length }
+    pub fn drop_region(&mut self, region: Region)
+        ensures { self.new ≡ without_region self.old region }
     {
-        drop_same(&mut self.regions, address, length);
+        drop_same(&mut self.regions, region);
     }
 
     /// The addresses of the breakpoints.
@@ -102,8 +136,31 @@ impl Spots {
         self.breaks.as_slice()
     }
 
+    /// The addresses of the bytes that are watched.
+    pub fn watch(&self, alloc: Global) -> Result<Watch, OutOfMemory>
+        ensures { IfOk result (λ watch. watch ≡ watch_of self.now) }
+    {
+        let addresses = self.watched(alloc)?;
+        let accesses = self.accessed(alloc)?;
+        Ok(Watch {
+            addresses,
+            accesses,
+        })
+    }
+
+    /// The addresses of the bytes of which each write is to be told.
+    fn accessed(&self, alloc: Global) -> Result<Vec<u32>, OutOfMemory>
+        ensures { IfOk result (λ addresses. addresses.items ≡ accessed self.now) }
+    {
+        let mut addresses = Vec::new(alloc);
+        for region in &self.regions {
+            push_accesses(&mut addresses, *region)?;
+        }
+        Ok(addresses)
+    }
+
     /// The addresses of all bytes that are watched, in the order in which they were set.
-    pub fn watched(&self, alloc: Global) -> Result<Vec<u32>, OutOfMemory>
+    fn watched(&self, alloc: Global) -> Result<Vec<u32>, OutOfMemory>
         ensures { IfOk result (λ addresses. addresses.items ≡ watched self.now) }
     {
         let mut addresses = Vec::new(alloc);
@@ -124,10 +181,10 @@ fn drop_address(addresses: &mut Vec<u32>, address: u32)
 }
 
 /// Takes the first such region out of a list.
-fn drop_same(regions: &mut Vec<Region>, address: u32, length: u32)
-    ensures { regions.new.items ≡ removed regions.old.items (position (is_same address length) regions.old.items) }
+fn drop_same(regions: &mut Vec<Region>, region: Region)
+    ensures { regions.new.items ≡ removed regions.old.items (position (is_same region) regions.old.items) }
 {
-    if let Some(i) = place_of_region(regions.as_slice(), address, length) {
+    if let Some(i) = place_of_region(regions.as_slice(), region) {
         regions.remove(i);
     }
 }
@@ -140,10 +197,39 @@ fn place_of(addresses: &[u32], address: u32) -> Option<usize>
 }
 
 /// Where a region stands first.
-fn place_of_region(regions: &[Region], address: u32, length: u32) -> Option<usize>
-    ensures { result ≡ position (is_same address length) regions.now }
+fn place_of_region(regions: &[Region], wanted: Region) -> Option<usize>
+    ensures { result ≡ position (is_same wanted) regions.now }
 {
-    regions.iter().position(|region| region.address == address && region.length == length)
+    regions.iter().position(|region| is_same(wanted, *region))
+}
+
+/// Whether a region is the one that is wanted.
+fn is_same(wanted: Region, region: Region) -> bool
+    ensures { result ≡ is_same wanted region }
+{
+    region.address == wanted.address
+        && region.length == wanted.length
+        && is_kind(wanted.kind, region.kind)
+}
+
+/// Whether a kind is the one that is wanted.
+fn is_kind(wanted: WatchKind, kind: WatchKind) -> bool
+    ensures { result ≡ is_kind wanted kind }
+{
+    match wanted {
+        WatchKind::Writes => matches!(kind, WatchKind::Writes),
+        WatchKind::Accesses => matches!(kind, WatchKind::Accesses),
+    }
+}
+
+/// Appends the addresses of a region of which each write is to be told.
+fn push_accesses(addresses: &mut Vec<u32>, region: Region) -> Result<(), OutOfMemory>
+    ensures { OnOk result (addresses.new.items ≡ addresses.old.items ++ accesses_of region) }
+{
+    match region.kind {
+        WatchKind::Writes => Ok(()),
+        WatchKind::Accesses => push_addresses(addresses, region),
+    }
 }
 
 /// Appends the addresses of a region.

@@ -4,8 +4,8 @@ ghost use Rattle.std.specs.Prelude.{◌≡◌, ◌-◌, ◌<◌, ◌∷◌, ◌+
 ghost use Rattle.std.specs.List.{flat_map, range_with_len};
 ghost use Rattle.std.specs.Option.{unwrap_or};
 ghost use Rattle.rept_session.specs.Shown.{IsThreadPoint};
-ghost use Rattle.rept_stub.specs.Standing.{IsStandLawful, is_alone, named_thread, thread_of};
-ghost use Rattle.rept_stub.specs.Threads.{about, about_reply, number_text, reason_reply, stop_reply, there_reply, thread_part, thread_reply, threads_reply};
+ghost use Rattle.rept_stub.specs.Standing.{IsStandLawful, is_alone, moving_thread, named_thread, thread_of};
+ghost use Rattle.rept_stub.specs.Threads.{about, about_reply, cursor_words, number_text, reason_reply, stop_reply, there_reply, thread_part, thread_reply, threads_reply};
 
 use crate::answers::Stand;
 use crate::halt::Stop;
@@ -22,7 +22,7 @@ fn is_alone<F: Findings>(findings: &F) -> bool
     findings.threads() <= 1
 }
 
-/// The thread that a packet names. None where no thread has the name.
+/// The thread that a packet names which is no move. None where no thread has the name.
 pub fn named_thread<F: Findings>(findings: &F, stand: &Stand, name: ThreadName) -> Option<u32>
     requires { IsStandLawful (F.shown findings.now) stand.now }
     ensures value { result ≡ named_thread (F.shown findings.now) stand.now name }
@@ -32,18 +32,34 @@ pub fn named_thread<F: Findings>(findings: &F, stand: &Stand, name: ThreadName) 
         return Some(stand.thread);
     }
     match name {
-        ThreadName::Selected => Some(mover(stand)),
-        ThreadName::Any => Some(stand.thread),
+        ThreadName::Selected | ThreadName::Any => Some(stand.thread),
         ThreadName::One(process) => thread_of(findings, process),
         ThreadName::Unreadable => None,
     }
 }
 
-/// The thread that was selected for moves, or else the selected one.
-fn mover(stand: &Stand) -> u32
-    ensures { result ≡ unwrap_or stand.now.moving stand.now.thread }
+/// The thread that a move names. None where no thread has the name.
+pub fn moving_thread<F: Findings>(findings: &F, stand: &Stand, name: ThreadName) -> Option<u32>
+    requires { IsStandLawful (F.shown findings.now) stand.now }
+    ensures value { result ≡ moving_thread (F.shown findings.now) stand.now name }
+    ensures within { IfSome result (λ thread. thread < (F.shown findings.now).threads) }
 {
-    stand.moving.unwrap_or(stand.thread)
+    if is_alone(findings) {
+        return Some(stand.thread);
+    }
+    match name {
+        ThreadName::Selected => Some(mover(stand)),
+        ThreadName::Any => Some(stand.stopped),
+        ThreadName::One(process) => thread_of(findings, process),
+        ThreadName::Unreadable => None,
+    }
+}
+
+/// The thread that was selected for moves, or else the one that stopped last.
+fn mover(stand: &Stand) -> u32
+    ensures { result ≡ unwrap_or stand.now.moving stand.now.stopped }
+{
+    stand.moving.unwrap_or(stand.stopped)
 }
 
 /// The first thread of a process.
@@ -80,6 +96,26 @@ fn push_part<F: Findings>(text: &mut Text, findings: &F, thread: u32) -> Result<
         return Ok(());
     }
     push_named(text, b"thread:", findings.process(thread))
+}
+
+/// Where a line of the debugger's user is asked, in a run of several threads.
+pub fn cursor_words<F: Findings>(
+    alloc: Global,
+    findings: &F,
+    at: ThreadPoint,
+) -> Result<Text, OutOfMemory>
+    ensures { IfOk result (λ text. text ≡ cursor_words (F.shown findings.now) at) }
+{
+    let mut text = Text::new(alloc);
+    if is_alone(findings) {
+        return Ok(text);
+    }
+    text.push(b"thread ")?;
+    text.push_decimal(at.thread)?;
+    text.push(b" point ")?;
+    text.push_decimal(at.point)?;
+    text.push(b"\n")?;
+    Ok(text)
 }
 
 /// Why a move stopped.

@@ -12,4 +12,4 @@ returns-clause-within g c =
     let s = g.F.Findings.shown c.args.findings.now in
     let cursors = c.args.stand.now.cursors in
     let within : c.in_ok-halt.halt.point ≤ length (s.rows c.args.thread) = subst (λ t. c.in_ok-halt.halt.point ≤ length (s.rows t)) (ap (λ (p : ThreadPoint). p.thread) c.cursor_of-at.ensures.value) c.in_ok-halt.ensures.within in
-    (subst (λ (xs : List ℕ). AreCursors s xs) (sym c.put.ensures) (puts s cursors c.requires.standing.0 c.args.thread c.in_ok-halt.halt.point c.requires.thread within), c.requires.thread, c.requires.standing.2)
+    (subst (λ (xs : List ℕ). AreCursors s xs) (sym c.put.ensures) (puts s cursors c.requires.standing.0 c.args.thread c.in_ok-halt.halt.point c.requires.thread within), c.requires.thread, c.requires.thread, c.requires.standing.3)

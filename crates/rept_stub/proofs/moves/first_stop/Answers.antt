@@ -1,7 +1,7 @@
 use Rattle.std.proofs.Common.{◌∙◌, ◌+◌, ◌-◌, length, take}
 use Rattle.std.specs.List.{range_with_len}
 use Rattle.rept_session.specs.Texts.{at}
-use Rattle.rept_stub.specs.Halts.{is_stop, wanted}
+use Rattle.rept_stub.specs.Halts.{is_stop}
 use Rattle.rept_stub.proofs.Forward.{one_byte_more}
 use Rattle.rept_stub.proofs.moves.first_stop.Goals as goal
 
@@ -13,7 +13,7 @@ loop-address-preserved g c =
     let addresses = c.args.addresses.now in
     let i = c.loop-address.address-index in
     record {
-      first = c.earlier-first.ensures.value (λ p. is_stop s (wanted breaks (take i addresses)) (at t p)) c.loop-address.invariant.first
+      first = c.earlier-first.ensures.value (λ p. is_stop s breaks (take i addresses) (at t p)) c.loop-address.invariant.first
           ∙ one_byte_more s breaks addresses t (range_with_len (c.args.here.point + 1) (length (s.rows t) - c.args.here.point)) i 0 c.loop-address-test.true;
       within = c.earlier-first.ensures.within;
     }
