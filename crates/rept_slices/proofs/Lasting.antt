@@ -1,5 +1,5 @@
 -- How long slices last.
-use Rattle.std.proofs.Common.{◌≡◌, max, ℕ, zero, suc, ◌+◌, ◌-◌, ◌<◌, ◌≤◌, List, [], ◌∷◌, length, take, drop, Bool, true, false, not, ◌||◌, cond, Option, Some, None, refl, sym, ◌∙◌, ap, subst, arith, length-drop}
+use Rattle.std.proofs.Common.{◌≡◌, max, ℕ, zero, suc, ◌+◌, ◌-◌, ◌≤◌, List, [], ◌∷◌, length, take, drop, Bool, true, false, not, ◌||◌, cond, Option, Some, None, refl, sym, ◌∙◌, ap, subst, arith, length-drop}
 use Rattle.std.specs.List.{list_any, prefix_len, cons_option}
 use Rattle.std.proofs.lemmas.List.{at_drop_all, drop-drop, take_all}
 use Rattle.rept_trace.specs.declared.packet.Packet.{Packet}

@@ -3,9 +3,8 @@ use Rattle.std.proofs.Common.{◌≡◌, inl, inr, map, ℕ, suc, ◌+◌, ◌<�
 use Rattle.std.specs.List.{filter}
 use Rattle.std.proofs.lemmas.Bool.Decides.{leb_tells, eqb_tells}
 use Rattle.rept_slices.specs.Parts.{ToldSlice, thread_of, begin_of}
-use Rattle.rept_slices.specs.Order.{by_time, head_of, least, slices_of}
-use Rattle.rept_slices.specs.Skipping.{begin_past}
-use Rattle.rept_slices.specs.Ends.{past_by, past_of}
+use Rattle.rept_slices.specs.Order.{by_time, head_of, least}
+use Rattle.rept_slices.specs.Ends.{past_of}
 use Rattle.rept_slices.proofs.InTime.{Each, Ascend, FromTime, each_by_time, each_of_time}
 use Rattle.rept_slices.proofs.Sorting.{none_like}
 
