@@ -1,4 +1,4 @@
-use Rattle.std.proofs.Common.{◌∷◌, ◌+◌, ◌-◌, ◌<◌, ◌≡◌, ℕ, List, arith, drop, length, subst, sym}
+use Rattle.std.proofs.Common.{◌∷◌, ◌+◌, ◌-◌, ◌<◌, ◌≡◌, ℕ, Option, List, arith, ap, drop, length, subst, sym}
 use Rattle.rept_slices.specs.Entries.{AreEntriesOf}
 use Rattle.rept_slices.specs.declared.telling.Entry.{Entry}
 use Rattle.rept_slices.proofs.Lasting.{EndsFrom, all_ended, holds_at, none_ended, one_ended, rest_whole}
