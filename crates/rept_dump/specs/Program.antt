@@ -1,5 +1,5 @@
 -- The files of a program, and what they hold. This project's own.
-use Rattle.std.specs.Prelude.{ℕ, List}
+use Rattle.std.specs.Prelude.{ℕ, List, true}
 use Rattle.rept_mapped.specs.Mapped.{Mapping, mapped_word, mapped_half, mapped_byte, mapped_symbol}
 use Rattle.rept_dump.specs.Memory.{Contents, of_executable}
 
@@ -10,7 +10,7 @@ pub data Program : Type 0 where
 
 -- what mapped files hold; how far their images reach isn't known
 abbrev pub of_mappings : List Mapping → Contents
-of_mappings ms = record { word = mapped_word ms; half = mapped_half ms; kept = mapped_byte ms; symbol = mapped_symbol ms; end = 0 }
+of_mappings ms = record { word = mapped_word ms; half = mapped_half ms; kept = mapped_byte ms; symbol = mapped_symbol ms; end = 0; mapped = true }
 
 -- what the files of a program hold
 abbrev pub contents : Program → Contents

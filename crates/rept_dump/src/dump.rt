@@ -4,7 +4,7 @@ ghost use Rattle.std.specs.Prelude.{◌≡◌, ◌≤◌, ◌<◌, ℕ, List, Re
 ghost use Rattle.std.specs.Option.{option_map};
 ghost use Rattle.rept_elf.specs.Symbols.{symbol_of};
 ghost use Rattle.rept_elf.specs.Image.{file_of, segments_of};
-ghost use Rattle.rept_dump.specs.Memory.{crash_byte};
+ghost use Rattle.rept_dump.specs.Memory.{crash_byte, kept_byte};
 ghost use Rattle.rept_dump.specs.Registers.{SaysRegisters, status_size};
 ghost use Rattle.rept_dump.specs.Stretch.{AnswersAlike, sought_saved};
 ghost use Rattle.rept_dump.specs.Threads.{AreThreadNotes};
@@ -13,7 +13,7 @@ use crate::executable::{Executable, byte_in};
 use crate::fault::CoreFault;
 use crate::files::Files;
 use crate::notes::find_registers;
-use crate::search::Allowed;
+use crate::search::{Allowed, may_be_written};
 use crate::status::{Status, read_status};
 use crate::stretch::{NOWHERE, Stretch, stretch_near};
 use crate::threads::{find_threads, search_core};
@@ -162,14 +162,25 @@ impl<'a> Dump<'a> {
 
     /// The byte that memory had at this address when the core file was written: from the first `PT_LOAD` segment of the
     /// core file whose bytes in the file have it, else from the first of the executable without `PF_W` whose bytes in the
-    /// file have it. None exactly where there is neither.
+    /// file have it. Mapped files are asked only where no `PT_LOAD` segment of the core file with `PF_W` has the address in
+    /// memory. None exactly where there is neither.
     pub fn byte(&self, a: u32) -> Option<u8>
         ensures { result ≡ crash_byte (contents (exe_of self.now)) (core_of self.now) a }
     {
         match self.saved_near(a).segment {
             Some(segment) => byte_in(&segment, Allowed::All, a),
-            None => self.files.kept(a),
+            None => self.kept(a),
         }
+    }
+
+    /// The byte that the program could not write at this address, of its files.
+    fn kept(&self, a: u32) -> Option<u8>
+        ensures { result ≡ kept_byte (contents (exe_of self.now)) (core_of self.now) a }
+    {
+        if self.files.are_mapped() && may_be_written(&self.core, a) {
+            return None;
+        }
+        self.files.kept(a)
     }
 
     /// The word of code at this address: the four bytes in the first `PT_LOAD` segment of the executable with `PF_X` whose

@@ -22,6 +22,16 @@ impl<'a> Files<'a> {
     ghost use Rattle.rept_dump.specs.Files.{program_of};
     ghost use Rattle.rept_dump.specs.Program.{contents};
 
+    /// Whether these are the files that the process had mapped.
+    pub fn are_mapped(&self) -> bool
+        ensures { result ≡ (contents (program_of self.now)).mapped }
+    {
+        match self {
+            Files::Executable(_) => false,
+            Files::Mapped(_) => true,
+        }
+    }
+
     /// The word of code at an address.
     pub fn word(&self, a: u32) -> Option<u32>
         ensures { result ≡ (contents (program_of self.now)).word a }

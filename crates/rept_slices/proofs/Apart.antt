@@ -1,6 +1,6 @@
 -- Slices of different numbers, and the slices of one thread among them.
-use Rattle.std.proofs.Common.{◌≡◌, ◌≢◌, inl, inr, ℕ, ◌<◌, ◌≤◌, ◌==◌, nat_le, List, [], ◌∷◌, ◌++◌, map, Bool, true, false, cond, Some, None, refl, sym, ◌∙◌, ap, subst, arith, append_assoc}
-use Rattle.std.specs.Prelude.{option_map, nat_lt}
+use Rattle.std.proofs.Common.{◌≡◌, ◌≢◌, inl, inr, ℕ, ◌≤◌, ◌==◌, nat_le, List, [], ◌∷◌, ◌++◌, map, Bool, true, false, cond, Some, None, refl, sym, ◌∙◌, ap, subst, arith, append_assoc}
+use Rattle.std.specs.Prelude.{nat_lt}
 use Rattle.std.specs.List.{filter, cons_option}
 use Rattle.std.proofs.lemmas.Bool.Decides.{leb_tells, eqb_tells}
 use Rattle.std.proofs.lemmas.List.Elements.{filter-append}
@@ -9,13 +9,14 @@ use Rattle.rept_trace.specs.Packets.{rest_of}
 use Rattle.rept_trace.proofs.Going.{one_list}
 use Rattle.rept_slices.specs.Stamps.{clock_of, context_of}
 use Rattle.rept_slices.specs.Parts.{ToldSlice, thread_of, begin_of, end_before}
-use Rattle.rept_slices.specs.Order.{put, by_time, head_of, slices_of, after_number, next_slice, end_of}
-use Rattle.rept_slices.specs.Skipping.{greatest, ends_of}
-use Rattle.rept_slices.specs.Ends.{next_begin, ends_in}
+use Rattle.rept_slices.specs.Order.{put, by_time, least, slices_of}
+use Rattle.rept_slices.specs.Skipping.{greatest, begin_past, end_skipped, ends_of}
+use Rattle.rept_slices.specs.Ends.{past_of, ends_in}
 use Rattle.rept_slices.specs.Entries.{IsEntryOf, AreEntriesOf}
 use Rattle.rept_slices.specs.declared.telling.Entry.{Entry}
-use Rattle.rept_slices.proofs.InTime.{Each, Ascend, each_put, each_by_time, each_filter}
-use Rattle.rept_slices.proofs.Sorting.{like, none_like}
+use Rattle.rept_slices.proofs.InTime.{Each, Ascend, ascends, each_put, each_by_time, each_of_time, each_filter}
+use Rattle.rept_slices.proofs.Past.{ascend_rest, past_there, past_sorted, past_own}
+use Rattle.rept_slices.proofs.Sorting.{like}
 
 -- entries stand for slices in one way
 pub same_told : (e : Entry) (t u : ToldSlice) → IsEntryOf e t → IsEntryOf e u → t ≡ u
@@ -130,35 +131,6 @@ pub each_middle : {A : Type 0} (P : A → Type 0) (xs : List A) (y : A) (ys : Li
 each_middle P [] y ys h = h.0
 each_middle P (x ∷ xs) y ys h = each_middle P xs y ys h.1
 
--- the one after a slice
-after_here : (xs : List ToldSlice) (u : ToldSlice) (ys : List ToldSlice) → Apart (xs ++ u ∷ ys) → after_number u.number (xs ++ u ∷ ys) ≡ head_of ys
-after_here [] u ys a = elim (eqb_tells u.number u.number) [
-  | inl t ↦ rw t.0 refl
-  | inr t ↦ absurd (t.1 refl)
-]
-after_here (x ∷ xs) u ys a = elim (eqb_tells x.number u.number) [
-  | inl t ↦ absurd (each_middle (λ (t : ToldSlice). t.number ≢ x.number) xs u ys a.0 (sym t.1))
-  | inr t ↦ rw t.0 (after_here xs u ys a.1)
-]
-
--- of slices that stand thread by thread, the next one of the same thread
-next_same : (u : ToldSlice) (later : List ToldSlice) → Ascend thread_of (u ∷ later) → next_begin u (head_of later) ≡ option_map begin_of (head_of (filter (like thread_of u) later))
-next_same u [] a = refl
-next_same u (v ∷ vs) a = elim (eqb_tells (thread_of v) (thread_of u)) [
-  | inl t ↦ rw t.0 refl
-  | inr t ↦
-      let le = a.0 in
-      let ne = t.1 in
-      let lt : thread_of u < thread_of v = lesser le ne in
-      let none : filter (like thread_of u) (v ∷ vs) ≡ [] = none_like thread_of u v vs lt a.1 in
-      ap (λ (b : Bool). cond b (Some (begin_of v)) None) t.0 ∙ sym (ap (λ (xs : List ToldSlice). option_map begin_of (head_of xs)) none)
-] where
-  lesser : thread_of u ≤ thread_of v → thread_of v ≢ thread_of u → thread_of u < thread_of v
-  lesser le ne = elim (leb_tells (thread_of v) (thread_of u)) [
-    | inl t ↦ absurd (ne (let ge = t.1 in omega (arith, le, ge)))
-    | inr t ↦ t.1
-  ]
-
 -- those of a thread, with one of them in its place
 filter_middle : (front : List ToldSlice) (u : ToldSlice) (later : List ToldSlice) → filter (like thread_of u) (front ++ u ∷ later) ≡ filter (like thread_of u) front ++ u ∷ filter (like thread_of u) later
 filter_middle front u later = filter-append (like thread_of u) front (u ∷ later) ∙ ap (λ (xs : List ToldSlice). filter (like thread_of u) front ++ xs) here where
@@ -171,17 +143,6 @@ filter_middle front u later = filter-append (like thread_of u) front (u ∷ late
 pub ascend_tail : (front us : List ToldSlice) → Ascend thread_of (front ++ us) → Ascend thread_of us
 ascend_tail [] us a = a
 ascend_tail (x ∷ front) us a = ascend_tail front us a.1
-
-each_unput : {A : Type 0} (time : A → ℕ) (P : A → Type 0) (x : A) (ys : List A) → Each P (put time x ys) → P x × Each P ys
-each_unput time P x [] h = (h.0, tt)
-each_unput time P x (y ∷ ys) h = go (nat_le (time x) (time y)) (each_unput time P x ys) h where
-  go : (b : Bool) → (Each P (put time x ys) → P x × Each P ys) → Each P (cond b (x ∷ y ∷ ys) (y ∷ put time x ys)) → P x × Each P (y ∷ ys)
-  go true more k = k
-  go false more k = let r = more k.1 in (r.0, (k.0, r.1))
-
-each_of_time : {A : Type 0} (time : A → ℕ) (P : A → Type 0) (xs : List A) → Each P (by_time time xs) → Each P xs
-each_of_time time P [] h = tt
-each_of_time time P (x ∷ xs) h = let r = each_unput time P x (by_time time xs) h in (r.0, each_of_time time P xs r.1)
 
 -- the greatest of numbers
 greatest_within : (m : ℕ) (xs : List ℕ) → Each (λ n. n ≤ m) xs → greatest xs ≤ m
@@ -228,29 +189,34 @@ module _ (f : ToldSlice → ℕ) (q : ToldSlice → Bool) where
         ((λ h. m.0), each_weaker (most us) (greatest (f u ∷ map f (filter q us))) m.1 us more)
 
 -- Slices that stand in order, thread by thread.
-module _ (ts us : List ToldSlice) (apart : Apart ts) (up : Ascend thread_of us) (same : (n : ℕ) → filter (λ (t : ToldSlice). thread_of t == n) us ≡ slices_of n ts) where
+module _ (ts us : List ToldSlice) (up : Ascend thread_of us) (same : (n : ℕ) → filter (λ (t : ToldSlice). thread_of t == n) us ≡ slices_of n ts) where
   of_one : (front : List ToldSlice) (u : ToldSlice) (later : List ToldSlice) → us ≡ front ++ u ∷ later → slices_of (thread_of u) ts ≡ filter (like thread_of u) front ++ u ∷ filter (like thread_of u) later
   of_one front u later e = sym (same (thread_of u)) ∙ ap (filter (like thread_of u)) e ∙ filter_middle front u later
 
-  next_is : (front : List ToldSlice) (u : ToldSlice) (later : List ToldSlice) → us ≡ front ++ u ∷ later → next_begin u (head_of later) ≡ option_map begin_of (next_slice ts u)
-  next_is front u later e =
+  past_is : (front : List ToldSlice) (u : ToldSlice) (later : List ToldSlice) → us ≡ front ++ u ∷ later → past_of (u ∷ later) ≡ begin_past ts u
+  past_is front u later e =
       let there = of_one front u later e in
-      let own : Apart (filter (like thread_of u) front ++ u ∷ filter (like thread_of u) later) = subst Apart there (apart_slices (thread_of u) ts apart) in
-      let after : next_slice ts u ≡ head_of (filter (like thread_of u) later) = ap (after_number u.number) there ∙ after_here (filter (like thread_of u) front) u (filter (like thread_of u) later) own in
-      next_same u later (ascend_tail front (u ∷ later) (subst (Ascend thread_of) e up)) ∙ sym (ap (option_map begin_of) after)
+      let own = filter (like thread_of u) later in
+      let before = filter (like thread_of u) front in
+      let rises : Ascend begin_of (before ++ u ∷ own) = subst (Ascend begin_of) there (ascends begin_of (filter (λ (t : ToldSlice). thread_of t == thread_of u) ts)) in
+      let after : Ascend begin_of (u ∷ own) = ascend_rest before (u ∷ own) rises in
+      past_own (thread_of u) u later refl (ascend_tail front (u ∷ later) (subst (Ascend thread_of) e up)) after.1
+      ∙ past_there before u own rises
+      ∙ ap (λ (xs : List ToldSlice). least (filter (λ n. nat_lt (begin_of u) n) (map begin_of xs))) (sym there)
+      ∙ past_sorted (begin_of u) (filter (λ (t : ToldSlice). thread_of t == thread_of u) ts)
 
   abbrev shift : (front : List ToldSlice) (u : ToldSlice) (later : List ToldSlice) → us ≡ front ++ u ∷ later → us ≡ (front ++ u ∷ []) ++ later
   shift front u later e = e ∙ sym (append_assoc front (u ∷ []) later)
 
-  ends_are : (time : ℕ) (front later : List ToldSlice) → us ≡ front ++ later → ends_in time later ≡ map (end_of ts) (filter (λ (t : ToldSlice). nat_lt (begin_of t) time) later)
+  ends_are : (time : ℕ) (front later : List ToldSlice) → us ≡ front ++ later → ends_in time later ≡ map (end_skipped ts) (filter (λ (t : ToldSlice). nat_lt (begin_of t) time) later)
   ends_are time front [] e = refl
   ends_are time front (u ∷ later) e =
-      let n = next_is front u later e in
+      let n = past_is front u later e in
       let rest = ends_are time (front ++ u ∷ []) later (shift front u later e) in
       go (nat_lt (begin_of u) time) (ap (end_before u) n) rest
     where
-      go : (b : Bool) → end_before u (next_begin u (head_of later)) ≡ end_of ts u → ends_in time later ≡ map (end_of ts) (filter (λ (t : ToldSlice). nat_lt (begin_of t) time) later)
-          → cons_option (cond b (Some (end_before u (next_begin u (head_of later)))) None) (ends_in time later) ≡ map (end_of ts) (cond b (u ∷ filter (λ (t : ToldSlice). nat_lt (begin_of t) time) later) (filter (λ (t : ToldSlice). nat_lt (begin_of t) time) later))
+      go : (b : Bool) → end_before u (past_of (u ∷ later)) ≡ end_skipped ts u → ends_in time later ≡ map (end_skipped ts) (filter (λ (t : ToldSlice). nat_lt (begin_of t) time) later)
+          → cons_option (cond b (Some (end_before u (past_of (u ∷ later)))) None) (ends_in time later) ≡ map (end_skipped ts) (cond b (u ∷ filter (λ (t : ToldSlice). nat_lt (begin_of t) time) later) (filter (λ (t : ToldSlice). nat_lt (begin_of t) time) later))
       go true h r = λ i. h i ∷ r i
       go false h r = r
 
@@ -275,7 +241,7 @@ module _ (ts us : List ToldSlice) (apart : Apart ts) (up : Ascend thread_of us) 
   pub last_ends : (time : ℕ) → greatest (time ∷ ends_in time us) ≡ greatest (time ∷ ends_of time ts)
   last_ends time =
       let begun : ToldSlice → Bool = λ t. nat_lt (begin_of t) time in
-      let f = end_of ts in
+      let f = end_skipped ts in
       let a : most f begun us ≤ most f begun ts = most_within f begun (most f begun ts) us (each_there (Below f begun (most f begun ts)) (below_most f begun ts) [] us refl) in
       let b : most f begun ts ≤ most f begun us = most_within f begun (most f begun us) ts (each_back (Below f begun (most f begun us)) (below_most f begun us) [] ts refl) in
       let e : most f begun us ≡ most f begun ts = omega (arith, a, b) in

@@ -5,8 +5,7 @@ use Rattle.std.proofs.lemmas.Bool.Decides.{leb_tells}
 use Rattle.rept_trace.specs.declared.packet.Packet.{Packet}
 use Rattle.rept_slices.specs.Stamps.{clock_of}
 use Rattle.rept_slices.specs.Parts.{ToldSlice, begin_of}
-use Rattle.rept_slices.specs.Order.{end_of}
-use Rattle.rept_slices.specs.Skipping.{greatest, ends_of}
+use Rattle.rept_slices.specs.Skipping.{greatest, end_skipped, ends_of}
 use Rattle.rept_slices.specs.Entries.{AreEntriesOf}
 use Rattle.rept_slices.specs.declared.telling.Entry.{Entry}
 
@@ -22,11 +21,11 @@ none_kept time (e ∷ es) (t ∷ ts) h none =
     let late : nat_lt (begin_of t) time ≡ false = ap (λ (p : Packet). nat_lt (clock_of p) time) (sym (h.0).start) ∙ n.0 in
     ap (λ (b : Bool). cond b (t ∷ filter (λ t. nat_lt (begin_of t) time) ts) (filter (λ t. nat_lt (begin_of t) time) ts)) late ∙ none_kept time es ts h.1 n.1
 
-greatest_one : (n : ℕ) → greatest (n ∷ []) ≡ n
+pub greatest_one : (n : ℕ) → greatest (n ∷ []) ≡ n
 greatest_one n = elim (leb_tells n 0) [
   | inl t ↦ let le = t.1 in let none : 0 ≡ n = omega (arith, le) in ap (λ (b : Bool). cond b 0 n) t.0 ∙ none
   | inr t ↦ ap (λ (b : Bool). cond b 0 n) t.0
 ]
 
 pub time_alone : (time : ℕ) (es : List Entry) (ts : List ToldSlice) → AreEntriesOf es ts → list_any (λ (e : Entry). nat_lt (clock_of e.start) time) es ≡ false → time ≡ greatest (time ∷ ends_of time ts)
-time_alone time es ts h none = sym (ap (λ (us : List ToldSlice). greatest (time ∷ map (end_of ts) us)) (none_kept time es ts h none) ∙ greatest_one time)
+time_alone time es ts h none = sym (ap (λ (us : List ToldSlice). greatest (time ∷ map (end_skipped ts) us)) (none_kept time es ts h none) ∙ greatest_one time)

@@ -56,3 +56,14 @@ module _ {A : Type 0} (P : A → Type 0) where
     go : (b : Bool) → Each P (filter test xs) → Each P (cond b (x ∷ filter test xs) (filter test xs))
     go true rest = (h.0, rest)
     go false rest = rest
+
+each_unput : {A : Type 0} (time : A → ℕ) (P : A → Type 0) (x : A) (ys : List A) → Each P (put time x ys) → P x × Each P ys
+each_unput time P x [] h = (h.0, tt)
+each_unput time P x (y ∷ ys) h = go (nat_le (time x) (time y)) (each_unput time P x ys) h where
+  go : (b : Bool) → (Each P (put time x ys) → P x × Each P ys) → Each P (cond b (x ∷ y ∷ ys) (y ∷ put time x ys)) → P x × Each P (y ∷ ys)
+  go true more k = k
+  go false more k = let r = more k.1 in (r.0, (k.0, r.1))
+
+pub each_of_time : {A : Type 0} (time : A → ℕ) (P : A → Type 0) (xs : List A) → Each P (by_time time xs) → Each P xs
+each_of_time time P [] h = tt
+each_of_time time P (x ∷ xs) h = let r = each_unput time P x (by_time time xs) h in (r.0, each_of_time time P xs r.1)

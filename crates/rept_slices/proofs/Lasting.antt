@@ -1,16 +1,19 @@
 -- How long slices last.
-use Rattle.std.proofs.Common.{◌≡◌, max, ℕ, suc, ◌+◌, ◌-◌, ◌<◌, ◌≤◌, List, [], ◌∷◌, length, take, drop, Bool, true, false, not, ◌||◌, cond, Option, Some, None, refl, sym, ◌∙◌, ap, subst, arith, length-drop}
+use Rattle.std.proofs.Common.{◌≡◌, max, ℕ, zero, suc, ◌+◌, ◌-◌, ◌≤◌, List, [], ◌∷◌, length, take, drop, Bool, true, false, not, ◌||◌, cond, Option, Some, None, refl, sym, ◌∙◌, ap, subst, arith, length-drop}
 use Rattle.std.specs.List.{list_any, prefix_len, cons_option}
 use Rattle.std.proofs.lemmas.List.{at_drop_all, drop-drop, take_all}
 use Rattle.rept_trace.specs.declared.packet.Packet.{Packet}
+use Rattle.rept_trace.specs.Packets.{rest_of}
+use Rattle.rept_trace.specs.Stream.{Hold}
 use Rattle.rept_slices.specs.Stamps.{stamp_of, is_past, closes}
 use Rattle.rept_slices.specs.Parts.{ToldSlice}
-use Rattle.rept_slices.specs.Order.{starts_past, head_of}
+use Rattle.rept_slices.specs.Order.{starts_past}
 use Rattle.rept_slices.specs.Skipping.{greatest}
 use Rattle.rept_slices.specs.Lefts.{later_of, later_by}
-use Rattle.rept_slices.specs.Ends.{early, ends_in}
-use Rattle.rept_slices.specs.Entries.{AreEntriesOf}
+use Rattle.rept_slices.specs.Ends.{early, past_of, ends_in}
+use Rattle.rept_slices.specs.Entries.{IsEntryOf, AreEntriesOf}
 use Rattle.rept_slices.specs.declared.telling.Entry.{Entry}
+use Rattle.rept_slices.proofs.Early.{greatest_one}
 use Rattle.rept_slices.proofs.KeepLemmas.{later_is}
 use Rattle.rept_slices.proofs.StrangerLemmas.{split_told}
 
@@ -47,52 +50,56 @@ lasts_past_it time p later h e = lasts_on time p later h ∙ ap (λ (b : Bool). 
 pub lasts_after : (time : ℕ) (p : Packet) (later : List Packet) → closes p ≡ false → is_past time (stamp_of p) ≡ false → lasts time (p ∷ later) ≡ lasts time later
 lasts_after time p later h e = lasts_on time p later h ∙ ap (λ (b : Bool). b || lasts time later) e
 
--- The greatest end so far, and the slices that are left.
-pub record Ends (time : ℕ) (ts : List ToldSlice) (es : List Entry) (now : ℕ) : Type 0 where
-  pub later : List ToldSlice
-  pub are : AreEntriesOf es later
-  pub same : greatest (time ∷ ends_in time ts) ≡ later_of now (greatest (ends_in time later))
+-- The greatest end of the slices from one on, and the begin past the first one's.
+abbrev pub EndsFrom : ℕ → List Entry → Option ℕ → ℕ → Type 0
+EndsFrom time es past last = (ts : List ToldSlice) → AreEntriesOf es ts → (past ≡ past_of ts) × (last ≡ greatest (time ∷ ends_in time ts))
 
-pub none_ended : (time : ℕ) (ts : List ToldSlice) (es : List Entry) → AreEntriesOf es ts → Ends time ts es time
-none_ended time ts es a = record { later = ts; are = a; same = refl }
+pub none_ended : (time : ℕ) (es : List Entry) (i : ℕ) → length es ≤ i → EndsFrom time (drop i es) None time
+none_ended time es i past = subst (λ (xs : List Entry). EndsFrom time xs None time) (sym (at_drop_all (λ (xs : List Entry). xs) es i past)) (λ ts a. (sym (ap past_of a), sym (ap (λ (us : List ToldSlice). greatest (time ∷ ends_in time us)) a ∙ greatest_one time)))
 
-more_later : (a : ℕ) (o : Option ℕ) (ns : List ℕ) → later_of a (greatest (cons_option o ns)) ≡ later_of (later_by a o) (greatest ns)
-more_later a None ns = refl
-more_later a (Some n) ns =
+more_later : (time last : ℕ) (o : Option ℕ) (ns : List ℕ) → last ≡ greatest (time ∷ ns) → later_by last o ≡ greatest (time ∷ cons_option o ns)
+more_later time last None ns is = is
+more_later time last (Some n) ns is =
     let g = greatest ns in
-    let y : later_of a (later_of n g) ≡ max a (max n g) = later_is a (later_of n g) ∙ ap (λ (m : ℕ). max a m) (later_is n g) in
-    let z : later_of (later_of a n) g ≡ max (max a n) g = later_is (later_of a n) g ∙ ap (λ (m : ℕ). max m g) (later_is a n) in
-    let w : max a (max n g) ≡ max (max a n) g = omega arith in
+    let x : last ≡ max time g = is ∙ later_is time g in
+    let y : later_of last n ≡ max last n = later_is last n in
+    let z : later_of time (later_of n g) ≡ max time (max n g) = later_is time (later_of n g) ∙ ap (λ (m : ℕ). max time m) (later_is n g) in
+    let w : max last n ≡ max time (max n g) = omega (arith, x) in
     y ∙ w ∙ sym z
 
 pub drop_next : {A : Type 0} (i : ℕ) (xs : List A) (x : A) (rest : List A) → drop i xs ≡ x ∷ rest → drop (i + 1) xs ≡ rest
 drop_next i xs x rest h = sym (drop-drop 1 i xs) ∙ ap (drop 1) h
 
--- what is left of them begins with a slice
-pub ends_at : (time : ℕ) (ts : List ToldSlice) (es : List Entry) (now : ℕ) → Ends time ts es now → (later : List ToldSlice) × AreEntriesOf es later
-ends_at time ts es now g = (g.later, g.are)
-
-pub one_ended : (time : ℕ) (ts : List ToldSlice) (es : List Entry) (i : ℕ) (now : ℕ) (o : Option ℕ) → i < length es → ((t : ToldSlice) (later : List ToldSlice) → AreEntriesOf (drop i es) (t ∷ later) → o ≡ early time t (head_of later)) → Ends time ts (drop i es) now → Ends time ts (drop (i + 1) es) (later_by now o)
-one_ended time ts es i now o within is g = go (drop i es) refl where
-  go : (rest : List Entry) → drop i es ≡ rest → Ends time ts (drop (i + 1) es) (later_by now o)
-  go [] e = absurd (let n = ap (length {A = Entry}) e in let d = length-drop i es in omega (arith, n, d, within))
-  go (e ∷ rest) h =
-      let after : drop (i + 1) es ≡ rest = drop_next i es e rest h in
-      let s = split_told e rest g.later (subst (λ (xs : List Entry). AreEntriesOf xs g.later) h g.are) in
-      let told : AreEntriesOf (drop i es) (s.0 ∷ s.1) = subst (λ (xs : List Entry). AreEntriesOf xs (s.0 ∷ s.1)) (sym h) (s.3, s.4) in
-      subst (λ (xs : List Entry). Ends time ts xs (later_by now o)) (sym after) (record {
-        later = s.1;
-        are = s.4;
-        same = g.same ∙ ap (λ (us : List ToldSlice). later_of now (greatest (ends_in time us))) s.2 ∙ ap (λ (x : Option ℕ). later_of now (greatest (cons_option x (ends_in time s.1)))) (sym (is s.0 s.1 told)) ∙ more_later now o (ends_in time s.1);
-      })
+pub one_ended : (time : ℕ) (es : List Entry) (i : ℕ) (e : Entry) (past p o : Option ℕ) (last : ℕ) → drop i es ≡ e ∷ drop (i + 1) es
+    → ((t : ToldSlice) (ts : List ToldSlice) → AreEntriesOf (drop i es) (t ∷ ts) → past ≡ past_of ts → p ≡ past_of (t ∷ ts))
+    → ((t : ToldSlice) → IsEntryOf e t → o ≡ early time t p)
+    → EndsFrom time (drop (i + 1) es) past last → EndsFrom time (drop i es) p (later_by last o)
+one_ended time es i e past p o last first begins ends g = λ ts a.
+    let s = split_told e (drop (i + 1) es) ts (subst (λ (xs : List Entry). AreEntriesOf xs ts) first a) in
+    let told : AreEntriesOf (drop i es) (s.0 ∷ s.1) = subst (λ (us : List ToldSlice). AreEntriesOf (drop i es) us) s.2 a in
+    let rest = g s.1 s.4 in
+    let here = begins s.0 s.1 told rest.0 in
+    let end : o ≡ early time s.0 (past_of (s.0 ∷ s.1)) = ends s.0 s.3 ∙ ap (early time s.0) here in
+    subst (λ (us : List ToldSlice). (p ≡ past_of us) × (later_by last o ≡ greatest (time ∷ ends_in time us))) (sym s.2)
+    (here, more_later time last o (ends_in time s.1) rest.1 ∙ ap (λ (x : Option ℕ). greatest (time ∷ cons_option x (ends_in time s.1))) end)
 
 -- the slices from one on, as a range of them to their end
 pub rest_whole : (es : List Entry) (i : ℕ) → take (length es - i) (drop i es) ≡ drop i es
 rest_whole es i = take_all (length es - i) (drop i es) (let d = length-drop i es in omega (arith, d))
 
-pub all_ended : (time : ℕ) (ts : List ToldSlice) (es : List Entry) (i now : ℕ) → length es ≤ i → Ends time ts (drop i es) now → now ≡ greatest (time ∷ ends_in time ts)
-all_ended time ts es i now past g =
-    let none : g.later ≡ [] = subst (λ (xs : List Entry). AreEntriesOf xs g.later) (at_drop_all (λ (xs : List Entry). xs) es i past) g.are in
-    let e : greatest (time ∷ ends_in time ts) ≡ later_of now 0 = g.same ∙ ap (λ (us : List ToldSlice). later_of now (greatest (ends_in time us))) none in
-    let m = later_is now 0 in
-    omega (arith, e, m)
+entries_drop : (i : ℕ) (es : List Entry) (ts : List ToldSlice) → AreEntriesOf es ts → (later : List ToldSlice) × AreEntriesOf (drop i es) later
+entries_drop zero es ts a = (ts, a)
+entries_drop (suc i) [] ts a = (ts, a)
+entries_drop (suc i) (e ∷ es) [] a = absurd a
+entries_drop (suc i) (e ∷ es) (t ∷ ts) a = entries_drop i es ts a.1
+
+-- one of them holds its packets
+pub holds_at : (es : List Entry) (ts : List ToldSlice) (i : ℕ) (e : Entry) → AreEntriesOf es ts → drop i es ≡ e ∷ drop (i + 1) es → (list : List Packet) × Hold (rest_of e.later) list
+holds_at es ts i e a first =
+    let r = entries_drop i es ts a in
+    let s = split_told e (drop (i + 1) es) r.0 (subst (λ (xs : List Entry). AreEntriesOf xs r.0) first r.1) in
+    ((s.0).later, (s.3).later)
+
+pub all_ended : (time : ℕ) (es : List Entry) (i : ℕ) (past : Option ℕ) (last : ℕ) → i ≤ 0 → EndsFrom time (drop i es) past last → (ts : List ToldSlice) → AreEntriesOf es ts → last ≡ greatest (time ∷ ends_in time ts)
+all_ended time es zero past last le g = λ ts a. (g ts a).1
+all_ended time es (suc i) past last le g = absurd (omega (arith, le))

@@ -22,5 +22,6 @@ pub mod Following
 pub mod Until
 pub mod Packs
 pub mod Lasting
+pub mod Past
 mod Leaving
 mod Early

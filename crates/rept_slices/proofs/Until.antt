@@ -14,9 +14,7 @@ use Rattle.rept_slices.specs.Entries.{AreEntriesOf}
 use Rattle.rept_slices.specs.declared.telling.Entry.{Entry}
 use Rattle.rept_slices.proofs.InTime.{Each, Ascend, FromTime}
 use Rattle.rept_slices.proofs.Sorting.{ascends_by}
-use Rattle.rept_slices.proofs.Whether.{starts_told}
 use Rattle.rept_slices.proofs.Apart.{HasTold, each_told, told_by_each, same_all_told, told_filter, told_slices, last_ends}
-use Rattle.rept_slices.proofs.Following.{apart, windows_follow}
 
 module _ {A : Type 0} (P : A → Type 0) where
   pub all_each : (xs : List A) → Each P xs → All P xs
@@ -59,8 +57,7 @@ until from lists es fs time last a p up times is =
     let ts = slices_told (windows from lists) in
     let b = told_permuted es fs ts p a in
     let rises = told_ascend fs b.0 b.1 (ascends_by (λ (e : Entry). context_of e.start) fs up) in
-    let lone = apart ts (starts_told (windows from lists)) (windows_follow from lists) in
-    is b.0 b.1 ∙ last_ends ts b.0 lone rises (same_threads es fs ts b.0 a b.1 times) time
+    is b.0 b.1 ∙ last_ends ts b.0 rises (same_threads es fs ts b.0 a b.1 times) time
 
 pub told_dark : (several : Bool) (last greatest : ℕ) → several ≡ true → last ≡ greatest → Some last ≡ cond several (Some greatest) None
 told_dark true last greatest h is = ap Some is

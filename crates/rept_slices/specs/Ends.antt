@@ -5,19 +5,25 @@ use Rattle.rept_slices.specs.Parts.{ToldSlice, thread_of, begin_of, end_before}
 use Rattle.std.specs.Option.{option_or}
 use Rattle.rept_slices.specs.Order.{head_of, meets, slices_of, overlap}
 
--- the begin of the next slice in order, if it is of the same thread
-abbrev pub next_begin : ToldSlice → Option ToldSlice → Option ℕ
-next_begin t None = None
-next_begin t (Some u) = if thread_of u == thread_of t then Some (begin_of u) else None
+-- the begin of the next slice in order, if it is of the same thread and begins later; that past it, if it is of the same thread and
+-- begins at the same time
+abbrev pub past_by : ToldSlice → Option ToldSlice → Option ℕ → Option ℕ
+past_by t None past = None
+past_by t (Some u) past = if thread_of u == thread_of t then (if nat_lt (begin_of t) (begin_of u) then Some (begin_of u) else past) else None
 
--- the end of a slice that begins before a time, by the next one in order
-abbrev pub early : ℕ → ToldSlice → Option ToldSlice → Option ℕ
-early time t next = if nat_lt (begin_of t) time then Some (end_before t (next_begin t next)) else None
+-- the least begin of a slice of the thread of the first one that is greater than its own, of slices that stand in order
+abbrev pub past_of : List ToldSlice → Option ℕ
+past_of [] = None
+past_of (t ∷ ts) = past_by t (head_of ts) (past_of ts)
+
+-- the end of a slice that begins before a time, by the next begin of its thread that is greater
+abbrev pub early : ℕ → ToldSlice → Option ℕ → Option ℕ
+early time t next = if nat_lt (begin_of t) time then Some (end_before t next) else None
 
 -- the ends of those slices that begin before a time, of slices that stand in order
 abbrev pub ends_in : ℕ → List ToldSlice → List ℕ
 ends_in time [] = []
-ends_in time (t ∷ ts) = cons_option (early time t (head_of ts)) (ends_in time ts)
+ends_in time (t ∷ ts) = cons_option (early time t (past_of (t ∷ ts))) (ends_in time ts)
 
 -- the begin of the next slice of the thread, if this one meets it
 abbrev pub met_next : ToldSlice → Option ToldSlice → Option ℕ

@@ -1,12 +1,12 @@
 -- Which packets of several streams are skipped, and until when the streams don't tell what happened. Lists of packets are oldest
 -- first. This project's own.
-use Rattle.std.specs.Prelude.{map, ℕ, suc, ◌+◌, ◌-◌, nat_le, nat_lt, List, [], ◌∷◌, length, drop, Option, Some, None, unwrap_or, not, ◌&&◌, if◌then◌else◌}
+use Rattle.std.specs.Prelude.{map, ℕ, suc, ◌+◌, ◌-◌, nat_le, nat_lt, ◌==◌, List, [], ◌∷◌, length, drop, Option, Some, None, unwrap_or, not, ◌&&◌, if◌then◌else◌}
 use Rattle.std.specs.List.{prefix_len, list_any, filter, filter_map, sum_by}
 use Rattle.rept_trace.specs.declared.packet.Packet.{Packet}
 use Rattle.rept_path.specs.Trace.{loses}
 use Rattle.rept_slices.specs.Stamps.{clock_of, is_start}
-use Rattle.rept_slices.specs.Parts.{LeftPackets, ToldSlice, begin_of, slices_told}
-use Rattle.rept_slices.specs.Order.{end_of}
+use Rattle.rept_slices.specs.Parts.{LeftPackets, ToldSlice, thread_of, begin_of, end_before, slices_told}
+use Rattle.rept_slices.specs.Order.{least}
 
 -- the streams, from that of this number on, the first packet of which has this number
 abbrev pub numbered : ℕ → ℕ → List (List Packet) → List LeftPackets
@@ -61,9 +61,18 @@ kept from streams = map (from_time (full_from (windows from streams))) (windows 
 abbrev pub skipped : ℕ → List (List Packet) → ℕ
 skipped from streams = sum_by (λ packets. length packets) streams - sum_by (λ left. length left.packets) (kept from streams)
 
+-- the least begin of a slice of its thread that is greater than its own
+abbrev pub begin_past : List ToldSlice → ToldSlice → Option ℕ
+begin_past ts t = least (filter (λ n. nat_lt (begin_of t) n) (map begin_of (filter (λ u. thread_of u == thread_of t) ts)))
+
+-- The time at which a slice that is skipped has ended. Of two slices of one thread that begin at one time in two streams either may be
+-- the later one, so neither ends as the other begins: both last to the next greater begin.
+abbrev pub end_skipped : List ToldSlice → ToldSlice → ℕ
+end_skipped ts t = end_before t (begin_past ts t)
+
 -- the ends of slices that begin before a time
 abbrev pub ends_of : ℕ → List ToldSlice → List ℕ
-ends_of time ts = map (end_of ts) (filter (λ t. nat_lt (begin_of t) time) ts)
+ends_of time ts = map (end_skipped ts) (filter (λ t. nat_lt (begin_of t) time) ts)
 
 -- The time until which anything may have happened: that from which on all streams tell, or the greatest end of a slice that is skipped for
 -- it. One stream alone has none.

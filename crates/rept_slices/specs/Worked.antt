@@ -72,6 +72,10 @@ one_hart = (start 5 1 ∷ ended ∷ []) ∷ [] ∷ []
 abbrev pub whole_stream_skipped : List (List Packet)
 whole_stream_skipped = (start 1 1 ∷ ended ∷ []) ∷ (start 5 2 ∷ []) ∷ []
 
+-- of two slices of a thread that begin at one time in two streams neither ends as the other begins
+abbrev pub tied_while_skipped : List (List Packet)
+tied_while_skipped = (start 3 1 ∷ ended ∷ context 9 ∷ []) ∷ (start 3 1 ∷ ended ∷ context 3 ∷ []) ∷ (start 5 2 ∷ []) ∷ []
+
 -- a start packet of the very time is left
 abbrev pub start_at_the_time : List (List Packet)
 start_at_the_time = (start 5 1 ∷ []) ∷ (start 3 2 ∷ start 5 2 ∷ []) ∷ []

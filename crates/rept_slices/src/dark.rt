@@ -10,7 +10,7 @@ ghost use Rattle.rept_slices.specs.Stamps.{clock_of, context_of};
 ghost use Rattle.rept_slices.specs.Parts.{LeftPackets, ToldSlice, slices_told, begin_of, thread_of, end_before, lesser};
 ghost use Rattle.rept_slices.specs.Entries.{IsEntryOf, AreEntriesOf};
 ghost use Rattle.rept_slices.specs.Lefts.{IsLeft, AreLeft};
-ghost use Rattle.rept_slices.specs.Ends.{next_begin, early, ends_in};
+ghost use Rattle.rept_slices.specs.Ends.{past_of, early, ends_in};
 ghost use Rattle.rept_slices.specs.Order.{head_of};
 ghost use Rattle.rept_slices.specs.Windows.{skipped_of};
 ghost use Rattle.rept_slices.specs.Skipping.{windows as all_windows, opening, greatest, ends_of};
@@ -34,7 +34,7 @@ fn lesser(time: u64, other: Option<u64>) -> u64
     }
 }
 
-/// The time at which a slice has ended, where the next one of its thread begins at this time, if there is a next one.
+/// The time at which a slice has ended, where a later one of its thread begins at this time, if there is one.
 pub fn end_before(slice: &Entry<'_>, next: Option<u64>) -> u64
     requires { (list : List Packet) × Hold (rest_of slice.now.later) list }
     ensures { (t : ToldSlice) → IsEntryOf slice.now t → result ≡ end_before t next }
@@ -43,26 +43,29 @@ pub fn end_before(slice: &Entry<'_>, next: Option<u64>) -> u64
     lesser(own, next)
 }
 
-/// The begin of the next slice of a thread, which is the first one of these, of slices that stand in order; if it has one.
-fn begin_next(slices: &[Entry<'_>], process: u32) -> Option<u64>
-    ensures { (ts : List ToldSlice) (t : ToldSlice) → AreEntriesOf slices.now ts → process ≡ thread_of t → result ≡ next_begin t (head_of ts) }
+/// The least begin of a slice of the thread of the first one of these that is greater than its own, of slices that stand in order. `past` is that
+/// of the second one.
+fn past_begin(slices: &[Entry<'_>], past: Option<u64>) -> Option<u64>
+    ensures { (t : ToldSlice) (ts : List ToldSlice) → AreEntriesOf slices.now (t ∷ ts) → past ≡ past_of ts → result ≡ past_of (t ∷ ts) }
 {
-    let next = slices.first()?;
-    if process_of(next) == process {
+    let (slice, later) = slices.split_first()?;
+    let next = later.first()?;
+    if process_of(next) != process_of(slice) {
+        None
+    } else if begin_of(slice) < begin_of(next) {
         Some(begin_of(next))
     } else {
-        None
+        past
     }
 }
 
-/// The end of the first one of slices that stand in order, if it begins before a time.
-fn end_early(slices: &[Entry<'_>], time: u64) -> Option<u64>
-    requires { (ts : List ToldSlice) × AreEntriesOf slices.now ts }
-    ensures { (t : ToldSlice) (later : List ToldSlice) → AreEntriesOf slices.now (t ∷ later) → result ≡ early time t (head_of later) }
+/// The end of a slice, if it begins before a time, where its thread's next greater begin is this one.
+fn end_early(slice: &Entry<'_>, time: u64, past: Option<u64>) -> Option<u64>
+    requires { (list : List Packet) × Hold (rest_of slice.now.later) list }
+    ensures { (t : ToldSlice) → IsEntryOf slice.now t → result ≡ early time t past }
 {
-    let (slice, later) = slices.split_first()?;
     if begin_of(slice) < time {
-        Some(end_before(slice, begin_next(later, process_of(slice))))
+        Some(end_before(slice, past))
     } else {
         None
     }
@@ -81,8 +84,10 @@ fn last_end(slices: &[Entry<'_>], time: u64) -> u64
     ensures { (ts : List ToldSlice) → AreEntriesOf slices.now ts → result ≡ greatest (time ∷ ends_in time ts) }
 {
     let mut last = time;
-    for i in 0..slices.len() {
-        last = later_by(last, end_early(&slices[i..], time));
+    let mut past = None;
+    for i in (0..slices.len()).rev() {
+        past = past_begin(&slices[i..], past);
+        last = later_by(last, end_early(&slices[i], time, past));
     }
     last
 }

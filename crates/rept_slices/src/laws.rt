@@ -8,7 +8,7 @@ ghost use Rattle.rept_steps.specs.Course.{IsSoundCourse};
 ghost use Rattle.rept_trace.specs.declared.packet.Packet.{Packet};
 ghost use Rattle.rept_path.specs.Trace.{IsWindow};
 ghost use Rattle.rept_path.specs.declared.fault.PathFault.TheVariants.{NoStart, TimeBack, SliceOverlap, UnknownThread, OtherThread};
-ghost use Rattle.rept_slices.specs.Worked.{times, says, fault, overlaps, two_harts, moved, next_elsewhere, one_hart, whole_stream_skipped, start_at_the_time, time_goes_back, time_goes_back_after_a_slice, no_packets, no_start, packets_lost, back_before_no_start, unknown_thread, other_thread, unknown_before_other, no_start_before_unknown, skipped_thread, other_thread_skipped, one_time, later_packet, packet_after_the_end, start_that_ends, times_that_touch, streams_apart, first_note_first, least_time_first};
+ghost use Rattle.rept_slices.specs.Worked.{times, says, fault, overlaps, two_harts, moved, next_elsewhere, one_hart, whole_stream_skipped, tied_while_skipped, start_at_the_time, time_goes_back, time_goes_back_after_a_slice, no_packets, no_start, packets_lost, back_before_no_start, unknown_thread, other_thread, unknown_before_other, no_start_before_unknown, skipped_thread, other_thread_skipped, one_time, later_packet, packet_after_the_end, start_that_ends, times_that_touch, streams_apart, first_note_first, least_time_first};
 ghost use Rattle.rept_slices.specs.Stamps.{clock_of};
 ghost use Rattle.rept_slices.specs.Skipping.{window_of};
 ghost use Rattle.rept_slices.specs.Many.{Traces, IsRunOfStreams, HasNoRunOfStreams};
@@ -39,6 +39,7 @@ pub fn worked_examples()
     ensures next_elsewhere { says 0 next_elsewhere ≡ record { slices = times 0 1 1 6 ∷ times 1 2 1 6 ∷ times 1 1 6 18446744073709551615 ∷ []; dark = Some 1; skipped = 0 } }
     ensures one_hart { says 0 one_hart ≡ record { slices = times 0 1 5 18446744073709551615 ∷ []; dark = None; skipped = 0 } }
     ensures whole_stream_skipped { says 0 whole_stream_skipped ≡ record { slices = times 1 2 5 18446744073709551615 ∷ []; dark = Some 18446744073709551615; skipped = 2 } }
+    ensures tied_while_skipped { says 0 tied_while_skipped ≡ record { slices = times 2 2 5 18446744073709551615 ∷ []; dark = Some 9; skipped = 6 } }
     ensures start_at_the_time { says 0 start_at_the_time ≡ record { slices = times 0 1 5 18446744073709551615 ∷ times 1 2 5 18446744073709551615 ∷ []; dark = Some 5; skipped = 1 } }
     ensures time_goes_back { fault time_goes_back ≡ Some (TimeBack 1) }
     ensures time_goes_back_after_a_slice { fault time_goes_back_after_a_slice ≡ Some (TimeBack 3) }

@@ -11,8 +11,8 @@ use Rattle.rept_weave.specs.declared.stretch.Stretch.{Stretch}
 use Rattle.rept_weave.specs.Woven.{start_of, ended, end_of, AreSent}
 use Rattle.rept_slices.specs.Stamps.{clock_of, is_start}
 use Rattle.rept_slices.specs.Parts.{LeftPackets, ToldSlice, thread_of, begin_of, slices_told}
-use Rattle.rept_slices.specs.Order.{end_of as end_at, meets, least, lasts_past}
-use Rattle.rept_slices.specs.Skipping.{numbered, whole, skip, window_of, windows, opening, greatest, full_from, from_time, kept, skipped, ends_of, dark}
+use Rattle.rept_slices.specs.Order.{meets, least, lasts_past}
+use Rattle.rept_slices.specs.Skipping.{numbered, whole, skip, window_of, windows, opening, greatest, full_from, from_time, kept, skipped, end_skipped, ends_of, dark}
 use Rattle.rept_slices.specs.Checks.{first_fault, time_back, startless, all_idle, stranger, while_other, check}
 use Rattle.rept_slices.specs.Joins.{ThreadNote}
 use Rattle.rept_slices.specs.Many.{overlap_fault}
@@ -272,7 +272,7 @@ module _ (halves : Bool) (time : ℕ) where
     pub dark_is : Each (λ (p : Piece). time ≤ p.stretch.begin) (pieces_from 0 harts) → AllZip (IsPieceOf halves) (pieces_from 0 harts) (slices_told (numbered 0 0 lists)) → dark 0 lists ≡ dark_of (begins harts)
     dark_is late zip =
         let ts : List ToldSlice = slices_told (numbered 0 0 lists) in
-        let none : ends_of time (slices_told (numbered 0 0 lists)) ≡ [] = ap (map (end_at (slices_told (numbered 0 0 lists)))) (none_early time (slices_told (numbered 0 0 lists)) (told_late (pieces_from 0 harts) (slices_told (numbered 0 0 lists)) zip late)) in
+        let none : ends_of time (slices_told (numbered 0 0 lists)) ≡ [] = ap (map (end_skipped (slices_told (numbered 0 0 lists)))) (none_early time (slices_told (numbered 0 0 lists)) (told_late (pieces_from 0 harts) (slices_told (numbered 0 0 lists)) zip late)) in
         let opened = opens harts lists 0 0 sent in
         let a : dark 0 lists ≡ cond (nat_lt 1 (length (filter_map opening (numbered 0 0 lists)))) (Some (greatest (full_from (numbered 0 0 lists) ∷ ends_of (full_from (numbered 0 0 lists)) (slices_told (numbered 0 0 lists))))) None =
         ap (λ (ws : List LeftPackets). cond (nat_lt 1 (length (filter_map opening ws))) (Some (greatest (full_from ws ∷ ends_of (full_from ws) (slices_told ws)))) None) windows_are in

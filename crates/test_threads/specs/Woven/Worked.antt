@@ -14,7 +14,7 @@ abbrev pub code_word : ℕ → Option ℕ
 code_word a = if a == 65544 then Some 0x30067 else if a == 65548 then Some 0x73 else Some 0x13
 
 abbrev pub code : Contents
-code = record { word = code_word; half = λ a. None; kept = λ a. None; symbol = λ a. None; end = 0 }
+code = record { word = code_word; half = λ a. None; kept = λ a. None; symbol = λ a. None; end = 0; mapped = false }
 
 abbrev pub nothing : ℕ → StepRow
 nothing a = record { at = a; instr = Imm Addi 0 0 (pos 0); next = a + 4; call = false; short = false }

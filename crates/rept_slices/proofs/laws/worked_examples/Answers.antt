@@ -19,6 +19,9 @@ returns-clause-one_hart c = refl
 pub returns-clause-whole_stream_skipped : goal.returns-clause-whole_stream_skipped
 returns-clause-whole_stream_skipped c = refl
 
+pub returns-clause-tied_while_skipped : goal.returns-clause-tied_while_skipped
+returns-clause-tied_while_skipped c = refl
+
 pub returns-clause-start_at_the_time : goal.returns-clause-start_at_the_time
 returns-clause-start_at_the_time c = refl
 
