@@ -21,7 +21,7 @@ hits_part (Some access) a = hits access a
 
 -- whether it is in one of the parts
 abbrev pub call_hits : CallAccess → ℕ → Bool
-call_hits access a = hits_part access.first a || hits_part access.second a || hits_part access.third a
+call_hits access a = hits_part access.first a || hits_part access.second a
 
 -- the addresses from one to another
 abbrev pub between : ℕ → ℕ → Access

@@ -24,16 +24,13 @@ impl Access {
     }
 }
 
-/// The addresses that a step may write: up to three accesses, as a system call has. Without one,
-/// none.
+/// The addresses that a step may write: up to two accesses, as a system call has. Without one, none.
 #[derive(Clone, Copy, PartialEq, Eq, Debug)]
 pub struct CallAccess {
     /// one part of them
     pub first: Option<Access>,
-    /// another part
+    /// the other part
     pub second: Option<Access>,
-    /// a third part
-    pub third: Option<Access>,
 }
 
 impl CallAccess {
@@ -41,7 +38,7 @@ impl CallAccess {
     pub fn may_hit(&self, a: u32) -> bool
         ensures { result ≡ call_hits self.now a }
     {
-        hits_one(self.first, a) || hits_one(self.second, a) || hits_one(self.third, a)
+        hits_one(self.first, a) || hits_one(self.second, a)
     }
 }
 

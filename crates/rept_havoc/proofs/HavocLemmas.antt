@@ -11,11 +11,11 @@ use Rattle.rept_alias.specs.Accesses.{hits, hits_part, call_hits, distance, betw
 use Rattle.rept_machine.specs.declared.calls.ByteCount.{ByteCount}
 use Rattle.rept_machine.specs.declared.calls.ByteCount.TheVariants.{Fixed, Register, Pages, Records}
 use Rattle.rept_machine.specs.declared.calls.CallEffect.{CallEffect}
-use Rattle.rept_machine.specs.declared.calls.CallEffect.TheVariants.{Area, Read, Received, Heap, Mapping}
+use Rattle.rept_machine.specs.declared.calls.CallEffect.TheVariants.{Area, Read, Heap, Mapping}
 use Rattle.rept_machine.specs.declared.calls.CallRow.{CallRow}
 use Rattle.rept_machine.specs.declared.calls.TheConstants.{CALLS}
 use Rattle.rept_machine.specs.Calls.{within, is_error, bad_address, counted, was_read, effect_has, part_has, call_of, row_has, may_change}
-use Rattle.rept_havoc.specs.Havoc.{every_byte, interval, grown, mapped, was_read_over, counted_over, effect_over, part_over, row_over, changed_by, changed, Lies, IsExact, MeetsArguments, AreExact, IsNumber, RangeWithin, AreArgumentsWithin, NumberWithin}
+use Rattle.rept_havoc.specs.Havoc.{every_byte, interval, grown, mapped, was_read_over, counted_over, effect_over, part_over, row_over, changed_by, changed, Lies, IsExact, argument, MeetsArguments, AreExact, IsNumber, RangeWithin, AreArgumentsWithin, NumberWithin}
 
 true≢false : true ≡ false → ⊥
 true≢false e = cc
@@ -328,12 +328,12 @@ read_within base most answered wide longer wider a w few v t = elim (read_form w
   ]
 ]
 
--- of three parts
-three_covers : {p q r s t u : Bool} → (p ≡ true → s ≡ true) → (q ≡ true → t ≡ true) → (r ≡ true → u ≡ true) → (p || q || r) ≡ true → (s || t || u) ≡ true
-three_covers {p} {q} {r} {s} {t} {u} f g h e = either (p || q) r (s || t) u (either p q s t f g) h e
+-- of two parts
+two_covers : {p q s t : Bool} → (p ≡ true → s ≡ true) → (q ≡ true → t ≡ true) → (p || q) ≡ true → (s || t) ≡ true
+two_covers {p} {q} {s} {t} f g e = either p q s t f g e
 
-three_are : {p q r s t u : Bool} → p ≡ s → q ≡ t → r ≡ u → (p || q || r) ≡ (s || t || u)
-three_are e f g = rw (e, f, g) refl
+two_are : {p q s t : Bool} → p ≡ s → q ≡ t → (p || q) ≡ (s || t)
+two_are e f = rw (e, f) refl
 
 -- which registers a row names: those of arguments alone
 abbrev is_argument : ℕ → Bool
@@ -348,7 +348,6 @@ counts_by_arguments (Records r bytes most) = is_argument r
 abbrev goes_by_arguments : CallEffect → Bool
 goes_by_arguments (Area base count) = is_argument base && counts_by_arguments count
 goes_by_arguments (Read base most) = is_argument base && is_argument most
-goes_by_arguments (Received base most) = is_argument base && is_argument most
 goes_by_arguments Heap = true
 goes_by_arguments (Mapping length) = is_argument length
 
@@ -357,7 +356,7 @@ part_goes None = true
 part_goes (Some effect) = goes_by_arguments effect
 
 abbrev row_goes : CallRow → Bool
-row_goes row = part_goes row.first && part_goes row.second && part_goes row.third
+row_goes row = part_goes row.first && part_goes row.second
 
 abbrev rows_go : List CallRow → Bool
 rows_go [] = true
@@ -418,10 +417,6 @@ module _ (x : ℕ → Range) (answered : Range) (image_end : ℕ) (register : �
     effect_covers : (effect : CallEffect) → goes_by_arguments effect ≡ true → effect_has image_end register answer effect a ≡ true → hits_part (effect_over image_end x answered effect) a ≡ true
     effect_covers (Area base count) h t = let both = both_parts _ _ h in area_covers base count both.0 both.1 t
     effect_covers (Read base most) h t = let both = both_parts _ _ h in read_covers (x base) (x most) answered (register base) (register most) answer a (meets_at base both.0) (meets_at most both.1) lies t
-    effect_covers (Received base most) h t =
-        let both = both_parts _ _ h in
-        let m = meets_at most both.1 in
-        interval_covers (x base) (min (x most).hi answered.hi) (register base) (min (register most) answer) a (meets_at base both.0) (min_up (register most) answer (x most).hi answered.hi m.1 lies.1) t
     effect_covers Heap h t = grown_covers image_end answered answer a lies t
     effect_covers (Mapping length) h t = mapped_covers answered (x length) answer (register length) a lies (meets_at length h) t
 
@@ -432,9 +427,8 @@ module _ (x : ℕ → Range) (answered : Range) (image_end : ℕ) (register : �
     row_covers : (row : Option CallRow) → Goes row → row_has image_end register answer row a ≡ true → call_hits (row_over image_end x answered row) a ≡ true
     row_covers None goes t = refl
     row_covers (Some row) (by_row same h) t =
-        let one = both_parts (part_goes row.first && part_goes row.second) (part_goes row.third) h in
-        let two = both_parts (part_goes row.first) (part_goes row.second) one.0 in
-        three_covers (part_covers row.first two.0) (part_covers row.second two.1) (part_covers row.third one.1) t
+        let two = both_parts (part_goes row.first) (part_goes row.second) h in
+        two_covers (part_covers row.first two.0) (part_covers row.second two.1) t
 
   module _ (known : AreExact x register) (exact : IsExact answered answer) (fits : a < 2 ^ 32) where
     known_at : (r : ℕ) → is_argument r ≡ true → IsExact (x r) (register r)
@@ -451,9 +445,6 @@ module _ (x : ℕ → Range) (answered : Range) (image_end : ℕ) (register : �
         let both = both_parts _ _ h in
         ap (λ (k : ℕ). hits_part (interval (x base) k) a) (counted_exact count both.1) ∙ interval_exact (x base) (register base) (counted register count) a (known_at base both.0) fits
     effect_exact (Read base most) h = let both = both_parts _ _ h in read_exact (x base) (x most) answered (register base) (register most) answer a (known_at base both.0) (known_at most both.1) exact fits
-    effect_exact (Received base most) h =
-        let both = both_parts _ _ h in
-        ap (λ (k : ℕ). hits_part (interval (x base) k) a) (ap (λ (k : ℕ). min k answered.hi) ((known_at most both.1).1) ∙ ap (λ (k : ℕ). min (register most) k) exact.1) ∙ interval_exact (x base) (register base) (min (register most) answer) a (known_at base both.0) fits
     effect_exact Heap h = grown_exact image_end answered answer a exact fits
     effect_exact (Mapping length) h = mapped_exact answered (x length) answer (register length) a exact (known_at length h) fits
 
@@ -464,9 +455,8 @@ module _ (x : ℕ → Range) (answered : Range) (image_end : ℕ) (register : �
     row_exact : (row : Option CallRow) → Goes row → call_hits (row_over image_end x answered row) a ≡ row_has image_end register answer row a
     row_exact None goes = refl
     row_exact (Some row) (by_row same h) =
-        let one = both_parts (part_goes row.first && part_goes row.second) (part_goes row.third) h in
-        let two = both_parts (part_goes row.first) (part_goes row.second) one.0 in
-        three_are (part_exact row.first two.0) (part_exact row.second two.1) (part_exact row.third one.1)
+        let two = both_parts (part_goes row.first) (part_goes row.second) h in
+        two_are (part_exact row.first two.0) (part_exact row.second two.1)
 
 module _ (x wide : ℕ → Range) (answered wider : Range) (image_end a : ℕ) (w : AreArgumentsWithin x wide) (v : RangeWithin answered wider) where
   within_at : (r : ℕ) → is_argument r ≡ true → RangeWithin (x r) (wide r)
@@ -495,10 +485,6 @@ module _ (x wide : ℕ → Range) (answered wider : Range) (image_end a : ℕ) (
   effect_within : (effect : CallEffect) → goes_by_arguments effect ≡ true → hits_part (effect_over image_end x answered effect) a ≡ true → hits_part (effect_over image_end wide wider effect) a ≡ true
   effect_within (Area base count) h t = let both = both_parts _ _ h in area_within base count both.0 both.1 t
   effect_within (Read base most) h t = let both = both_parts _ _ h in read_within (x base) (x most) answered (wide base) (wide most) wider a (within_at base both.0) (within_at most both.1) v t
-  effect_within (Received base most) h t =
-      let both = both_parts _ _ h in
-      let m = within_at most both.1 in
-      interval_within (x base) (wide base) (min (x most).hi answered.hi) (min (wide most).hi wider.hi) a (within_at base both.0) (min_up (x most).hi answered.hi (wide most).hi wider.hi m.1 v.1) t
   effect_within Heap h t = grown_within image_end answered wider a v t
   effect_within (Mapping length) h t = mapped_within answered (x length) wider (wide length) a v (within_at length h) t
 
@@ -509,9 +495,73 @@ module _ (x wide : ℕ → Range) (answered wider : Range) (image_end a : ℕ) (
   row_within : (row : Option CallRow) → Goes row → call_hits (row_over image_end x answered row) a ≡ true → call_hits (row_over image_end wide wider row) a ≡ true
   row_within None goes t = refl
   row_within (Some row) (by_row same h) t =
-      let one = both_parts (part_goes row.first && part_goes row.second) (part_goes row.third) h in
-      let two = both_parts (part_goes row.first) (part_goes row.second) one.0 in
-      three_covers (part_within row.first two.0) (part_within row.second two.1) (part_within row.third one.1) t
+      let two = both_parts (part_goes row.first) (part_goes row.second) h in
+      two_covers (part_within row.first two.0) (part_within row.second two.1) t
+
+-- only the registers of arguments count
+module _ (x y : ℕ → Range) (answered : Range) (image_end : ℕ) (same : (r : ℕ) → 10 ≤ r → r ≤ 15 → x r ≡ y r) where
+  same_at : (r : ℕ) → is_argument r ≡ true → x r ≡ y r
+  same_at r h = let o = argument_of r h in same r o.0 o.1
+
+  counted_alike : (count : ByteCount) → counts_by_arguments count ≡ true → counted_over x count ≡ counted_over y count
+  counted_alike (Fixed bytes) c = refl
+  counted_alike (Register r) c = ap (λ (b : Range). b.hi) (same_at r c)
+  counted_alike (Pages r) c = ap (λ (b : Range). b.hi + 4095) (same_at r c)
+  counted_alike (Records r bytes most) c = ap (λ (b : Range). if nat_le b.hi most then b.hi * bytes else 2 ^ 33) (same_at r c)
+
+  effect_alike : (effect : CallEffect) → goes_by_arguments effect ≡ true → effect_over image_end x answered effect ≡ effect_over image_end y answered effect
+  effect_alike (Area base count) h =
+      let both = both_parts _ _ h in
+      ap (λ (b : Range). interval b (counted_over x count)) (same_at base both.0) ∙ ap (λ (k : ℕ). interval (y base) k) (counted_alike count both.1)
+  effect_alike (Read base most) h =
+      let both = both_parts _ _ h in
+      ap (λ (b : Range). was_read_over b (x most) answered) (same_at base both.0) ∙ ap (λ (b : Range). was_read_over (y base) b answered) (same_at most both.1)
+  effect_alike Heap h = refl
+  effect_alike (Mapping length) h = ap (λ (b : Range). mapped answered b) (same_at length h)
+
+  part_alike : (part : Option CallEffect) → part_goes part ≡ true → part_over image_end x answered part ≡ part_over image_end y answered part
+  part_alike None h = refl
+  part_alike (Some effect) h = effect_alike effect h
+
+  row_alike : (row : Option CallRow) → Goes row → row_over image_end x answered row ≡ row_over image_end y answered row
+  row_alike None goes = refl
+  row_alike (Some row) (by_row same h) =
+      let two = both_parts (part_goes row.first) (part_goes row.second) h in
+      rw (part_alike row.first two.0, part_alike row.second two.1) refl
+
+pub changed_alike : (number : Flat) (x y : ℕ → Range) (answered : Range) (image_end : ℕ) → ((r : ℕ) → 10 ≤ r → r ≤ 15 → x r ≡ y r) → changed number x answered image_end ≡ changed number y answered image_end
+changed_alike Unknown x y answered image_end same = refl
+changed_alike (Known n) x y answered image_end same = row_alike x y answered image_end same (call_of CALLS n) (found_goes CALLS n all_rows_go)
+
+-- six ranges of arguments, in the order of their registers
+module _ (a b c d e f : Range) (x : ℕ → Range) (at10 : a ≡ x 10) (at11 : b ≡ x 11) (at12 : c ≡ x 12) (at13 : d ≡ x 13) (at14 : e ≡ x 14) (at15 : f ≡ x 15) where
+  six : List Range
+  six = a ∷ b ∷ c ∷ d ∷ e ∷ f ∷ []
+
+  six_at : (r k : ℕ) → r ≡ k → argument six k ≡ x k → argument six r ≡ x r
+  six_at r k is h = subst (λ (n : ℕ). argument six n ≡ x n) (sym is) h
+
+  of_six : (r : ℕ) → 10 ≤ r → r ≤ 15 → argument six r ≡ x r
+  of_six r low high = elim (either_way (r == 10)) [
+    | inl t ↦ six_at r 10 (grind (arith, t)) at10
+    | inr n10 ↦ elim (either_way (r == 11)) [
+      | inl t ↦ six_at r 11 (grind (arith, t)) at11
+      | inr n11 ↦ elim (either_way (r == 12)) [
+        | inl t ↦ six_at r 12 (grind (arith, t)) at12
+        | inr n12 ↦ elim (either_way (r == 13)) [
+          | inl t ↦ six_at r 13 (grind (arith, t)) at13
+          | inr n13 ↦ elim (either_way (r == 14)) [
+            | inl t ↦ six_at r 14 (grind (arith, t)) at14
+            | inr n14 ↦ six_at r 15 (grind (arith, n10, n11, n12, n13, n14, low, high)) at15
+          ]
+        ]
+      ]
+    ]
+  ]
+
+pub changed_of_six : (number : Flat) (a b c d e f : Range) (x : ℕ → Range) (answered : Range) (image_end : ℕ) → a ≡ x 10 → b ≡ x 11 → c ≡ x 12 → d ≡ x 13 → e ≡ x 14 → f ≡ x 15 → changed number (argument (a ∷ b ∷ c ∷ d ∷ e ∷ f ∷ [])) answered image_end ≡ changed number x answered image_end
+changed_of_six number a b c d e f x answered image_end p q r s t u =
+    changed_alike number (argument (a ∷ b ∷ c ∷ d ∷ e ∷ f ∷ [])) x answered image_end (of_six a b c d e f x p q r s t u)
 
 -- each byte that a call may change is one of those that its ranges give
 pub changed_covers : (number : ℕ) (x : ℕ → Range) (answered : Range) (image_end : ℕ) (register : ℕ → ℕ) (answer a : ℕ) → number ≡ register 17 → MeetsArguments x register → Lies answer answered → may_change image_end register answer a ≡ true → call_hits (changed_by number x answered image_end) a ≡ true

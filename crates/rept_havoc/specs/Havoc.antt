@@ -11,13 +11,13 @@ use Rattle.rept_alias.specs.Accesses.{between, everywhere}
 use Rattle.rept_machine.specs.declared.calls.ByteCount.{ByteCount}
 use Rattle.rept_machine.specs.declared.calls.ByteCount.TheVariants.{Fixed, Register, Pages, Records}
 use Rattle.rept_machine.specs.declared.calls.CallEffect.{CallEffect}
-use Rattle.rept_machine.specs.declared.calls.CallEffect.TheVariants.{Area, Read, Received, Heap, Mapping}
+use Rattle.rept_machine.specs.declared.calls.CallEffect.TheVariants.{Area, Read, Heap, Mapping}
 use Rattle.rept_machine.specs.declared.calls.CallRow.{CallRow}
 use Rattle.rept_machine.specs.declared.calls.TheConstants.{CALLS}
 use Rattle.rept_machine.specs.Calls.{is_error, bad_address, call_of}
 
 abbrev pub every_byte : CallAccess
-every_byte = record { first = Some everywhere; second = None; third = None }
+every_byte = record { first = Some everywhere; second = None }
 
 -- So many bytes from a base in a range on: from the lowest base up to the last byte of the highest one. None where there are none. Where
 -- the highest one passes the end of the address space, every byte.
@@ -51,7 +51,6 @@ counted_over x (Records r bytes most) = if nat_le (x r).hi most then (x r).hi * 
 abbrev pub effect_over : ℕ → (ℕ → Range) → Range → CallEffect → Option Access
 effect_over image_end x answered (Area base count) = interval (x base) (counted_over x count)
 effect_over image_end x answered (Read base most) = was_read_over (x base) (x most) answered
-effect_over image_end x answered (Received base most) = interval (x base) (min (x most).hi answered.hi)
 effect_over image_end x answered Heap = grown image_end answered
 effect_over image_end x answered (Mapping length) = mapped answered (x length)
 
@@ -62,7 +61,7 @@ part_over image_end x answered (Some effect) = effect_over image_end x answered 
 -- a call of a row, or of none
 abbrev pub row_over : ℕ → (ℕ → Range) → Range → Option CallRow → CallAccess
 row_over image_end x answered None = every_byte
-row_over image_end x answered (Some row) = record { first = part_over image_end x answered row.first; second = part_over image_end x answered row.second; third = part_over image_end x answered row.third }
+row_over image_end x answered (Some row) = record { first = part_over image_end x answered row.first; second = part_over image_end x answered row.second }
 
 -- the call of this number
 abbrev pub changed_by : ℕ → (ℕ → Range) → Range → ℕ → CallAccess

@@ -43,7 +43,6 @@ fn changed_by(call: u32, args: &[Range; 6], answered: Range, image_end: u64) -> 
         Some(row) => CallAccess {
             first: part_over(row.first, args, answered, image_end),
             second: part_over(row.second, args, answered, image_end),
-            third: part_over(row.third, args, answered, image_end),
         },
     }
 }
@@ -63,10 +62,6 @@ fn part_over(
         }
         CallEffect::Read { base, most } => {
             was_read_over(argument(args, base), argument(args, most), answered)
-        }
-        CallEffect::Received { base, most } => {
-            let count = argument(args, most).hi().min(answered.hi());
-            interval(argument(args, base), u64::from(count))
         }
         CallEffect::Heap => grown(image_end, answered),
         CallEffect::Mapping { length } => mapped(answered, argument(args, length)),
@@ -127,7 +122,6 @@ fn every_byte() -> CallAccess
             hi: u32::MAX,
         }),
         second: None,
-        third: None,
     }
 }
 

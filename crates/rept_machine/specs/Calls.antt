@@ -7,7 +7,7 @@ use Rattle.std.specs.Prelude.{◌≡◌, ℕ, ◌+◌, ◌*◌, ◌^◌, ◌==�
 use Rattle.rept_machine.specs.declared.calls.ByteCount.{ByteCount}
 use Rattle.rept_machine.specs.declared.calls.ByteCount.TheVariants.{Fixed, Register, Pages, Records}
 use Rattle.rept_machine.specs.declared.calls.CallEffect.{CallEffect}
-use Rattle.rept_machine.specs.declared.calls.CallEffect.TheVariants.{Area, Read, Received, Heap, Mapping}
+use Rattle.rept_machine.specs.declared.calls.CallEffect.TheVariants.{Area, Read, Heap, Mapping}
 use Rattle.rept_machine.specs.declared.calls.CallRow.{CallRow}
 use Rattle.rept_machine.specs.declared.calls.TheConstants.{CALLS}
 
@@ -44,7 +44,6 @@ was_read base most answer a = if answer == bad_address then within base most a e
 abbrev pub effect_has : ℕ → (ℕ → ℕ) → ℕ → CallEffect → ℕ → Bool
 effect_has image_end register answer (Area base count) a = within (register base) (counted register count) a
 effect_has image_end register answer (Read base most) a = was_read (register base) (register most) answer a
-effect_has image_end register answer (Received base most) a = within (register base) (min (register most) answer) a
 effect_has image_end register answer Heap a = nat_le image_end a && nat_lt a answer
 effect_has image_end register answer (Mapping length) a = if is_error answer then false else within answer (register length + 4095) a
 
@@ -60,7 +59,7 @@ call_of (row ∷ rows) number = if row.number == number then Some row else call_
 -- whether a call of a row, or of none, may change the byte at a
 abbrev pub row_has : ℕ → (ℕ → ℕ) → ℕ → Option CallRow → ℕ → Bool
 row_has image_end register answer None a = true
-row_has image_end register answer (Some row) a = part_has image_end register answer row.first a || part_has image_end register answer row.second a || part_has image_end register answer row.third a
+row_has image_end register answer (Some row) a = part_has image_end register answer row.first a || part_has image_end register answer row.second a
 
 -- whether the byte at a may change in the call whose registers before it and whose answer these are
 abbrev pub may_change : ℕ → (ℕ → ℕ) → ℕ → ℕ → Bool

@@ -47,14 +47,6 @@ pub enum CallEffect {
         /// the register of the most bytes
         most: u8,
     },
-    /// From the address in a register on what was received: no more bytes than another register
-    /// says, and no more than the answer, read as a number without a sign.
-    Received {
-        /// the register of the address
-        base: u8,
-        /// the register of the most bytes
-        most: u8,
-    },
     /// From the end of the program's own memory up to the answer, which isn't included.
     Heap,
     /// Whole pages of 4,096 bytes from the answer on, unless that is an error.
@@ -64,31 +56,26 @@ pub enum CallEffect {
     },
 }
 
-/// A call: its number, which is in x17 (a7), and up to three parts of what it may change.
+/// A call: its number, which is in x17 (a7), and up to two parts of what it may change.
 #[derive(Clone, Copy)]
 pub struct CallRow {
     /// the number
     pub number: u32,
     /// one part
     pub first: Option<CallEffect>,
-    /// another part
+    /// the other part
     pub second: Option<CallEffect>,
-    /// a third part
-    pub third: Option<CallEffect>,
 }
 
 macro_rules! call {
     ($number:literal) => {
-        CallRow { number: $number, first: None, second: None, third: None }
+        CallRow { number: $number, first: None, second: None }
     };
     ($number:literal, $first:expr) => {
-        CallRow { number: $number, first: Some($first), second: None, third: None }
+        CallRow { number: $number, first: Some($first), second: None }
     };
     ($number:literal, $first:expr, $second:expr) => {
-        CallRow { number: $number, first: Some($first), second: Some($second), third: None }
-    };
-    ($number:literal, $first:expr, $second:expr, $third:expr) => {
-        CallRow { number: $number, first: Some($first), second: Some($second), third: Some($third) }
+        CallRow { number: $number, first: Some($first), second: Some($second) }
     };
 }
 
@@ -118,7 +105,7 @@ macro_rules! records {
 /// Of openat, write, writev, pwrite64, sendto and sendmsg it is a premise that they change nothing:
 /// their file isn't mapped. Linux shows a write in the pages that map the file, and an openat with
 /// O_TRUNC takes these pages away; here a mapped file doesn't change.
-pub const CALLS: [CallRow; 76] = [
+pub const CALLS: [CallRow; 75] = [
     call!(17, counted!(10, 11)), // getcwd
     call!(20), // epoll_create1
     call!(21), // epoll_ctl
@@ -174,12 +161,6 @@ pub const CALLS: [CallRow; 76] = [
     call!(201), // listen
     call!(203), // connect
     call!(206), // sendto
-    call!(
-        207,
-        CallEffect::Received { base: 11, most: 12 },
-        bytes!(14, 128),
-        bytes!(15, 4)
-    ), // recvfrom
     call!(208), // setsockopt
     call!(210), // shutdown
     call!(211), // sendmsg

@@ -37,7 +37,6 @@ pub fn touched<V: RowView>(instr: &Instr, view: &V, image_end: u64) -> CallAcces
         | Instr::Counter { .. } => CallAccess {
             first: None,
             second: None,
-            third: None,
         },
     }
 }
@@ -57,7 +56,6 @@ fn stored(op: StoreOp, base: Range, imm: i32) -> CallAccess
     CallAccess {
         first: Some(access(base, imm, width(op))),
         second: None,
-        third: None,
     }
 }
 
@@ -75,13 +73,11 @@ fn atomic<V: RowView>(op: AmoOp, rd: Reg, rs1: Reg, view: &V) -> CallAccess
         CallAccess {
             first: Some(access(range_before(view, rs1), 0, 4)),
             second: None,
-            third: None,
         }
     } else {
         CallAccess {
             first: None,
             second: None,
-            third: None,
         }
     }
 }

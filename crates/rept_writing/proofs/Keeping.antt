@@ -72,31 +72,16 @@ or_cases : (a b : Bool) → (a || b) ≡ true → (a ≡ true) ⊎ (b ≡ true)
 or_cases true b h = inl refl
 or_cases false b h = inr h
 
--- a byte of one part is one of the row
-of_first : (access : CallAccess) (a : ℕ) → hits_part access.first a ≡ true → call_hits access a ≡ true
-of_first access a h = or_left (hits_part access.first a || hits_part access.second a) (hits_part access.third a) (or_left (hits_part access.first a) (hits_part access.second a) h)
-
-of_second : (access : CallAccess) (a : ℕ) → hits_part access.second a ≡ true → call_hits access a ≡ true
-of_second access a h = or_left (hits_part access.first a || hits_part access.second a) (hits_part access.third a) (or_right (hits_part access.first a) (hits_part access.second a) h)
-
-of_third : (access : CallAccess) (a : ℕ) → hits_part access.third a ≡ true → call_hits access a ≡ true
-of_third access a h = or_right (hits_part access.first a || hits_part access.second a) (hits_part access.third a) h
-
 row_sound : (access : CallAccess) (j : ℕ) (old new : List Hit) → IsKeptByAddress access j old new → All (IsOfRow access j) (hits_of access j)
 row_sound access j old new kept =
-    All-append (IsOfRow access j) (hits_of_part access.first j ++ hits_of_part access.second j) (hits_of_part access.third j)
-    (All-append (IsOfRow access j) (hits_of_part access.first j) (hits_of_part access.second j)
-    (All-weaker (IsOf access.first j) (IsOfRow access j) (λ h o. (o.0, of_first access h.address o.1)) (hits_of_part access.first j) (part_sound access.first j kept.first (omega (arith, kept.few))))
-    (All-weaker (IsOf access.second j) (IsOfRow access j) (λ h o. (o.0, of_second access h.address o.1)) (hits_of_part access.second j) (part_sound access.second j kept.second (omega (arith, kept.few)))))
-    (All-weaker (IsOf access.third j) (IsOfRow access j) (λ h o. (o.0, of_third access h.address o.1)) (hits_of_part access.third j) (part_sound access.third j kept.third (omega (arith, kept.few))))
+    All-append (IsOfRow access j) (hits_of_part access.first j) (hits_of_part access.second j)
+    (All-weaker (IsOf access.first j) (IsOfRow access j) (λ h o. (o.0, or_left (hits_part access.first h.address) (hits_part access.second h.address) o.1)) (hits_of_part access.first j) (part_sound access.first j kept.first (omega (arith, kept.few))))
+    (All-weaker (IsOf access.second j) (IsOfRow access j) (λ h o. (o.0, or_right (hits_part access.first h.address) (hits_part access.second h.address) o.1)) (hits_of_part access.second j) (part_sound access.second j kept.second (omega (arith, kept.few))))
 
 row_complete : (access : CallAccess) (j a : ℕ) (old new : List Hit) → IsKeptByAddress access j old new → a < 2 ^ 32 → call_hits access a ≡ true → Contains (hits_of access j) (hit a j)
-row_complete access j a old new kept fits h = elim (or_cases (hits_part access.first a || hits_part access.second a) (hits_part access.third a) h) [
-  | inr third ↦ Contains-append_right (hits_of_part access.first j ++ hits_of_part access.second j) (hits_of_part access.third j) (hit a j) (part_complete access.third a j kept.third (omega (arith, kept.few)) fits third)
-  | inl two ↦ elim (or_cases (hits_part access.first a) (hits_part access.second a) two) [
-    | inl first ↦ Contains-append_left (hits_of_part access.first j ++ hits_of_part access.second j) (hits_of_part access.third j) (hit a j) (Contains-append_left (hits_of_part access.first j) (hits_of_part access.second j) (hit a j) (part_complete access.first a j kept.first (omega (arith, kept.few)) fits first))
-    | inr second ↦ Contains-append_left (hits_of_part access.first j ++ hits_of_part access.second j) (hits_of_part access.third j) (hit a j) (Contains-append_right (hits_of_part access.first j) (hits_of_part access.second j) (hit a j) (part_complete access.second a j kept.second (omega (arith, kept.few)) fits second))
-  ]
+row_complete access j a old new kept fits h = elim (or_cases (hits_part access.first a) (hits_part access.second a) h) [
+  | inl first ↦ Contains-append_left (hits_of_part access.first j) (hits_of_part access.second j) (hit a j) (part_complete access.first a j kept.first (omega (arith, kept.few)) fits first)
+  | inr second ↦ Contains-append_right (hits_of_part access.first j) (hits_of_part access.second j) (hit a j) (part_complete access.second a j kept.second (omega (arith, kept.few)) fits second)
 ]
 
 slice_get_front : (xs ys : List Writing) (j : ℕ) → j < length xs → slice_get (xs ++ ys) j ≡ slice_get xs j

@@ -60,7 +60,7 @@ size_of_part None = 0
 size_of_part (Some access) = size access
 
 abbrev pub size_of : CallAccess → ℕ
-size_of access = size_of_part access.first + size_of_part access.second + size_of_part access.third
+size_of access = size_of_part access.first + size_of_part access.second
 
 -- the first address of a part is a word
 abbrev pub StartsAtWord : Option Access → Type 0
@@ -76,16 +76,15 @@ abbrev pub hits_of_part : Option Access → ℕ → List Hit
 hits_of_part None j = []
 hits_of_part (Some access) j = hits_from access.lo (size access) j
 
--- the addresses of all parts, with the index of a row
+-- the addresses of both parts, with the index of a row
 abbrev pub hits_of : CallAccess → ℕ → List Hit
-hits_of access j = (hits_of_part access.first j ++ hits_of_part access.second j) ++ hits_of_part access.third j
+hits_of access j = hits_of_part access.first j ++ hits_of_part access.second j
 
 -- each address of a row of few is kept with its index
 pub record IsKeptByAddress (access : CallAccess) (index : ℕ) (old new : List Hit) : Type 0 where
   pub few : size_of access ≤ 8
   pub first : StartsAtWord access.first
   pub second : StartsAtWord access.second
-  pub third : StartsAtWord access.third
   pub is : new ≡ old ++ hits_of access index
 
 -- Each address that the row at an index may write stands among the single ones with that index, or the index among those of rows of

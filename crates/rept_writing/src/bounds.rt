@@ -111,12 +111,11 @@ fn with_part(bounds: Bounds, part: Option<Access>) -> Bounds
     }
 }
 
-/// Bounds within which the addresses of all parts lie too.
+/// Bounds within which the addresses of both parts lie too.
 pub fn with_row(bounds: Bounds, access: &CallAccess) -> Bounds
     ensures { IsWidened (call_hits access.now) bounds result }
 {
-    let two = with_part(with_part(bounds, access.first), access.second);
-    with_part(two, access.third)
+    with_part(with_part(bounds, access.first), access.second)
 }
 
 /// Bounds within which the addresses of a row lie too, if it is a call.

@@ -76,14 +76,11 @@ pub fn file(narrow: &mut Vec<Hit>, wide: &mut Vec<usize>, index: usize, access: 
     ensures filed { (IsKeptByAddress access.now index narrow.old.items narrow.new.items × (wide.new.items ≡ wide.old.items)) ⊎ ((narrow.new.items ≡ narrow.old.items) × (wide.new.items ≡ wide.old.items ++ index ∷ [])) }
     ensures capacity { vec_capacity wide.new ≡ vec_capacity wide.old }
 {
-    let size = size_of_part(access.first)
-        + size_of_part(access.second)
-        + size_of_part(access.third);
+    let size = size_of_part(access.first) + size_of_part(access.second);
     let room = narrow.capacity().saturating_sub(narrow.len());
     if size <= FEW && size <= room as u64 {
         push_part(narrow, access.first, index);
         push_part(narrow, access.second, index);
-        push_part(narrow, access.third, index);
     } else {
         wide.push_reserved(index);
     }

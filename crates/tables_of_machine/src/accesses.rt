@@ -41,12 +41,7 @@ pub fn part(n: &Numbers, k: usize) -> Option<Access> {
 
 /// Whether two parts have an address.
 fn has(first: Option<Access>, second: Option<Access>, a: u32) -> &'static str {
-    yes(CallAccess {
-        first,
-        second,
-        third: None,
-    }
-    .may_hit(a))
+    yes(CallAccess { first, second }.may_hit(a))
 }
 
 /// Whether a part has the address, as the first part alone and as the second one beside 20, which they have then.

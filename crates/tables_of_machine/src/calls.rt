@@ -81,9 +81,5 @@ pub fn reached(alloc: Global, n: &Numbers) -> Result<String, AllocError> {
         Some(end) => u64::from(end),
     };
     let changed = havoc(Flat::of(n.known(0)), &args, range_at(n, 13), image_end);
-    let (first, second) = (Ends(changed.first), Ends(changed.second));
-    if changed.third.is_none() {
-        return format!(in alloc; "{first} and {second}");
-    }
-    format!(in alloc; "{first} and {second} and {}", Ends(changed.third))
+    format!(in alloc; "{} and {}", Ends(changed.first), Ends(changed.second))
 }

@@ -3,7 +3,7 @@
 ghost use Rattle.std.specs.Prelude.{◌≤◌};
 
 use crate::accesses::part;
-use rept_alias::{Access, CallAccess};
+use rept_alias::CallAccess;
 use rept_writing::{Writing, Writings};
 use std::alloc::{AllocError, Global};
 use test_lines::Numbers;
@@ -111,7 +111,7 @@ impl Rows {
     fn add_falling(&mut self, n: &Numbers) {
         if self.writings.len() < ROOM {
             let (first, second) = (part(n, 4), part(n, 6));
-            let mut writing = written(n.word(0), two_parts(first, second));
+            let mut writing = written(n.word(0), CallAccess { first, second });
             writing.from = n.word(1);
             writing.to = n.word(2);
             writing.is_call = n.word(3) == 1;
@@ -123,14 +123,14 @@ impl Rows {
         if self.writings.len() < ROOM {
             let (first, second) = (part(n, 1), part(n, 3));
             self.writings
-                .add(written(n.word(0), two_parts(first, second)));
+                .add(written(n.word(0), CallAccess { first, second }));
         }
     }
 
     /// Puts a row in the place of one, so many times, and answers how often that was done.
     fn replace(&mut self, n: &Numbers) -> u32 {
         let (first, second) = (part(n, 3), part(n, 5));
-        let writing = written(n.word(2), two_parts(first, second));
+        let writing = written(n.word(2), CallAccess { first, second });
         let k = n.word(1) as usize;
         let mut done = 0u32;
         for _ in 0..n.word(0) {
@@ -139,14 +139,5 @@ impl Rows {
             }
         }
         done
-    }
-}
-
-/// What a row may write, in two parts.
-fn two_parts(first: Option<Access>, second: Option<Access>) -> CallAccess {
-    CallAccess {
-        first,
-        second,
-        third: None,
     }
 }

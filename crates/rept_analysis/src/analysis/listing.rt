@@ -25,7 +25,7 @@ use rept_writing::Writing;
 fn is_none(access: &CallAccess) -> bool
     ensures { result ≡ true → (a : ℕ) → call_hits access.now a ≡ false }
 {
-    access.first.is_none() && access.second.is_none() && access.third.is_none()
+    access.first.is_none() && access.second.is_none()
 }
 
 impl<'a, P: Reaches + Drop, L: LastValues + Drop, B: ByteFacts, W: Transfer, R: RowRules> Analysis<
