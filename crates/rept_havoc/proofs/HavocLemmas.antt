@@ -535,7 +535,7 @@ changed_alike (Known n) x y answered image_end same = row_alike x y answered ima
 
 -- six ranges of arguments, in the order of their registers
 module _ (a b c d e f : Range) (x : ℕ → Range) (at10 : a ≡ x 10) (at11 : b ≡ x 11) (at12 : c ≡ x 12) (at13 : d ≡ x 13) (at14 : e ≡ x 14) (at15 : f ≡ x 15) where
-  six : List Range
+  abbrev six : List Range
   six = a ∷ b ∷ c ∷ d ∷ e ∷ f ∷ []
 
   six_at : (r k : ℕ) → r ≡ k → argument six k ≡ x k → argument six r ≡ x r
