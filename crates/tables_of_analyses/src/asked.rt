@@ -1,14 +1,20 @@
 //! What an analysis answers.
 
+ghost use Rattle.std.specs.Prelude.{◌≡◌, ◌≤◌, true};
+ghost use Rattle.rept_steps.specs.Course.{IsSoundCourse};
+ghost use Rattle.rept_steps.specs.Runs.{course_of};
+
 use rept_amo::Atomic;
 use rept_analysis::{Analysis, Stop, ThreadEnd};
 use rept_dump::Dump;
+use rept_extents::RunRows;
 use rept_isa::Reg;
-use rept_line::OnePath;
 use rept_partial::{Partial, Range};
+use rept_reach::Reaches;
 use rept_reason::{Cell, Fact, Reason};
 use rept_report::Paths;
-use rept_steps::Steps;
+use rept_steps::Run;
+use rept_timeline::{RunPaths, is_small};
 use rept_versions::ByteFacts;
 use std::alloc::{AllocError, Global};
 use test_lines::Numbers;
@@ -20,18 +26,39 @@ pub struct Asked<'a> {
     pub n: &'a Numbers,
 }
 
-/// What is answered over such a store of bytes, and whether an answer that was known changed while more was learnt.
+/// What is answered over such a store of bytes, and whether an answer that was known changed while
+/// more was learnt.
 pub fn over_dump<B: ByteFacts>(
     alloc: Global,
-    steps: &Steps,
+    run: &Run,
+    dump: &Dump<'_>,
+    asked: Asked<'_>,
+) -> Result<String, AllocError>
+    requires { IsSoundCourse (course_of run.now) }
+{
+    if !is_small(run) {
+        return String::from_str(alloc, "too many steps");
+    }
+    let paths = RunPaths::new(alloc, run)?;
+    let rows = RunRows::new(alloc, run, &paths)?;
+    over_rows::<RunRows<'_>, B>(alloc, rows, dump, asked)
+}
+
+/// What is answered over the rows and moments of a run, of which there are few enough.
+fn over_rows<P: Reaches + Drop, B: ByteFacts>(
+    alloc: Global,
+    rows: P,
     dump: &Dump<'_>,
     asked: Asked<'_>,
 ) -> Result<String, AllocError> {
-    let paths = OnePath::new(steps.rows());
-    let mut analysis: Analysis<OnePath<'_>, ThreadEnd, B, Range, Atomic> = Analysis::prepare(
+    if rows.last_point() > 66_560 {
+        return String::from_str(alloc, "too many points");
+    }
+    let last = ThreadEnd::new(dump.status().regs);
+    let mut analysis: Analysis<P, ThreadEnd, B, Range, Atomic> = Analysis::prepare(
         alloc,
-        paths,
-        ThreadEnd::new(dump.status().regs),
+        rows,
+        last,
         dump,
         Atomic::new(),
     )?;
@@ -44,9 +71,9 @@ pub fn over_dump<B: ByteFacts>(
 }
 
 /// Learns all that follows, however often memory runs out, and answers whether an answer that was known changed.
-fn learn<B: ByteFacts>(
+fn learn<P: Reaches + Drop, B: ByteFacts>(
     alloc: Global,
-    analysis: &mut Analysis<OnePath<'_>, ThreadEnd, B, Range, Atomic>,
+    analysis: &mut Analysis<P, ThreadEnd, B, Range, Atomic>,
     asked: Asked<'_>,
 ) -> Result<bool, AllocError> {
     let mut changed = false;
@@ -69,9 +96,9 @@ fn is_known(word: &str, answer: &str) -> bool {
 
 /// The answer in the end: whether `refine` finds no conflict and no want of memory, which conflict it finds, a reason, or what is answered before
 /// too.
-fn finally<B: ByteFacts>(
+fn finally<P: Reaches + Drop, B: ByteFacts>(
     alloc: Global,
-    analysis: &mut Analysis<OnePath<'_>, ThreadEnd, B, Range, Atomic>,
+    analysis: &mut Analysis<P, ThreadEnd, B, Range, Atomic>,
     asked: Asked<'_>,
 ) -> Result<String, AllocError> {
     match asked.word {
@@ -90,9 +117,9 @@ fn finally<B: ByteFacts>(
 }
 
 /// The reason of a fact: its rule, its premises, and the ranges that were looked at.
-fn why<B: ByteFacts>(
+fn why<P: Reaches + Drop, B: ByteFacts>(
     alloc: Global,
-    analysis: &mut Analysis<OnePath<'_>, ThreadEnd, B, Range, Atomic>,
+    analysis: &mut Analysis<P, ThreadEnd, B, Range, Atomic>,
     cell: Option<Cell>,
     n: &Numbers,
 ) -> Result<String, AllocError> {
@@ -101,7 +128,7 @@ fn why<B: ByteFacts>(
         return String::from_str(alloc, "no report");
     }
     match cell {
-        Some(cell) if point <= analysis.paths().last_point() => {
+        Some(cell) if is_there(analysis, point) => {
             match analysis.why(alloc, Fact { point, cell, value })? {
                 None => String::from_str(alloc, "no reason"),
                 Some(reason) => told(alloc, &reason),
@@ -116,14 +143,25 @@ fn told(alloc: Global, reason: &Reason) -> Result<String, AllocError> {
     format!(in alloc; "rule {} {premises:?} {ranges:?}", reason.rule)
 }
 
+/// Whether a number is that of a point and of a moment.
+fn is_there<P: Reaches + Drop, B: ByteFacts>(
+    analysis: &Analysis<P, ThreadEnd, B, Range, Atomic>,
+    point: u32,
+) -> bool
+    ensures point { result ≡ true → point ≤ (P.timeline analysis.now.paths).legs.count }
+    ensures moment { result ≡ true → point ≤ (P.timeline analysis.now.paths).moments.end }
+{
+    point <= analysis.paths().last_point() && point <= analysis.paths().end()
+}
+
 /// What is known of a register or a byte at a point, or which row wrote it last; or how much is known in all.
-fn answer<B: ByteFacts>(
+fn answer<P: Reaches + Drop, B: ByteFacts>(
     alloc: Global,
-    analysis: &Analysis<OnePath<'_>, ThreadEnd, B, Range, Atomic>,
+    analysis: &Analysis<P, ThreadEnd, B, Range, Atomic>,
     asked: Asked<'_>,
 ) -> Result<String, AllocError> {
     let (point, address) = (asked.n.word(0), asked.n.word(1));
-    if point > analysis.paths().last_point() {
+    if !is_there(analysis, point) {
         return String::from_str(alloc, "no point");
     }
     match asked.word {
@@ -134,9 +172,9 @@ fn answer<B: ByteFacts>(
     }
 }
 
-fn register<B: ByteFacts>(
+fn register<P: Reaches + Drop, B: ByteFacts>(
     alloc: Global,
-    analysis: &Analysis<OnePath<'_>, ThreadEnd, B, Range, Atomic>,
+    analysis: &Analysis<P, ThreadEnd, B, Range, Atomic>,
     asked: Asked<'_>,
 ) -> Result<String, AllocError> {
     let point = asked.n.word(0);

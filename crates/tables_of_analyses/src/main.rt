@@ -2,6 +2,9 @@
 //! each with its answer.
 #![tactic(auto)]
 
+ghost use Rattle.rept_steps.specs.Course.{IsSoundCourse};
+ghost use Rattle.rept_steps.specs.Runs.{course_of};
+
 mod asked;
 mod files;
 mod refusing;
@@ -11,7 +14,7 @@ use files::Files;
 use refusing::Refusing;
 use rept_dump::Dump;
 use rept_elf::{Image, Want};
-use rept_steps::Steps;
+use rept_steps::Run;
 use rept_versions::{PlainFacts, SpanFacts};
 use std::alloc::{AllocError, Global};
 use std::io;
@@ -43,11 +46,12 @@ impl Analyses {
         };
         let exe = self.files.exe(alloc)?;
         let core = self.files.core(alloc, &steps)?;
+        let run = Run::one(alloc, steps, 0)?;
         let exe = Image::read(exe.as_slice(), Want::Exec);
         let core = Image::read(core.as_slice(), Want::Core);
         match (exe, core) {
             (Ok(exe), Ok(core)) => match Dump::read(exe, core) {
-                Ok(dump) => alike(alloc, &steps, &dump, asked),
+                Ok(dump) => alike(alloc, &run, &dump, asked),
                 Err(_) => String::from_str(alloc, "no dump"),
             },
             _ => String::from_str(alloc, "no files"),
@@ -56,15 +60,12 @@ impl Analyses {
 }
 
 /// What each kind of store answers: one answer where all say the same.
-fn alike(
-    alloc: Global,
-    steps: &Steps,
-    dump: &Dump<'_>,
-    asked: Asked<'_>,
-) -> Result<String, AllocError> {
-    let plain = over_dump::<PlainFacts>(alloc, steps, dump, asked)?;
-    let spans = over_dump::<SpanFacts>(alloc, steps, dump, asked)?;
-    let refusing = over_dump::<Refusing>(alloc, steps, dump, asked)?;
+fn alike(alloc: Global, run: &Run, dump: &Dump<'_>, asked: Asked<'_>) -> Result<String, AllocError>
+    requires { IsSoundCourse (course_of run.now) }
+{
+    let plain = over_dump::<PlainFacts>(alloc, run, dump, asked)?;
+    let spans = over_dump::<SpanFacts>(alloc, run, dump, asked)?;
+    let refusing = over_dump::<Refusing>(alloc, run, dump, asked)?;
     if plain == spans && plain == refusing {
         return Ok(plain);
     }
