@@ -34,12 +34,13 @@ pub struct Circumstances {
     pub signal: u16,
 }
 
-/// How those questions ended that arrived on an input and were answered on an output: a session, or the dialog of a debugger. `asks` says of
-/// what a session tells of a report, of the signal, and of what was done to both ports that the questions ended so.
+/// How the questions ended that arrived on an input and were answered on an output: a session, or a
+/// debugger's dialog. `asks` relates what a session tells of a report, the signal, and what was done
+/// to both ports, to such an end.
 pub trait Asking: Copy {
     ghost asks: { SessionTold → ℕ → PortMove Port → PortMove Port → Self → Type 0 };
 
-    /// Answers what arrives, by what was found. Reasons may be looked for anew; nothing else of the findings changes.
+    /// Answers what arrives on the input, by what was found.
     fn ask<F: Findings, S: Source, K: Sink>(
         alloc: Global,
         findings: &mut F,
@@ -50,8 +51,9 @@ pub trait Asking: Copy {
         ensures { asks (session_told (F.shown findings.old) circumstances.skipped (F.reasons findings.old)) circumstances.signal (move (S.port input.old) (S.port input.new)) (move (K.port out.old) (K.port out.new)) result };
 }
 
-/// Analyses a run that ends in a dump, with values followed in a domain, and answers what is asked of its report. The refusals are a conflict that the
-/// closure has, with no execution that ends in the dump, and want of memory; nothing was asked then.
+/// Analyses a run that ends in a dump, with values followed in a domain, and answers what is asked
+/// of its report. The refusals are a conflict of the closure, where no execution ends in the dump,
+/// and want of memory. Nothing was asked then.
 pub fn open_report<A: Asking, S: Source, K: Sink>(
     alloc: Global,
     domain: Domain,
@@ -71,7 +73,7 @@ pub fn open_report<A: Asking, S: Source, K: Sink>(
     }
 }
 
-/// Does so with values followed as sets of `W`.
+/// Analyses the run with values followed as sets of `W`, and answers what is asked.
 fn open_by<W: Transfer, A: Asking, S: Source, K: Sink>(
     alloc: Global,
     run: &Run,
@@ -90,7 +92,7 @@ fn open_by<W: Transfer, A: Asking, S: Source, K: Sink>(
     }
 }
 
-/// Does so over what the analysis rests on.
+/// Analyses the run over what the analysis rests on, and answers what is asked.
 fn open_over<W: Transfer, A: Asking, S: Source, K: Sink>(
     alloc: Global,
     run: &Run,
@@ -118,7 +120,7 @@ fn open_over<W: Transfer, A: Asking, S: Source, K: Sink>(
     }
 }
 
-/// Asks by findings that are let go when all is answered.
+/// Answers by findings that are let go when all is answered.
 fn ask_found<A: Asking, F: Findings + Drop, S: Source, K: Sink>(
     alloc: Global,
     findings: F,
