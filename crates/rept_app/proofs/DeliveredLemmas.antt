@@ -6,17 +6,12 @@ use Rattle.std.specs.Io.KnownBytes.{Appends}
 use Rattle.rept_ports.specs.Causes.{OneFault, AppendsPrefix}
 use Rattle.rept_ports.specs.Port.{Port, PortMove, move}
 use Rattle.rept_ports.proofs.CallerLemmas.{Appends-trans, fault_after}
-use Rattle.rept_app.specs.Delivered.{Delivers, SaysOrNoMemory}
+use Rattle.rept_opening.specs.Delivered.{Delivers, SaysOrNoMemory}
 use Rattle.rept_app.specs.Ends.{Yields, FaultEnds, PortsEnd}
-use Rattle.rept_app.specs.Lines.{status_of}
-use Rattle.rept_app.specs.declared.refusal.Refusal.{Refusal}
-use Rattle.rept_app.specs.declared.status.Status.{Status}
-use Rattle.rept_app.specs.declared.status.Status.TheVariants as ends
-
--- what goes with a status by one relation goes with it by a wider one
-pub delivers_as : (Goes Wider : List ℕ → Status → Type 0) (out : PortMove Port) (result : Status) → ((text : List ℕ) (s : Status) → Goes text s → Wider text s) → Delivers Goes out result → Delivers Wider out result
-delivers_as Goes Wider out result wider (inl h) = inl (h.0, wider h.0 result h.1, h.2, h.3)
-delivers_as Goes Wider out result wider (inr h) = inr (h.0, h.1, (h.2.0, h.2.1, wider h.2.0 h.2.1 h.2.2, h.2.3))
+use Rattle.rept_opening.specs.Lines.{status_of}
+use Rattle.rept_opening.specs.declared.refusal.Refusal.{Refusal}
+use Rattle.rept_opening.specs.declared.status.Status.{Status}
+use Rattle.rept_opening.specs.declared.status.Status.TheVariants as ends
 
 -- a prefix of what follows
 pub prefix_after : (old mid new : Option (List ℕ)) (front whole : List ℕ) → Appends old mid front → AppendsPrefix mid new whole → AppendsPrefix old new (front ++ whole)

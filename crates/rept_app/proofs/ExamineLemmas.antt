@@ -8,21 +8,22 @@ use Rattle.rept_steps.specs.declared.run.Run.{Run}
 use Rattle.rept_runs.specs.Kind.{is_several}
 use Rattle.rept_ports.specs.Port.{Port, PortMove}
 use Rattle.rept_serve.specs.Serving.{Reading}
-use Rattle.rept_app.specs.Delivered.{SaysOrNoMemory, SaysRefusal}
+use Rattle.rept_opening.specs.Delivered.{SaysOrNoMemory, SaysRefusal}
 use Rattle.rept_app.specs.Ends.{Stopped, Yields, PortsEnd}
 use Rattle.rept_app.specs.Examine.{WalksTrace, Examines, RunYields, WalkYields, NoteYields, FilesEnd, FilesHold, IsRunStatus, IsWalkStatus, IsWalked, IsExamined, TraceExcludes, FilesExclude, WalkHolds}
-use Rattle.rept_app.specs.Forms.{executable_fault, program_fault, core_image_fault}
-use Rattle.rept_app.specs.Lines.{status_of}
-use Rattle.rept_app.specs.Reading.{HasNoCrash, HasNoDump, NotesRefuse}
+use Rattle.rept_opening.specs.Forms.{executable_fault, program_fault, core_image_fault}
+use Rattle.rept_opening.specs.Lines.{status_of}
+use Rattle.rept_opening.specs.Reading.{HasNoCrash, HasNoDump, NotesRefuse}
 use Rattle.rept_app.specs.Study.{Studies, IsStudied, StudyHolds}
-use Rattle.rept_app.specs.Loading.{CrashBytes}
-use Rattle.rept_app.specs.Told.{CoreSays, CrashTrace, trace_in, run_in, Examined, NotesTold, ReadsNotes}
-use Rattle.rept_app.specs.TraceRun.{IsRunOf, HasNoRunOf}
-use Rattle.rept_app.specs.True.{IsExcluded}
-use Rattle.rept_app.specs.declared.refusal.Refusal.{Refusal}
-use Rattle.rept_app.specs.declared.refusal.Refusal.TheVariants as refusal
-use Rattle.rept_app.specs.declared.status.Status.{Status}
-use Rattle.rept_app.specs.declared.status.Status.TheVariants as ends
+use Rattle.rept_opening.specs.Loading.{CrashBytes}
+use Rattle.rept_opening.specs.Opened.{CoreSays, CrashTrace, trace_in, run_in, ReadsNotes}
+use Rattle.rept_app.specs.Told.{Examined, NotesTold}
+use Rattle.rept_opening.specs.TraceRun.{IsRunOf, HasNoRunOf}
+use Rattle.rept_opening.specs.True.{IsExcluded}
+use Rattle.rept_opening.specs.declared.refusal.Refusal.{Refusal}
+use Rattle.rept_opening.specs.declared.refusal.Refusal.TheVariants as refusal
+use Rattle.rept_opening.specs.declared.status.Status.{Status}
+use Rattle.rept_opening.specs.declared.status.Status.TheVariants as ends
 
 -- how a call ends that tells why there is no run
 abbrev pub WalkTold : Status → Type 0

@@ -1,8 +1,8 @@
 -- The status of a load that failed.
 use Rattle.std.proofs.Common.{◌≡◌, ℕ, List, inl, inr}
 use Rattle.rept_app.specs.Told.{CallInput, LoadFailed}
-use Rattle.rept_app.specs.declared.status.Status.{Status}
-use Rattle.rept_app.specs.declared.status.Status.TheVariants as ends
+use Rattle.rept_opening.specs.declared.status.Status.{Status}
+use Rattle.rept_opening.specs.declared.status.Status.TheVariants as ends
 
 -- a load that failed ends with its status
 pub load_ending : (g : CallInput) (text : List ℕ) (status : Status) → LoadFailed g text status → status ≡ ends.LoadFault

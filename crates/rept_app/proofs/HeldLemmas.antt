@@ -7,14 +7,14 @@ use Rattle.rept_session.specs.Shown.{SessionTold}
 use Rattle.rept_serve.specs.Serving.{Reading, Serves, CountsAt, IsServeCaused as IsServed}
 use Rattle.rept_serve.specs.declared.serving.Served.{Served}
 use Rattle.rept_serve.specs.declared.serving.Served.TheVariants as served
-use Rattle.rept_app.specs.Delivered.{Delivers}
+use Rattle.rept_opening.specs.Delivered.{Delivers}
 use Rattle.rept_app.specs.Ends.{FaultEnds, EndsSession, IsCaused, TellsInputFault, Yields}
 use Rattle.rept_app.specs.Held.{IsHeldSession}
-use Rattle.rept_app.specs.Lines.{line_of}
-use Rattle.rept_app.specs.declared.refusal.Refusal.{Refusal}
-use Rattle.rept_app.specs.declared.refusal.Refusal.TheVariants as refusal
-use Rattle.rept_app.specs.declared.status.Status.{Status}
-use Rattle.rept_app.specs.declared.status.Status.TheVariants as ends
+use Rattle.rept_opening.specs.Lines.{line_of}
+use Rattle.rept_opening.specs.declared.refusal.Refusal.{Refusal}
+use Rattle.rept_opening.specs.declared.refusal.Refusal.TheVariants as refusal
+use Rattle.rept_opening.specs.declared.status.Status.{Status}
+use Rattle.rept_opening.specs.declared.status.Status.TheVariants as ends
 use Rattle.rept_app.proofs.DeliveredLemmas.{delivers_after, prefix_of_longer}
 
 abbrev pub reading_here : List ℕ → Port → Reading

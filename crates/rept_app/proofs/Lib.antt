@@ -1,6 +1,4 @@
 pub mod HeldLemmas
-pub mod LoadLemmas
-pub mod PathLemmas
 pub mod DeliveredLemmas
 pub mod ExamineLemmas
 pub mod StudyLemmas
@@ -9,12 +7,9 @@ pub mod TopLemmas
 pub mod MadeLemmas
 pub mod WordsLemmas
 pub mod PromiseLemmas
-pub mod ReadingLemmas
-pub mod RunLemmas
 pub mod Counted
 pub mod Failing
 pub mod MappedLemmas
 pub mod MappedTop
 pub mod MappedExits
-pub mod Notes
 pub mod TrueLemmas

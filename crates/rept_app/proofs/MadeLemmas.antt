@@ -31,26 +31,28 @@ use Rattle.rept_make.specs.Laid.{laid}
 use Rattle.rept_make.specs.Made.{IsMade}
 use Rattle.rept_make.specs.declared.made.Made.{Made}
 use Rattle.rept_words.specs.declared.request.Domain.TheVariants as domain
-use Rattle.rept_app.specs.Delivered.{Delivers, SaysOrNoMemory, SaysRefusal}
-use Rattle.rept_app.specs.Domains.{means_of}
+use Rattle.rept_opening.specs.Delivered.{Delivers, SaysOrNoMemory, SaysRefusal}
+use Rattle.rept_opening.specs.Domains.{means_of}
 use Rattle.rept_app.specs.Ends.{Yields, EndsSession, PortsEnd}
 use Rattle.rept_app.specs.Examine.{Examines, WalkYields, NoteYields, FilesEnd}
-use Rattle.rept_app.specs.Forms.{program_fault, core_image_fault, crash_in}
-use Rattle.rept_app.specs.Lines.{status_of}
+use Rattle.rept_opening.specs.Forms.{program_fault, core_image_fault, crash_in}
+use Rattle.rept_opening.specs.Lines.{status_of}
 use Rattle.rept_app.specs.MadeRun.{Sums}
 use Rattle.rept_app.specs.Claims.{MadeHolds}
-use Rattle.rept_app.specs.Path.{IsTracePath}
-use Rattle.rept_app.specs.Reading.{NotesSay}
-use Rattle.rept_app.specs.Loading.{CrashBytes}
-use Rattle.rept_app.specs.Told.{CoreSays, CrashTrace, trace_in, NotesTold, WalkedTrace, ReadsNotes, Opening, OpensMade, made_bytes, run_at, summary_line}
-use Rattle.rept_app.specs.TraceRun.{IsRunOf}
-use Rattle.rept_app.specs.True.{IsExecuted}
-use Rattle.rept_app.specs.declared.refusal.Refusal.TheVariants as refusal
-use Rattle.rept_app.specs.declared.status.Status.{Status}
-use Rattle.rept_app.specs.declared.status.Status.TheVariants as ends
-use Rattle.rept_app.proofs.RunLemmas.{one_stream_file, path_told}
-use Rattle.rept_app.proofs.TrueLemmas.{TrueOf, opened_whole}
-use Rattle.rept_app.proofs.DeliveredLemmas.{delivers_as, ends_told, told_ports}
+use Rattle.rept_opening.specs.Path.{IsTracePath}
+use Rattle.rept_opening.specs.Reading.{NotesSay}
+use Rattle.rept_opening.specs.Loading.{CrashBytes}
+use Rattle.rept_opening.specs.Opened.{CoreSays, CrashTrace, trace_in, ReadsNotes, Opening, run_at}
+use Rattle.rept_app.specs.Told.{NotesTold, WalkedTrace, OpensMade, made_bytes, summary_line}
+use Rattle.rept_opening.specs.TraceRun.{IsRunOf}
+use Rattle.rept_opening.specs.True.{IsExecuted}
+use Rattle.rept_opening.specs.declared.refusal.Refusal.TheVariants as refusal
+use Rattle.rept_opening.specs.declared.status.Status.{Status}
+use Rattle.rept_opening.specs.declared.status.Status.TheVariants as ends
+use Rattle.rept_opening.proofs.RunLemmas.{one_stream_file, path_told}
+use Rattle.rept_opening.proofs.TrueLemmas.{TrueOf, opened_whole}
+use Rattle.rept_opening.proofs.DeliveredLemmas.{delivers_as}
+use Rattle.rept_app.proofs.DeliveredLemmas.{ends_told, told_ports}
 
 -- the registers that an analysis begins from are those of the note
 register_at : (note : List ℕ) (r : ℕ) → 0 < r → last_value note r ≡ word_at note (72 + 4 * r)

@@ -6,22 +6,24 @@ use Rattle.rept_mapped.specs.Mapped.{Mapping}
 use Rattle.rept_mapfiles.specs.Kept.{asked_names, loads_after}
 use Rattle.rept_ports.specs.Port.{Port, PortMove, move}
 use Rattle.rept_ports.specs.Shelves.{Files, Shelved}
-use Rattle.rept_app.specs.Delivered.{Delivers, SaysOrNoMemory, SaysRefusal}
+use Rattle.rept_opening.specs.Delivered.{Delivers, SaysOrNoMemory, SaysRefusal, TellsName}
 use Rattle.rept_app.specs.Ends.{EndsSession, Stopped, Yields}
 use Rattle.rept_app.specs.Examine.{Examines, FilesEnd, FilesExclude, FilesHold, IsExamined}
-use Rattle.rept_app.specs.Forms.{core_image_fault}
-use Rattle.rept_app.specs.Lines.{status_of}
-use Rattle.rept_app.specs.Listed.{AreLoaded, HasNoFiles, IsListRefused, LoadStops}
-use Rattle.rept_app.specs.Loading.{CoreBytes, parts_bytes}
-use Rattle.rept_app.specs.Mapped.{ListSays, NamesLoaded, mapped_crash, mapped_files}
-use Rattle.rept_app.specs.MappedEnds.{ExaminesMapped, IsExaminedMapped, MappedCall, MappedEnd, MappedExcludes, MappedHolds, TellsName, mapped_call, port_moves}
-use Rattle.rept_app.specs.declared.listed.ListStop.TheVariants as stops
-use Rattle.rept_app.specs.declared.listed.ListedFiles.{ListedFiles}
-use Rattle.rept_app.specs.declared.refusal.Refusal.{Refusal}
-use Rattle.rept_app.specs.declared.refusal.Refusal.TheVariants as refusal
-use Rattle.rept_app.specs.declared.status.Status.{Status}
-use Rattle.rept_app.specs.declared.status.Status.TheVariants as ends
-use Rattle.rept_app.proofs.DeliveredLemmas.{delivers_as, ends_told, not_yielded, told_ports}
+use Rattle.rept_opening.specs.Forms.{core_image_fault}
+use Rattle.rept_opening.specs.Lines.{status_of}
+use Rattle.rept_opening.specs.Listed.{AreLoaded, HasNoFiles, IsListRefused, LoadStops}
+use Rattle.rept_opening.specs.Loading.{CoreBytes, parts_bytes}
+use Rattle.rept_opening.specs.Mapped.{ListSays, mapped_crash, mapped_files}
+use Rattle.rept_app.specs.Mapped.{NamesLoaded}
+use Rattle.rept_app.specs.MappedEnds.{ExaminesMapped, IsExaminedMapped, MappedCall, MappedEnd, MappedExcludes, MappedHolds, mapped_call, port_moves}
+use Rattle.rept_opening.specs.declared.listed.ListStop.TheVariants as stops
+use Rattle.rept_opening.specs.declared.listed.ListedFiles.{ListedFiles}
+use Rattle.rept_opening.specs.declared.refusal.Refusal.{Refusal}
+use Rattle.rept_opening.specs.declared.refusal.Refusal.TheVariants as refusal
+use Rattle.rept_opening.specs.declared.status.Status.{Status}
+use Rattle.rept_opening.specs.declared.status.Status.TheVariants as ends
+use Rattle.rept_opening.proofs.DeliveredLemmas.{delivers_as}
+use Rattle.rept_app.proofs.DeliveredLemmas.{ends_told, not_yielded, told_ports}
 use Rattle.rept_app.proofs.MadeLemmas.{memory_ports}
 use Rattle.rept_app.proofs.MappedLemmas.{Ended, calm_move, core_ends, core_not_loading, ended_move, examined_so, files_excluded, files_held, files_written, idle_move, image_written, image_yields, list_ends, list_written, list_yields, memory_stopped, name_ports, name_told, name_written, named_so, named_yields, never_loading, stopped_move, stopped_so, stopped_yields, where_both, where_files}
 

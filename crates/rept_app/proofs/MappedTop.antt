@@ -6,24 +6,27 @@ use Rattle.rept_ports.specs.Shelves.{Files, Shelved}
 use Rattle.rept_serve.specs.Serving.{Reading}
 use Rattle.rept_app.specs.Ends.{EndsSession, FaultEnds, Stopped}
 use Rattle.rept_app.specs.Examine.{IsWalkStatus}
-use Rattle.rept_app.specs.Loading.{CoreBytes, CrashBytes, Loading, loading, LoadsBoth, NamesNone, IsAsked, core_loads_to}
-use Rattle.rept_app.specs.Loading.Loading.{LoadedCore}
-use Rattle.rept_app.specs.Mapped.{IsMappedAs, NameFails, NamesLoaded, mapped_crash}
+use Rattle.rept_opening.specs.Loading.{CoreBytes, CrashBytes, Loading, loading, LoadsBoth, NamesNone, IsAsked, core_loads_to, FaultsEnd}
+use Rattle.rept_opening.specs.Loading.Loading.{LoadedCore}
+use Rattle.rept_opening.specs.Mapped.{IsMappedAs, mapped_crash}
+use Rattle.rept_app.specs.Mapped.{NameFails, NamesLoaded}
 use Rattle.rept_app.specs.MappedEnds.{ExaminesMapped, IsExaminedMapped, MappedEnd, MappedExcludes, MappedHolds, mapped_call, port_moves}
 use Rattle.rept_app.specs.Claims.{ComeToReport, NoExecution}
-use Rattle.rept_app.specs.Told.{CallInput, call_input, IsCrashOf, ToldOf, CallWrites}
-use Rattle.rept_app.specs.Top.{AskedEnds, EndsAt, EndsByFiles, FaultsEnd, LacksFile, LoadEnds, LoadsOf, ShelfCauses, TopCauses}
+use Rattle.rept_app.specs.Told.{CallInput, call_input, ToldOf, CallWrites}
+use Rattle.rept_opening.specs.Opened.{IsCrashOf}
+use Rattle.rept_app.specs.Top.{AskedEnds, EndsAt, EndsByFiles, LacksFile, LoadEnds, LoadsOf, ShelfCauses, TopCauses}
 use Rattle.rept_words.specs.Words.{Meaning}
 use Rattle.rept_words.specs.Words.Meaning.{Open, Maps, Made}
-use Rattle.rept_app.specs.declared.load.Asked.{Asked}
-use Rattle.rept_app.specs.declared.load.Asked.TheVariants as asked
-use Rattle.rept_app.specs.declared.load.CoreFiles.{CoreFiles}
-use Rattle.rept_app.specs.declared.refusal.FileKind.TheVariants as file
-use Rattle.rept_app.specs.declared.refusal.Refusal.{Refusal}
-use Rattle.rept_app.specs.declared.status.Status.{Status}
-use Rattle.rept_app.specs.declared.status.Status.TheVariants as ends
+use Rattle.rept_opening.specs.declared.load.Asked.{Asked}
+use Rattle.rept_opening.specs.declared.load.Asked.TheVariants as asked
+use Rattle.rept_opening.specs.declared.load.CoreFiles.{CoreFiles}
+use Rattle.rept_opening.specs.declared.refusal.FileKind.TheVariants as file
+use Rattle.rept_opening.specs.declared.refusal.Refusal.{Refusal}
+use Rattle.rept_opening.specs.declared.status.Status.{Status}
+use Rattle.rept_opening.specs.declared.status.Status.TheVariants as ends
 use Rattle.rept_app.proofs.MappedLemmas.{not_walked_so}
-use Rattle.rept_app.proofs.TopLemmas.{ok_at, opening}
+use Rattle.rept_opening.proofs.LoadingLemmas.{ok_at}
+use Rattle.rept_app.proofs.TopLemmas.{opening}
 
 -- both files were loaded
 pub both_at : (r : Result Asked Refusal) (a : Asked) (l : CoreFiles) (m : Option Meaning) (old new : Shelved) → r ≡ Ok a → a ≡ asked.Maps l → IfOk r (λ x. IsAsked x m (move old new)) → LoadsBoth m l.core.items (move old new)

@@ -7,28 +7,29 @@ use Rattle.rept_elf.specs.declared.fault.ElfFault.{ElfFault}
 use Rattle.rept_maps.specs.declared.fault.MapFault.{MapFault}
 use Rattle.rept_path.specs.declared.fault.PathFault.{PathFault}
 use Rattle.rept_path.specs.declared.fault.PathFault.TheVariants as fault
-use Rattle.rept_app.specs.Delivered.{Delivers, SaysRefusal}
+use Rattle.rept_opening.specs.Delivered.{Delivers, SaysRefusal}
 use Rattle.rept_app.specs.Ends.{Yields}
-use Rattle.rept_app.specs.Forms.{program_fault, core_image_fault}
-use Rattle.rept_app.specs.Lines.{status_of, status_of_path}
-use Rattle.rept_app.specs.Loading.{CrashBytes, crash_bytes, CoreBytes, core_bytes, Loading, loading, loading_by, fetched, fetched_all, fetched_core, manner_of, limit_of}
-use Rattle.rept_app.specs.Loading.Loading.{Refused, Loaded, LoadedCore, MadeRun}
-use Rattle.rept_app.specs.Mapped.{mapped_crash, mapped_bytes, ListSays}
+use Rattle.rept_opening.specs.Forms.{program_fault, core_image_fault}
+use Rattle.rept_opening.specs.Lines.{status_of, status_of_path}
+use Rattle.rept_opening.specs.Loading.{CrashBytes, crash_bytes, CoreBytes, core_bytes, Loading, loading, loading_by, fetched, fetched_all, fetched_core, manner_of, limit_of}
+use Rattle.rept_opening.specs.Loading.Loading.{Refused, Loaded, LoadedCore, MadeRun}
+use Rattle.rept_opening.specs.Mapped.{mapped_crash, mapped_bytes, ListSays}
 use Rattle.rept_app.specs.Claims.{NoExecution}
 use Rattle.rept_app.specs.Promise.{IsOpened, IsAnswered, IsImpossible, Promise}
-use Rattle.rept_app.specs.Told.{CallInput, Opening, ReadsNotes, Analysed, WalkedTrace, NotesTold, Examined, CallTold, ToldOf, IsCrashOf, CallWrites, crash_at, domain_at, run_at, trace_in, made_bytes, summary_line}
-use Rattle.rept_app.specs.TraceRun.{IsRunOf}
+use Rattle.rept_app.specs.Told.{CallInput, Analysed, WalkedTrace, NotesTold, Examined, CallTold, ToldOf, CallWrites, made_bytes, summary_line}
+use Rattle.rept_opening.specs.Opened.{Opening, ReadsNotes, IsCrashOf, crash_at, domain_at, run_at, trace_in}
+use Rattle.rept_opening.specs.TraceRun.{IsRunOf}
 use Rattle.rept_app.specs.Top.{EndsAt, EndsByFiles}
-use Rattle.rept_app.specs.declared.refusal.FileKind.{FileKind}
-use Rattle.rept_app.specs.declared.refusal.FileKind.TheVariants as file
-use Rattle.rept_app.specs.declared.refusal.Refusal.{Refusal}
-use Rattle.rept_app.specs.declared.refusal.Refusal.TheVariants as refusal
-use Rattle.rept_app.specs.declared.status.Status.{Status}
-use Rattle.rept_app.specs.declared.status.Status.TheVariants as ends
-use Rattle.rept_app.specs.declared.load.Manner.{Manner}
+use Rattle.rept_opening.specs.declared.refusal.FileKind.{FileKind}
+use Rattle.rept_opening.specs.declared.refusal.FileKind.TheVariants as file
+use Rattle.rept_opening.specs.declared.refusal.Refusal.{Refusal}
+use Rattle.rept_opening.specs.declared.refusal.Refusal.TheVariants as refusal
+use Rattle.rept_opening.specs.declared.status.Status.{Status}
+use Rattle.rept_opening.specs.declared.status.Status.TheVariants as ends
+use Rattle.rept_opening.specs.declared.load.Manner.{Manner}
 use Rattle.rept_app.proofs.Failing.{load_ending}
-use Rattle.rept_app.proofs.RunLemmas.{IsWhole}
-use Rattle.rept_app.proofs.TrueLemmas.{ReportsAreTrue, opened_whole}
+use Rattle.rept_opening.proofs.RunLemmas.{IsWhole}
+use Rattle.rept_opening.proofs.TrueLemmas.{ReportsAreTrue, opened_whole}
 use Rattle.rept_words.specs.Words.{CoreNames, Names, Meaning, meaning_of}
 use Rattle.rept_words.specs.Words.Meaning.{Open, Maps, Made as MadeWords}
 use Rattle.rept_words.specs.declared.request.Domain.TheVariants as domain

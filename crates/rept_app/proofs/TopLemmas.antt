@@ -1,6 +1,5 @@
 -- How the top call ends, from how its parts end.
-use Rattle.std.proofs.Common.{◌≡◌, ◌⊎◌, ℕ, ◌+◌, ◌<◌, ◌≤◌, List, length, Bool, true, false, Option, None, Some, MatchOption, IfSome, Result, Ok, IfOk, OnOk, inl, inr, refl, sym, ap, subst, ◌∙◌, arith, cond, nat_lt}
-use Rattle.std.proofs.lemmas.Bool.Decides.{nat_tests}
+use Rattle.std.proofs.Common.{◌≡◌, ◌⊎◌, ℕ, ◌+◌, ◌<◌, ◌≤◌, List, Option, None, Some, MatchOption, IfSome, Result, Ok, IfOk, OnOk, inl, inr, refl, sym, ap, subst, ◌∙◌, arith}
 use Rattle.rept_ports.specs.Causes.{Rose, OneFault}
 use Rattle.rept_ports.specs.Port.{Port, PortMove, move}
 use Rattle.rept_ports.specs.Shelves.{Files, Shelved, IsOver}
@@ -8,189 +7,42 @@ use Rattle.rept_steps.specs.declared.run.Run.{Run}
 use Rattle.rept_session.specs.Shown.{SessionTold}
 use Rattle.rept_found.specs.Telling.{told_on}
 use Rattle.rept_serve.specs.Serving.{Reading}
-use Rattle.rept_app.specs.Delivered.{Delivers, SaysOrNoMemory, SaysRefusal}
+use Rattle.rept_opening.specs.Delivered.{Delivers, SaysOrNoMemory, SaysRefusal}
 use Rattle.rept_app.specs.Ends.{Stopped, Yields, EndsSession, FaultEnds, PortsEnd}
 use Rattle.rept_app.specs.Held.{CutOff}
 use Rattle.rept_app.specs.Examine.{Examines, IsExamined, IsWalkStatus, FilesExclude, FilesHold}
-use Rattle.rept_app.specs.Lines.{status_of}
-use Rattle.rept_app.specs.Loading.{CrashBytes, crash_bytes, core_bytes, Loading, loading, loading_by, fetched, fetched_all, fetched_core, limit_of, FileFits, FitBefore, CoreFitBefore, name_of, core_name_of, loads_to, core_loads_to, ComesTo, ComesToCore, LoadRefuses, MeaningStops, LoadingStops, LoadsAll, NamesNone, IsAsked, manner_of}
-use Rattle.rept_app.specs.Loading.Loading.{Refused, Loaded, LoadedCore, MadeRun}
-use Rattle.rept_app.specs.Mapped.{mapped_crash}
+use Rattle.rept_opening.specs.Lines.{status_of}
+use Rattle.rept_opening.specs.Loading.{CrashBytes, crash_bytes, Loading, loading, loading_by, limit_of, name_of, core_name_of, MeaningStops, LoadingStops, LoadsAll, NamesNone, IsAsked, manner_of}
+use Rattle.rept_opening.specs.Loading.Loading.{Refused, Loaded, LoadedCore, MadeRun}
+use Rattle.rept_opening.specs.Mapped.{mapped_crash}
 use Rattle.rept_app.specs.MadeRun.{Sums}
 use Rattle.rept_app.specs.Claims.{ComeToReport, MadeHolds, AskedHolds, NoExecution}
-use Rattle.rept_app.specs.Told.{CallInput, call_input, ToldOf, IsCrashOf, summary_line, Opening, CallWrites, route_at}
+use Rattle.rept_app.specs.Told.{CallInput, call_input, ToldOf, summary_line, CallWrites}
+use Rattle.rept_opening.specs.Opened.{IsCrashOf, Opening, route_at}
 use Rattle.rept_app.specs.Top.{TopCauses, ShelfCauses, LacksFile, LoadEnds, LoadsOf, EndsAt, EndsByFiles, AskedEnds, NoneFails, Completes}
-use Rattle.rept_words.specs.Words.{CoreNames, Names, Meaning, meaning_of}
+use Rattle.rept_words.specs.Words.{Meaning, meaning_of}
 use Rattle.rept_words.specs.Words.Meaning.{Open, Maps, Made}
-use Rattle.rept_words.specs.declared.request.Domain.{Domain}
 use Rattle.rept_words.specs.declared.request.Domain.TheVariants as domain
-use Rattle.rept_app.specs.declared.load.Manner.{Manner}
-use Rattle.rept_app.specs.declared.load.Asked.{Asked}
-use Rattle.rept_app.specs.declared.load.Asked.TheVariants as asked
-use Rattle.rept_app.specs.declared.load.CrashFiles.{CrashFiles}
-use Rattle.rept_app.specs.declared.refusal.FileKind.{FileKind}
-use Rattle.rept_app.specs.declared.refusal.FileKind.TheVariants as file
-use Rattle.rept_app.specs.declared.refusal.Refusal.{Refusal}
-use Rattle.rept_app.specs.declared.refusal.Refusal.TheVariants as refusal
-use Rattle.rept_app.specs.declared.status.Status.{Status}
-use Rattle.rept_app.specs.declared.status.Status.TheVariants as ends
+use Rattle.rept_opening.specs.declared.load.Manner.{Manner}
+use Rattle.rept_opening.specs.declared.load.Asked.{Asked}
+use Rattle.rept_opening.specs.declared.load.Asked.TheVariants as asked
+use Rattle.rept_opening.specs.declared.load.CrashFiles.{CrashFiles}
+use Rattle.rept_opening.specs.declared.refusal.FileKind.{FileKind}
+use Rattle.rept_opening.specs.declared.refusal.FileKind.TheVariants as file
+use Rattle.rept_opening.specs.declared.refusal.Refusal.{Refusal}
+use Rattle.rept_opening.specs.declared.refusal.Refusal.TheVariants as refusal
+use Rattle.rept_opening.specs.declared.status.Status.{Status}
+use Rattle.rept_opening.specs.declared.status.Status.TheVariants as ends
 use Rattle.rept_app.proofs.ExamineLemmas.{stopped_end}
 use Rattle.rept_app.proofs.Counted.{counted}
 use Rattle.rept_app.proofs.Failing.{load_ending}
 use Rattle.rept_app.proofs.MappedLemmas.{mapped_stopped}
-
--- why one file isn't loaded, one case after the other
-abbrev pub Why : Shelved → Shelved → List ℕ → FileKind → Refusal → Type 0
-Why old new name kind r =
-    ((r ≡ refusal.LoadFault kind) × Rose old.faults new.faults)
-    ⊎ ((r ≡ refusal.NoFile kind) × MatchOption old.files (Rose old.faults new.faults) (λ files. (files name ≡ None) × (new.faults ≡ old.faults)))
-    ⊎ ((r ≡ refusal.TooLarge kind) × MatchOption old.files (Rose old.faults new.faults) (λ files. IsOver files name (limit_of kind) × (new.faults ≡ old.faults)))
-    ⊎ (r ≡ refusal.OutOfMemory)
-
-why : (old new : Shelved) (name : List ℕ) (kind : FileKind) (r : Refusal) → LoadRefuses (move old new) name kind r → Why old new name kind r
-why old new name kind (refusal.LoadFault k) h = inl (ap refusal.LoadFault h.0, h.1)
-why old new name kind (refusal.NoFile k) h = inr (inl (ap refusal.NoFile h.0, h.1))
-why old new name kind (refusal.TooLarge k) h = inr (inr (inl (ap refusal.TooLarge h.0, h.1)))
-why old new name kind refusal.OutOfMemory h = inr (inr (inr refl))
-why old new name kind refusal.Usage h = absurd h
-why old new name kind refusal.TooMuchInput h = absurd h
-why old new name kind (refusal.Executable f) h = absurd h
-why old new name kind (refusal.CoreImage f) h = absurd h
-why old new name kind (refusal.Core f) h = absurd h
-why old new name kind (refusal.Maps f) h = absurd h
-why old new name kind (refusal.Path f) h = absurd h
-why old new name kind (refusal.Inconsistent k) h = absurd h
-why old new name kind refusal.InputFault h = absurd h
-
--- what holds where files are told
-pub at_told : (o : Option Files) (P : Type 0) (Q : Files → Type 0) (files : Files) → o ≡ Some files → MatchOption o P Q → Q files
-at_told o P Q files e h = subst (λ (x : Option Files). MatchOption x P Q) e h
-
-at_files : (o : Option Files) (Q : Files → Type 0) (files : Files) → o ≡ Some files → IfSome o Q → Q files
-at_files o Q files e h = subst (λ (x : Option Files). IfSome x Q) e h
-
--- the files come to the first one that is refused
-not_over : (limit n : ℕ) → n ≤ limit → nat_lt limit n ≡ false
-not_over limit n h = grind (arith, nat_tests)
-
-is_over : (limit n : ℕ) → limit < n → nat_lt limit n ≡ true
-is_over limit n h = grind (arith, nat_tests)
-
-module _ (files : Files) (names : Names) (manner : Manner) where
-  passes : (kind : FileKind) (name : List ℕ) (next : List ℕ → Loading) (fits : FileFits files kind name) → fetched kind (files name) next ≡ next fits.0
-  passes kind name next fits =
-      ap (λ (o : Option (List ℕ)). fetched kind o next) fits.1 ∙ ap (λ (b : Bool). cond b (Refused (refusal.TooLarge kind)) (next fits.0)) (not_over (limit_of kind) (length fits.0) fits.2)
-
-  after_core : List ℕ → List ℕ → Loading
-  after_core exe core = fetched file.Trace (files names.trace) (λ trace. Loaded (crash_bytes exe core trace manner))
-
-  after_exe : List ℕ → Loading
-  after_exe exe = fetched file.Core (files names.core) (λ core. after_core exe core)
-
-  comes_to : (kind : FileKind) (r : Refusal) → FitBefore files names kind → ((next : List ℕ → Loading) → fetched kind (files (name_of names kind)) next ≡ Refused r) → fetched_all files names manner ≡ Refused r
-  unfolding after_exe after_core
-  comes_to file.Exe r before h = h after_exe
-  comes_to file.Core r before h = passes file.Exe names.exe after_exe before ∙ h (after_core before.0)
-  comes_to file.Trace r before h = passes file.Exe names.exe after_exe before.0 ∙ passes file.Core names.core (after_core before.0.0) before.1 ∙ h (λ trace. Loaded (crash_bytes before.0.0 before.1.0 trace manner))
-
-  lacks : (kind : FileKind) → FitBefore files names kind → files (name_of names kind) ≡ None → fetched_all files names manner ≡ Refused (refusal.NoFile kind)
-  lacks kind before none = comes_to kind (refusal.NoFile kind) before (λ next. ap (λ (o : Option (List ℕ)). fetched kind o next) none)
-
-  over : (kind : FileKind) → FitBefore files names kind → IsOver files (name_of names kind) (limit_of kind) → fetched_all files names manner ≡ Refused (refusal.TooLarge kind)
-  over kind before large = comes_to kind (refusal.TooLarge kind) before
-      (λ next. ap (λ (o : Option (List ℕ)). fetched kind o next) large.1 ∙ ap (λ (b : Bool). cond b (Refused (refusal.TooLarge kind)) (next large.0)) (is_over (limit_of kind) (length large.0) large.2))
-
--- a core file and a trace come to the first one that is refused
-module _ (files : Files) (names : CoreNames) (manner : Manner) where
-  core_passes : (fits : FileFits files file.Core names.core) (next : List ℕ → Loading) → fetched file.Core (files names.core) next ≡ next fits.0
-  core_passes fits next =
-      ap (λ (o : Option (List ℕ)). fetched file.Core o next) fits.1 ∙ ap (λ (b : Bool). cond b (Refused (refusal.TooLarge file.Core)) (next fits.0)) (not_over (limit_of file.Core) (length fits.0) fits.2)
-
-  trace_of : List ℕ → Loading
-  trace_of core = fetched file.Trace (files names.trace) (λ trace. LoadedCore (core_bytes core trace manner))
-
-  core_comes_to : (kind : FileKind) (r : Refusal) → CoreFitBefore files names kind → ((next : List ℕ → Loading) → fetched kind (files (core_name_of names kind)) next ≡ Refused r) → fetched_core files names manner ≡ Refused r
-  unfolding trace_of
-  core_comes_to file.Exe r before h = absurd before
-  core_comes_to file.Core r before h = h trace_of
-  core_comes_to file.Trace r before h = core_passes before trace_of ∙ h (λ trace. LoadedCore (core_bytes before.0 trace manner))
-
-  core_lacks : (kind : FileKind) → CoreFitBefore files names kind → files (core_name_of names kind) ≡ None → fetched_core files names manner ≡ Refused (refusal.NoFile kind)
-  core_lacks kind before none = core_comes_to kind (refusal.NoFile kind) before (λ next. ap (λ (o : Option (List ℕ)). fetched kind o next) none)
-
-  core_over : (kind : FileKind) → CoreFitBefore files names kind → IsOver files (core_name_of names kind) (limit_of kind) → fetched_core files names manner ≡ Refused (refusal.TooLarge kind)
-  core_over kind before large = core_comes_to kind (refusal.TooLarge kind) before
-      (λ next. ap (λ (o : Option (List ℕ)). fetched kind o next) large.1 ∙ ap (λ (b : Bool). cond b (Refused (refusal.TooLarge kind)) (next large.0)) (is_over (limit_of kind) (length large.0) large.2))
-
--- files are to be loaded
-abbrev pub LoadsFiles : Loading → Type 0
-LoadsFiles (MadeRun seed steps) = ⊥
-LoadsFiles _ = Unit {0}
-
-either_loads : (b : Bool) (r : Refusal) (l : Loading) → LoadsFiles l → LoadsFiles (cond b (Refused r) l)
-either_loads true r l h = tt
-either_loads false r l h = h
-
-one_fetched : (kind : FileKind) (o : Option (List ℕ)) (next : List ℕ → Loading) → ((bytes : List ℕ) → LoadsFiles (next bytes)) → LoadsFiles (fetched kind o next)
-one_fetched kind None next h = tt
-one_fetched kind (Some bytes) next h = either_loads (nat_lt (limit_of kind) (length bytes)) (refusal.TooLarge kind) (next bytes) (h bytes)
-
-all_fetched : (files : Files) (names : Names) (manner : Manner) → LoadsFiles (fetched_all files names manner)
-all_fetched files names manner =
-    one_fetched file.Exe (files names.exe) (λ exe. fetched file.Core (files names.core) (λ core. fetched file.Trace (files names.trace) (λ trace. Loaded (crash_bytes exe core trace manner))))
-    (λ exe. one_fetched file.Core (files names.core) (λ core. fetched file.Trace (files names.trace) (λ trace. Loaded (crash_bytes exe core trace manner)))
-    (λ core. one_fetched file.Trace (files names.trace) (λ trace. Loaded (crash_bytes exe core trace manner)) (λ trace. tt)))
-
-core_fetched : (files : Files) (names : CoreNames) (manner : Manner) → LoadsFiles (fetched_core files names manner)
-core_fetched files names manner =
-    one_fetched file.Core (files names.core) (λ core. fetched file.Trace (files names.trace) (λ trace. LoadedCore (core_bytes core trace manner)))
-    (λ core. one_fetched file.Trace (files names.trace) (λ trace. LoadedCore (core_bytes core trace manner)) (λ trace. tt))
+use Rattle.rept_opening.proofs.LoadingLemmas.{Why, why, LoadsFiles, all_fetched, core_fetched, ok_at, Stops, Came}
 
 abbrev pub opening : CrashBytes → List (List ℕ) → Run → Opening
 opening bytes notes run = record { bytes = bytes; notes = notes; run = run }
 
 module _ (words : List (List ℕ)) (files : Files) where
-  -- which load was the last
-  abbrev pub Came : Shelved → Shelved → FileKind → Type 0
-  Came old new kind = (ComesTo words files kind × (new.loads ≡ loads_to kind old.loads)) ⊎ (ComesToCore words files kind × (new.loads ≡ core_loads_to kind old.loads))
-
-  -- why no files are loaded: a load failed, memory ran out, or the files say so
-  abbrev pub Stops : Shelved → Shelved → Refusal → Type 0
-  Stops old new r =
-      ((kind : FileKind) × (r ≡ refusal.LoadFault kind) × Came old new kind)
-      ⊎ (r ≡ refusal.OutOfMemory)
-      ⊎ (loading words files ≡ Refused r)
-
-  names_stop : (old new : Shelved) (d : Domain) (names : Names) (from : Option ℕ) (kind : FileKind) (r : Refusal) → old.files ≡ Some files → meaning_of words ≡ Some (Open d names from) → FitBefore files names kind → new.loads ≡ loads_to kind old.loads
-      → Why old new (name_of names kind) kind r → Stops old new r
-  names_stop old new d names from kind r told named before loads (inl h) = inl (kind, h.0, inl ((d, names, from, named, before), loads))
-  names_stop old new d names from kind r told named before loads (inr (inl h)) =
-      inr (inr (ap (loading_by files) named ∙ lacks files names (manner_of d from) kind before (at_told old.files _ (λ fs. (fs (name_of names kind) ≡ None) × (new.faults ≡ old.faults)) files told h.1).0 ∙ ap Refused (sym h.0)))
-  names_stop old new d names from kind r told named before loads (inr (inr (inl h))) =
-      inr (inr (ap (loading_by files) named ∙ over files names (manner_of d from) kind before (at_told old.files _ (λ fs. IsOver fs (name_of names kind) (limit_of kind) × (new.faults ≡ old.faults)) files told h.1).0 ∙ ap Refused (sym h.0)))
-  names_stop old new d names from kind r told named before loads (inr (inr (inr h))) = inr (inl h)
-
-  core_stop : (old new : Shelved) (names : CoreNames) (from : Option ℕ) (kind : FileKind) (r : Refusal) → old.files ≡ Some files → meaning_of words ≡ Some (Maps names from) → CoreFitBefore files names kind → new.loads ≡ core_loads_to kind old.loads
-      → Why old new (core_name_of names kind) kind r → Stops old new r
-  core_stop old new names from kind r told named before loads (inl h) = inl (kind, h.0, inr ((names, from, named, before), loads))
-  core_stop old new names from kind r told named before loads (inr (inl h)) =
-      inr (inr (ap (loading_by files) named ∙ core_lacks files names (manner_of domain.Ranges from) kind before (at_told old.files _ (λ fs. (fs (core_name_of names kind) ≡ None) × (new.faults ≡ old.faults)) files told h.1).0 ∙ ap Refused (sym h.0)))
-  core_stop old new names from kind r told named before loads (inr (inr (inl h))) =
-      inr (inr (ap (loading_by files) named ∙ core_over files names (manner_of domain.Ranges from) kind before (at_told old.files _ (λ fs. IsOver fs (core_name_of names kind) (limit_of kind) × (new.faults ≡ old.faults)) files told h.1).0 ∙ ap Refused (sym h.0)))
-  core_stop old new names from kind r told named before loads (inr (inr (inr h))) = inr (inl h)
-
-  words_stop : (old new : Shelved) (r : Refusal) → old.files ≡ Some files → (m : Option Meaning) → meaning_of words ≡ m → MeaningStops m (move old new) r → Stops old new r
-  words_stop old new r told None e h = inr (inr (ap (loading_by files) e ∙ ap Refused (sym h.0)))
-  words_stop old new r told (Some (Made seed steps)) e h = absurd h
-  words_stop old new r told (Some (Maps names from)) e (kind, s) =
-      core_stop old new names from kind r told e (at_files old.files (λ fs. CoreFitBefore fs names kind) files told s.before) s.loads (why old new (core_name_of names kind) kind r s.why)
-  words_stop old new r told (Some (Open d names from)) e (kind, s) =
-      names_stop old new d names from kind r told e (at_files old.files (λ fs. FitBefore fs names kind) files told s.before) s.loads (why old new (name_of names kind) kind r s.why)
-
-  pub stops : (old new : Shelved) (r : Refusal) → old.files ≡ Some files → LoadingStops (meaning_of words) (move old new) r → Stops old new r
-  stops old new r told (inl h) = inr (inl h.0)
-  stops old new r told (inr h) = words_stop old new r told (meaning_of words) refl h
-
   abbrev Ends : Status → Loading → Type 0
   Ends status l = EndsAt files l status
 
@@ -211,7 +63,7 @@ module _ (words : List (List ℕ)) (files : Files) where
   interrupted status (inl h) l some = unloaded_at status h l some
   interrupted status (inr h) l some = stopped_at status h l
 
-  named_loads : (old new : Shelved) (kind : FileKind) → Came old new kind → LoadsFiles (loading words files)
+  named_loads : (old new : Shelved) (kind : FileKind) → Came words files old new kind → LoadsFiles (loading words files)
   named_loads old new kind (inl ((d, names, from, named, before), loads)) = subst LoadsFiles (sym (ap (loading_by files) named)) (all_fetched files names (manner_of d from))
   named_loads old new kind (inr ((names, from, named, before), loads)) = subst LoadsFiles (sym (ap (loading_by files) named)) (core_fetched files names (manner_of domain.Ranges from))
 
@@ -223,7 +75,7 @@ module _ (words : List (List ℕ)) (files : Files) where
   memory_stops status (inr h) = h
 
   -- where no files were loaded
-  pub refused_ends : (old new : Shelved) (r : Refusal) (status : Status) → Stops old new r → Yields (status_of r) status → EndsByFiles words files status
+  pub refused_ends : (old new : Shelved) (r : Refusal) (status : Status) → Stops words files old new r → Yields (status_of r) status → EndsByFiles words files status
   refused_ends old new r status (inl (kind, e, came)) so = interrupted status (by_refusal r (refusal.LoadFault kind) status e so) (loading words files) (named_loads old new kind came)
   refused_ends old new r status (inr (inl e)) so = stopped_at status (memory_stops status (by_refusal r refusal.OutOfMemory status e so)) (loading words files)
   refused_ends old new r status (inr (inr h)) (inl e) = subst (Ends status) (sym h) (inl e)
@@ -243,7 +95,7 @@ module _ (words : List (List ℕ)) (files : Files) where
     says_so : (r s : Refusal) → r ≡ s → SaysRefusal r text status → SaysRefusal s text status
     says_so r s e h = subst (λ (x : Refusal). SaysRefusal x text status) e h
 
-    pub refused_writes : (r : Refusal) → Stops shelf.before shelf.after r → SaysOrNoMemory r text status → CallWrites Here text status
+    pub refused_writes : (r : Refusal) → Stops words files shelf.before shelf.after r → SaysOrNoMemory r text status → CallWrites Here text status
     refused_writes r h (inr s) = inr (inr (inl s))
     refused_writes r (inl (kind, e, inl (comes, loads))) (inl s) = inr (inl (inl (kind, comes, loads, says_so r (refusal.LoadFault kind) e s)))
     refused_writes r (inl (kind, e, inr (comes, loads))) (inl s) = inr (inl (inr (inl (kind, comes, loads, says_so r (refusal.LoadFault kind) e s))))
@@ -617,12 +469,6 @@ pub no_other : {P : Type 0} (other status : Status) → (ends.Ok ≡ other → �
 no_other other status a b c (inl h) e = absurd (a (sym h ∙ e))
 no_other other status a b c (inr (inl h)) e = absurd (b (sym h ∙ e))
 no_other other status a b c (inr (inr h)) e = absurd (c (sym h ∙ e))
-
--- what is said of a call that answered so
-pub ok_at : {T E : Type 0} (r : Result T E) (a b : T) (P : T → Type 0) → r ≡ Ok a → a ≡ b → IfOk r P → P b
-ok_at {T} {E} r a b P e same h =
-    let here : P a = subst (λ (x : Result T E). IfOk x P) e h in
-    subst P same here
 
 pub done_at : {T E : Type 0} {P : Type 0} (r : Result T E) (a : T) → r ≡ Ok a → OnOk r P → P
 done_at {T} {E} {P} r a e h = subst (λ (x : Result T E). OnOk x P) e h

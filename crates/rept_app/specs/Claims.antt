@@ -10,9 +10,10 @@ use Rattle.rept_make.specs.declared.made.Made.{Made}
 use Rattle.rept_words.specs.Words.{Meaning}
 use Rattle.rept_words.specs.Words.Meaning.{Open, Maps, Made as MadeWords}
 use Rattle.rept_words.specs.declared.request.Domain.TheVariants as domain
-use Rattle.rept_app.specs.Domains.{means_of}
-use Rattle.rept_app.specs.Told.{Opening, Opens, OpensMade, IsAccountOf, crash_at, crash_run, run_at, setting_at}
-use Rattle.rept_app.specs.True.{IsExcluded, IsExecuted, IsTrue}
+use Rattle.rept_opening.specs.Domains.{means_of}
+use Rattle.rept_opening.specs.Opened.{Opening, Opens, IsAccountOf, crash_at, crash_run, run_at, setting_at}
+use Rattle.rept_app.specs.Told.{OpensMade}
+use Rattle.rept_opening.specs.True.{IsExcluded, IsExecuted, IsTrue}
 
 -- the words and the files come to a run whose closure has no conflict
 abbrev pub ComeToReport : List (List ℕ) → Files → Type 0

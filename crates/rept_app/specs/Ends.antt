@@ -2,8 +2,8 @@
 use Rattle.std.specs.Prelude.{◌≡◌, ◌⊎◌, ℕ}
 use Rattle.rept_ports.specs.Causes.{OneFault}
 use Rattle.rept_ports.specs.Port.{Port, PortMove}
-use Rattle.rept_app.specs.declared.status.Status.{Status}
-use Rattle.rept_app.specs.declared.status.Status.TheVariants as ends
+use Rattle.rept_opening.specs.declared.status.Status.{Status}
+use Rattle.rept_opening.specs.declared.status.Status.TheVariants as ends
 
 -- the output failed or memory ran out
 abbrev pub Stopped : Status → Type 0

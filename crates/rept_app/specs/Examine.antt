@@ -8,17 +8,18 @@ use Rattle.rept_report.specs.Closure.{ClosureHas, IsConsistent}
 use Rattle.rept_report.specs.declared.conflict.ConflictKind.{ConflictKind}
 use Rattle.rept_found.specs.Telling.{Account, told_on}
 use Rattle.rept_serve.specs.Serving.{Reading}
-use Rattle.rept_app.specs.Delivered.{SaysRefusal}
+use Rattle.rept_opening.specs.Delivered.{SaysRefusal}
 use Rattle.rept_app.specs.Ends.{Yields, EndsSession, PortsEnd}
-use Rattle.rept_app.specs.Forms.{program_fault, core_image_fault, crash_in}
+use Rattle.rept_opening.specs.Forms.{program_fault, core_image_fault, crash_in}
 use Rattle.rept_app.specs.Held.{CutOff}
-use Rattle.rept_app.specs.Loading.{CrashBytes}
-use Rattle.rept_app.specs.Told.{CrashRun, CoreSays, route_of, run_setting, CrashTrace, trace_in, run_in, WalkedTrace, Examined, ReadsNotes, IsAccountOf}
-use Rattle.rept_app.specs.TraceRun.{IsRunOf, HasNoRunOf}
-use Rattle.rept_app.specs.True.{IsExcluded}
-use Rattle.rept_app.specs.declared.refusal.Refusal.TheVariants as refusal
-use Rattle.rept_app.specs.declared.status.Status.{Status}
-use Rattle.rept_app.specs.declared.status.Status.TheVariants as ends
+use Rattle.rept_opening.specs.Loading.{CrashBytes}
+use Rattle.rept_opening.specs.Opened.{CrashRun, CoreSays, route_of, run_setting, CrashTrace, trace_in, run_in, ReadsNotes, IsAccountOf}
+use Rattle.rept_app.specs.Told.{WalkedTrace, Examined}
+use Rattle.rept_opening.specs.TraceRun.{IsRunOf, HasNoRunOf}
+use Rattle.rept_opening.specs.True.{IsExcluded}
+use Rattle.rept_opening.specs.declared.refusal.Refusal.TheVariants as refusal
+use Rattle.rept_opening.specs.declared.status.Status.{Status}
+use Rattle.rept_opening.specs.declared.status.Status.TheVariants as ends
 
 -- the session over the run's report was cut short
 abbrev pub WalkCut : CrashTrace → Reading → List ℕ → Status → Type 0

@@ -1,12 +1,16 @@
 -- What a call writes that holds a session, and with which status: the answers, and after them the line of what ended it.
-use Rattle.std.specs.Prelude.{◌≡◌, ◌⊎◌, List, ◌++◌, ℕ}
+use Rattle.std.specs.Prelude.{◌≡◌, ◌⊎◌, List, ◌++◌, ℕ, IfSome}
+use Rattle.rept_ports.specs.Port.{Port, PortMove}
 use Rattle.rept_session.specs.Shown.{SessionTold}
 use Rattle.rept_serve.specs.Serving.{Reading, InputEnded, Failed, Overran, FirstAnswers}
-use Rattle.rept_app.specs.Lines.{line_of}
-use Rattle.rept_app.specs.declared.refusal.Refusal.{Refusal}
-use Rattle.rept_app.specs.declared.refusal.Refusal.TheVariants as refusal
-use Rattle.rept_app.specs.declared.status.Status.{Status}
-use Rattle.rept_app.specs.declared.status.Status.TheVariants as ends
+use Rattle.rept_opening.specs.Delivered.{Delivers}
+use Rattle.rept_app.specs.Ends.{IsCaused}
+use Rattle.rept_app.specs.declared.hold.HeldSession.{HeldSession}
+use Rattle.rept_opening.specs.Lines.{line_of}
+use Rattle.rept_opening.specs.declared.refusal.Refusal.{Refusal}
+use Rattle.rept_opening.specs.declared.refusal.Refusal.TheVariants as refusal
+use Rattle.rept_opening.specs.declared.status.Status.{Status}
+use Rattle.rept_opening.specs.declared.status.Status.TheVariants as ends
 
 -- such answers, and after them the line of a refusal
 abbrev pub WithLine : Refusal → (List ℕ → Type 0) → List ℕ → Type 0
@@ -27,3 +31,8 @@ CutOff t reading text other = ⊥
 -- what a session leaves on the output, and its status: its answers, or what is written where the input fails or memory runs out
 abbrev pub IsHeldSession : SessionTold → Reading → List ℕ → Status → Type 0
 IsHeldSession t reading text status = Replies t reading.input text status ⊎ CutOff t reading text status
+
+-- A session over what is told: what it leaves on the output where the input tells its bytes, and how it ends; the signal of the crash is none of its answers.
+abbrev pub HoldsSession : SessionTold → ℕ → PortMove Port → PortMove Port → HeldSession → Type 0
+HoldsSession t signal source sink held =
+    IfSome source.before.bytes (λ bytes. Delivers (IsHeldSession t (record { input = bytes; left = source.after.bytes })) sink held.status) × IsCaused source sink held.status

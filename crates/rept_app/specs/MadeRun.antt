@@ -1,9 +1,9 @@
 -- What is written of a made run, where the output doesn't fail.
 use Rattle.std.specs.Prelude.{◌⊎◌, ℕ, List}
-use Rattle.rept_app.specs.Delivered.{SaysRefusal}
+use Rattle.rept_opening.specs.Delivered.{SaysRefusal}
 use Rattle.rept_app.specs.Told.{Summed, SumCut}
-use Rattle.rept_app.specs.declared.refusal.Refusal.TheVariants as refusal
-use Rattle.rept_app.specs.declared.status.Status.{Status}
+use Rattle.rept_opening.specs.declared.refusal.Refusal.TheVariants as refusal
+use Rattle.rept_opening.specs.declared.status.Status.{Status}
 
 -- all of it; or memory ran out; or the session was cut short
 abbrev pub Sums : ℕ → ℕ → List ℕ → Status → Type 0

@@ -4,16 +4,18 @@ use Rattle.rept_maps.specs.declared.fault.MapFault.{MapFault}
 use Rattle.rept_ports.specs.Port.{Port, PortMove, move}
 use Rattle.rept_ports.specs.Shelves.{Shelved}
 use Rattle.rept_serve.specs.Serving.{Reading}
-use Rattle.rept_app.specs.Delivered.{SaysRefusal}
+use Rattle.rept_opening.specs.Delivered.{SaysRefusal}
 use Rattle.rept_app.specs.Ends.{Yields, PortsEnd}
 use Rattle.rept_app.specs.Examine.{FilesEnd, FilesExclude, FilesHold, IsWalkStatus, WalkCut}
-use Rattle.rept_app.specs.Forms.{core_image_fault}
-use Rattle.rept_app.specs.Loading.{CrashBytes, CoreBytes}
-use Rattle.rept_app.specs.Mapped.{MappedCrash, mapped_crash, mapped_bytes, IsMappedAs, ListSays, NameFails, NamesLoaded, NamesMove, name_line}
-use Rattle.rept_app.specs.Told.{MappedTold, ReadsNotes, trace_in}
-use Rattle.rept_app.specs.declared.refusal.Refusal.TheVariants as refusal
-use Rattle.rept_app.specs.declared.status.Status.{Status}
-use Rattle.rept_app.specs.declared.status.Status.TheVariants as ends
+use Rattle.rept_opening.specs.Forms.{core_image_fault}
+use Rattle.rept_opening.specs.Loading.{CrashBytes, CoreBytes}
+use Rattle.rept_opening.specs.Mapped.{MappedCrash, mapped_crash, mapped_bytes, IsMappedAs, ListSays}
+use Rattle.rept_app.specs.Mapped.{NameFails, NamesLoaded, NamesMove}
+use Rattle.rept_app.specs.Told.{MappedTold}
+use Rattle.rept_opening.specs.Opened.{ReadsNotes, trace_in}
+use Rattle.rept_opening.specs.declared.refusal.Refusal.TheVariants as refusal
+use Rattle.rept_opening.specs.declared.status.Status.{Status}
+use Rattle.rept_opening.specs.declared.status.Status.TheVariants as ends
 
 -- What a call is given that examines a core file: the crash, how many loads the shelf was asked for before and after, and the bytes of the input with those that are left of it.
 pub record MappedCall : Type 0 where
@@ -62,7 +64,3 @@ MappedHolds m status = (bytes : CrashBytes) × IsMappedAs m bytes × FilesHold b
 -- no execution of the run ends in the crash
 abbrev pub MappedExcludes : MappedCrash → Type 0
 MappedExcludes m = (bytes : CrashBytes) → IsMappedAs m bytes → FilesExclude bytes
-
--- the line of a mapped file whose load failed, with its status; or memory ran out
-abbrev pub TellsName : List ℕ → List ℕ → Status → Type 0
-TellsName name text status = ((text ≡ name_line name) × (status ≡ ends.LoadFault)) ⊎ SaysRefusal refusal.OutOfMemory text status

@@ -7,12 +7,13 @@ use Rattle.rept_found.specs.Telling.{Account, told_on}
 use Rattle.rept_serve.specs.Serving.{InputEnded}
 use Rattle.rept_make.specs.Made.{IsMade}
 use Rattle.rept_make.specs.declared.made.Made.{Made}
-use Rattle.rept_app.specs.Loading.{loading}
-use Rattle.rept_app.specs.Loading.Loading.{MadeRun}
-use Rattle.rept_app.specs.Told.{CallInput, Opening, Opens, OpensMade, IsAccountOf, run_at, route_at, summary_line}
-use Rattle.rept_app.specs.True.{IsExcluded, IsTrue}
-use Rattle.rept_app.specs.declared.status.Status.{Status}
-use Rattle.rept_app.specs.declared.status.Status.TheVariants as ends
+use Rattle.rept_opening.specs.Loading.{loading}
+use Rattle.rept_opening.specs.Loading.Loading.{MadeRun}
+use Rattle.rept_app.specs.Told.{CallInput, OpensMade, summary_line}
+use Rattle.rept_opening.specs.Opened.{Opening, Opens, IsAccountOf, run_at, route_at}
+use Rattle.rept_opening.specs.True.{IsExcluded, IsTrue}
+use Rattle.rept_opening.specs.declared.status.Status.{Status}
+use Rattle.rept_opening.specs.declared.status.Status.TheVariants as ends
 
 -- the crash that is opened, and the lines that are answered of it: the files that the words name, and the input; or the files of the
 -- made crash that they ask for, and the line `summary`

@@ -6,18 +6,19 @@ use Rattle.rept_ports.specs.Port.{Port, PortMove, move}
 use Rattle.rept_ports.specs.Shelves.{Files, Shelved}
 use Rattle.rept_app.specs.Ends.{Stopped, Yields, FaultEnds, PortsEnd}
 use Rattle.rept_app.specs.Examine.{FilesEnd}
-use Rattle.rept_app.specs.Lines.{status_of}
-use Rattle.rept_app.specs.Loading.{Loading, loading, FileFits, FitBefore, CoreFitBefore, IsOfCore, loads_to, core_loads_to}
-use Rattle.rept_app.specs.Loading.Loading.{Refused, Loaded, LoadedCore, MadeRun}
-use Rattle.rept_app.specs.Mapped.{mapped_crash, NamesLoaded}
+use Rattle.rept_opening.specs.Lines.{status_of}
+use Rattle.rept_opening.specs.Loading.{Loading, loading, FileFits, FitBefore, CoreFitBefore, IsOfCore, loads_to, core_loads_to}
+use Rattle.rept_opening.specs.Loading.Loading.{Refused, Loaded, LoadedCore, MadeRun}
+use Rattle.rept_opening.specs.Mapped.{mapped_crash}
+use Rattle.rept_app.specs.Mapped.{NamesLoaded}
 use Rattle.rept_app.specs.MappedEnds.{MappedEnd}
 use Rattle.rept_app.specs.Told.{CallInput, CallTold}
 use Rattle.rept_words.specs.Words.{CoreNames, Names, Meaning}
 use Rattle.rept_words.specs.Words.Meaning.{Open, Maps, Made}
-use Rattle.rept_app.specs.declared.refusal.FileKind.{FileKind}
-use Rattle.rept_app.specs.declared.refusal.FileKind.TheVariants as file
-use Rattle.rept_app.specs.declared.status.Status.{Status}
-use Rattle.rept_app.specs.declared.status.Status.TheVariants as ends
+use Rattle.rept_opening.specs.declared.refusal.FileKind.{FileKind}
+use Rattle.rept_opening.specs.declared.refusal.FileKind.TheVariants as file
+use Rattle.rept_opening.specs.declared.status.Status.{Status}
+use Rattle.rept_opening.specs.declared.status.Status.TheVariants as ends
 
 -- the statuses of a file that is missing or too large
 abbrev pub LacksFile : Status → Type 0
@@ -36,14 +37,6 @@ pub record TopCauses (shelf : PortMove Shelved) (source sink : PortMove Port) (s
   pub untold : MatchOption shelf.before.files (LacksFile status → OneFault shelf.before.faults shelf.after.faults) (λ _. Unit {0})
   pub later : shelf.before.faults ≤ shelf.after.faults
   pub files : shelf.after.files ≡ shelf.before.files
-
--- Each load that counts a fault ends the call: so it is of all words but those that ask for mapped files, and of these too where the shelf tells its files. Else each mapped
--- file that is passed over may count one.
-abbrev pub FaultsEnd : Option Meaning → Option Files → Type 0
-FaultsEnd None files = Unit {0}
-FaultsEnd (Some (Made seed steps)) files = Unit {0}
-FaultsEnd (Some (Maps names from)) files = MatchOption files ⊥ (λ _. Unit {0})
-FaultsEnd (Some (Open d names from)) files = Unit {0}
 
 -- A fault of the shelf ends the call: no other is counted, and the status tells it, unless its line can't be written.
 pub record ShelfCauses (shelf : PortMove Shelved) (status : Status) : Type 0 where

@@ -4,20 +4,15 @@ ghost use Rattle.std.specs.Prelude.{◌≡◌, ◌⊎◌, ◌<◌, ◌^◌, ℕ,
 ghost use Rattle.rept_ports.specs.Port.{move};
 ghost use Rattle.rept_found.specs.Crash.{crash_of};
 ghost use Rattle.rept_runs.specs.Kind.{is_several};
-ghost use Rattle.rept_app.specs.Delivered.{Delivers};
+ghost use Rattle.rept_opening.specs.Delivered.{Delivers};
 ghost use Rattle.rept_app.specs.Examine.{Examines, IsExamined, FilesExclude, FilesHold, WalksTrace, IsWalked, TraceExcludes, WalkHolds};
-ghost use Rattle.rept_app.specs.Loading.{crash_bytes};
-ghost use Rattle.rept_app.specs.Reading.{AreNotesOf, HasNotes};
-ghost use Rattle.rept_app.specs.Told.{crash_trace};
+ghost use Rattle.rept_opening.specs.Loading.{crash_bytes};
+ghost use Rattle.rept_opening.specs.Reading.{AreNotesOf, HasNotes};
+ghost use Rattle.rept_opening.specs.Opened.{crash_trace};
 
-use crate::dumping::read_dump;
-use crate::load::Manner;
-use crate::refusal::Refusal;
-use crate::running::trace_run;
-use crate::status::Status;
 use crate::study::study;
-use crate::telling::tell;
 use rept_dump::Dump;
+use rept_opening::{Manner, Refusal, Status, read_dump, tell, trace_run};
 use rept_ports::{Sink, Source};
 use rept_runs::is_several;
 use std::alloc::Global;

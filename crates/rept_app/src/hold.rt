@@ -3,12 +3,11 @@
 ghost use Rattle.std.specs.Prelude.{◌≡◌, IfSome};
 ghost use Rattle.rept_ports.specs.Port.{move};
 ghost use Rattle.rept_session.specs.Shown.{SameReasons, session_told};
-ghost use Rattle.rept_app.specs.Delivered.{Delivers};
+ghost use Rattle.rept_opening.specs.Delivered.{Delivers};
 ghost use Rattle.rept_app.specs.Ends.{IsCaused};
-ghost use Rattle.rept_app.specs.Held.{IsHeldSession};
+ghost use Rattle.rept_app.specs.Held.{HoldsSession, IsHeldSession};
 
-use crate::status::Status;
-use crate::telling::deliver;
+use rept_opening::{Asking, Circumstances, Status, deliver};
 use rept_ports::{Sink, Source};
 use rept_serve::{Served, serve};
 use rept_session::Findings;
@@ -37,17 +36,24 @@ pub fn hold<F: Findings, S: Source, K: Sink>(
     }
 }
 
-/// The same by findings that are let go when the session ends.
-pub fn hold_found<F: Findings + Drop, S: Source, K: Sink>(
-    alloc: Global,
-    findings: F,
-    skipped: u32,
-    input: &mut S,
-    out: &mut K,
-) -> Status
-    ensures text { IfSome (S.port input.old).bytes (λ bytes. Delivers (IsHeldSession (session_told (F.shown findings) skipped (F.reasons findings)) (record { input = bytes; left = (S.port input.new).bytes })) (move (K.port out.old) (K.port out.new)) result) }
-    ensures causes { IsCaused (move (S.port input.old) (S.port input.new)) (move (K.port out.old) (K.port out.new)) result }
-{
-    let mut findings = findings;
-    hold(alloc, &mut findings, skipped, input, out)
+/// A session over the report of a crash, with the status that it ended with.
+#[derive(Clone, Copy)]
+pub struct HeldSession {
+    pub status: Status,
+}
+
+impl Asking for HeldSession {
+    ghost asks = { HoldsSession };
+
+    fn ask<F: Findings, S: Source, K: Sink>(
+        alloc: Global,
+        findings: &mut F,
+        circumstances: Circumstances,
+        input: &mut S,
+        out: &mut K,
+    ) -> HeldSession {
+        HeldSession {
+            status: hold(alloc, findings, circumstances.skipped, input, out),
+        }
+    }
 }

@@ -3,16 +3,14 @@
 ghost use Rattle.std.specs.Prelude.{◌<◌, ◌≤◌, ◌^◌, ℕ, length};
 ghost use Rattle.rept_make.specs.Made.{IsMade};
 ghost use Rattle.rept_ports.specs.Port.{Port, move};
-ghost use Rattle.rept_app.specs.Delivered.{Delivers};
+ghost use Rattle.rept_opening.specs.Delivered.{Delivers};
 ghost use Rattle.rept_app.specs.Ends.{Yields, PortsEnd};
 ghost use Rattle.rept_app.specs.MadeRun.{Sums};
 
 use crate::examine::examine;
-use crate::load::Manner;
-use crate::status::Status;
-use crate::telling::tell_no_memory;
 use rept_amo::Atomic;
 use rept_make::{Made, make};
+use rept_opening::{Manner, Status, tell_no_memory};
 use rept_partial::Range;
 use rept_ports::{CalmSource, Sink};
 use rept_report::reports_are_sound;

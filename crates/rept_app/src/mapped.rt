@@ -1,32 +1,28 @@
 //! From a core file that lists the files of its program to the study of its run.
 
-ghost use Rattle.std.specs.Prelude.{◌≡◌, ◌⊎◌, ◌<◌, ◌^◌, None, length, IfOk, IfSome};
+ghost use Rattle.std.specs.Prelude.{◌≡◌, ◌⊎◌, ◌<◌, ◌^◌, None, length, IfSome};
 ghost use Rattle.rept_elf.specs.Image.{file_of};
 ghost use Rattle.rept_maps.specs.FileMap.{map_count};
 ghost use Rattle.rept_maps.specs.Views.{desc_of};
 ghost use Rattle.rept_mapped.specs.Mapped.{mappings};
 ghost use Rattle.rept_ports.specs.Port.{move};
-ghost use Rattle.rept_app.specs.Delivered.{Delivers};
+ghost use Rattle.rept_opening.specs.Delivered.{Delivers};
 ghost use Rattle.rept_app.specs.Ends.{EndsSession};
 ghost use Rattle.rept_app.specs.Examine.{Examines, FilesExclude, FilesHold, IsExamined};
-ghost use Rattle.rept_app.specs.Forms.{core_image_fault};
-ghost use Rattle.rept_app.specs.Loading.{core_bytes, parts_bytes};
-ghost use Rattle.rept_app.specs.Mapped.{mapped_crash, name_line};
-ghost use Rattle.rept_app.specs.MappedEnds.{ExaminesMapped, IsExaminedMapped, MappedExcludes, MappedHolds, TellsName, mapped_call, port_moves};
+ghost use Rattle.rept_opening.specs.Forms.{core_image_fault};
+ghost use Rattle.rept_opening.specs.Loading.{core_bytes, parts_bytes};
+ghost use Rattle.rept_opening.specs.Mapped.{mapped_crash};
+ghost use Rattle.rept_app.specs.MappedEnds.{ExaminesMapped, IsExaminedMapped, MappedExcludes, MappedHolds, mapped_call, port_moves};
 
 use crate::examine::walk;
-use crate::listed::{ListStop, images_in, load_listed};
-use crate::load::CoreFiles;
-use crate::refusal::Refusal;
-use crate::status::Status;
-use crate::telling::{deliver, tell, tell_no_memory};
 use rept_dump::Dump;
 use rept_elf::Image;
 use rept_maps::{Images, Maps};
+use rept_opening::{
+    CoreFiles, ListStop, Refusal, Status, images_in, load_listed, tell, tell_failed, tell_no_memory,
+};
 use rept_ports::{Shelf, Sink, Source};
 use rept_runs::is_several;
-use rept_session::push_visible;
-use rept_word::{OutOfMemory, Text};
 use std::alloc::Global;
 
 /// Reads the core file and its list of mapped files, loads those, rebuilds the run and studies it.
@@ -79,26 +75,5 @@ fn examine_images<S: Source, K: Sink>(
     match Dump::mapped(maps, images, core, is_several(trace)) {
         Ok(dump) => walk(alloc, &dump, trace, files.manner, input, out),
         Err(fault) => tell(alloc, out, &Refusal::Core(fault)),
-    }
-}
-
-/// The line of a load of a name that failed: `load-fault NAME`, with `?` for what is no visible character.
-fn failed_line(alloc: Global, name: &str) -> Result<Text, OutOfMemory>
-    ensures { IfOk result (λ text. text ≡ name_line name.now) }
-{
-    let mut text = Text::new(alloc);
-    text.push(b"load-fault ")?;
-    push_visible(&mut text, name.as_bytes())?;
-    text.push(b"\n")?;
-    Ok(text)
-}
-
-/// Writes that the load of the mapped file of this name failed, and answers the status of that; where memory runs out, the line and status of that; where the output fails, its status.
-pub fn tell_failed<K: Sink>(alloc: Global, out: &mut K, name: &str) -> Status
-    ensures { Delivers (TellsName name.now) (move (K.port out.old) (K.port out.new)) result }
-{
-    match failed_line(alloc, name) {
-        Ok(line) => deliver(out, line.bytes(), Status::LoadFault),
-        Err(_) => tell_no_memory(out),
     }
 }

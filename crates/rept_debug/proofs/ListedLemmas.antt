@@ -13,19 +13,18 @@ use Rattle.rept_ports.specs.Port.{PortMove, move}
 use Rattle.rept_ports.specs.Shelves.{Files, Shelved}
 use Rattle.rept_words.specs.Words.{Meaning}
 use Rattle.rept_words.specs.Words.Meaning.{Open, Maps, Made}
-use Rattle.rept_app.specs.Forms.{core_image_fault}
-use Rattle.rept_app.specs.Lines.{status_of}
-use Rattle.rept_app.specs.Listed.{HasNoFiles, LoadStops}
-use Rattle.rept_app.specs.Loading.{CoreBytes, LoadsBoth, ShelfMoves, core_loads_to, parts_bytes}
-use Rattle.rept_app.specs.Mapped.{ListSays, MappedCrash, mapped_bytes, mapped_crash, mapped_files}
-use Rattle.rept_app.specs.Reading.{NotesSay}
-use Rattle.rept_app.specs.Told.{CrashTrace, ReadsNotes, crash_trace}
-use Rattle.rept_app.specs.Top.{FaultsEnd}
-use Rattle.rept_app.specs.declared.listed.ListStop.TheVariants as stops
-use Rattle.rept_app.specs.declared.refusal.FileKind.TheVariants as file
-use Rattle.rept_app.specs.declared.refusal.Refusal.{Refusal}
-use Rattle.rept_app.specs.declared.refusal.Refusal.TheVariants as refusal
-use Rattle.rept_app.proofs.MappedLemmas.{over_files, parts_trace}
+use Rattle.rept_opening.specs.Forms.{core_image_fault}
+use Rattle.rept_opening.specs.Lines.{status_of}
+use Rattle.rept_opening.specs.Listed.{HasNoFiles, LoadStops}
+use Rattle.rept_opening.specs.Loading.{CoreBytes, LoadsBoth, ShelfMoves, core_loads_to, parts_bytes, FaultsEnd}
+use Rattle.rept_opening.specs.Mapped.{ListSays, MappedCrash, mapped_bytes, mapped_crash, mapped_files}
+use Rattle.rept_opening.specs.Reading.{NotesSay}
+use Rattle.rept_opening.specs.Opened.{CrashTrace, ReadsNotes, crash_trace}
+use Rattle.rept_opening.specs.declared.listed.ListStop.TheVariants as stops
+use Rattle.rept_opening.specs.declared.refusal.FileKind.TheVariants as file
+use Rattle.rept_opening.specs.declared.refusal.Refusal.{Refusal}
+use Rattle.rept_opening.specs.declared.refusal.Refusal.TheVariants as refusal
+use Rattle.rept_opening.proofs.MappedLemmas.{over_files, parts_trace}
 use Rattle.rept_debug.specs.Debugged.{IsHeld, IsHeldMapped, IsHeldTrace, IsLoadFault, IsRefusedCrash, IsRefusedMapped, IsRefusedTrace, IsUnheld, NameStops, Streams}
 use Rattle.rept_debug.specs.declared.no_talk.NoTalk.{NoTalk}
 use Rattle.rept_debug.specs.declared.no_talk.NoTalk.TheVariants as no_talk

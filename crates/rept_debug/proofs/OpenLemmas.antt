@@ -5,18 +5,18 @@ use Rattle.rept_ports.specs.Port.{PortMove, move}
 use Rattle.rept_ports.specs.Shelves.{Files, Shelved}
 use Rattle.rept_ports.specs.declared.arguments.Unreadable.{Unreadable}
 use Rattle.rept_runs.specs.Kind.{is_several}
-use Rattle.rept_app.proofs.Notes.{some_said}
-use Rattle.rept_app.proofs.RunLemmas.{IsWhole, whole_run}
-use Rattle.rept_app.proofs.TopLemmas.{Stops}
-use Rattle.rept_app.proofs.TrueLemmas.{ReportsAreTrue}
-use Rattle.rept_app.specs.Lines.{status_of}
-use Rattle.rept_app.specs.Loading.{CoreBytes, CrashBytes, Loading, core_loads_to, crash_bytes, loading}
-use Rattle.rept_app.specs.Loading.Loading.{Loaded, LoadedCore}
-use Rattle.rept_app.specs.Mapped.{mapped_crash}
-use Rattle.rept_app.specs.Told.{IsCrashOf, trace_in}
-use Rattle.rept_app.specs.declared.refusal.FileKind.TheVariants as file
-use Rattle.rept_app.specs.declared.load.Manner.{Manner}
-use Rattle.rept_app.specs.declared.refusal.Refusal.{Refusal}
+use Rattle.rept_opening.proofs.Notes.{some_said}
+use Rattle.rept_opening.proofs.RunLemmas.{IsWhole, whole_run}
+use Rattle.rept_opening.proofs.LoadingLemmas.{Stops}
+use Rattle.rept_opening.proofs.TrueLemmas.{ReportsAreTrue}
+use Rattle.rept_opening.specs.Lines.{status_of}
+use Rattle.rept_opening.specs.Loading.{CoreBytes, CrashBytes, Loading, core_loads_to, crash_bytes, loading}
+use Rattle.rept_opening.specs.Loading.Loading.{Loaded, LoadedCore}
+use Rattle.rept_opening.specs.Mapped.{mapped_crash}
+use Rattle.rept_opening.specs.Opened.{IsCrashOf, trace_in}
+use Rattle.rept_opening.specs.declared.refusal.FileKind.TheVariants as file
+use Rattle.rept_opening.specs.declared.load.Manner.{Manner}
+use Rattle.rept_opening.specs.declared.refusal.Refusal.{Refusal}
 use Rattle.rept_debug.specs.Debugged.{HasNoTalk, IsDebugged, IsHeld, IsHeldMapped, IsRefusedLoading, IsUnheld, NameStops, Notices, Streams, streams}
 use Rattle.rept_debug.specs.Process.{ArePortsUntouched, DebugProcess, OpensAs, OpensTalk, RefusesAs, session_words}
 use Rattle.rept_debug.specs.declared.no_talk.NoTalk.{NoTalk}

@@ -4,7 +4,7 @@ use Rattle.rept_found.specs.Crash.{Crash}
 use Rattle.rept_path.specs.declared.fault.PathFault.{PathFault}
 use Rattle.rept_path.specs.declared.fault.PathFault.TheVariants.{NoStart, OutOfMemory, TooLong}
 use Rattle.rept_steps.specs.declared.run.Run.{Run}
-use Rattle.rept_app.specs.TraceRun.{HasNoRunOf, IsRunOf}
+use Rattle.rept_opening.specs.TraceRun.{HasNoRunOf, IsRunOf}
 use Rattle.rept_debug.specs.declared.begin.Begun.{Begun}
 use Rattle.rept_debug.specs.declared.begin.Kind.{Kind}
 use Rattle.rept_debug.specs.declared.begin.Kind.TheVariants as kind

@@ -11,30 +11,31 @@ use Rattle.rept_ports.specs.Shelves.{Files, Shelved}
 use Rattle.rept_path.specs.declared.fault.PathFault.{PathFault}
 use Rattle.rept_steps.specs.declared.run.Run.{Run}
 use Rattle.rept_runs.specs.Kind.{is_several}
-use Rattle.rept_report.specs.Closure.{ClosureHas}
-use Rattle.rept_report.specs.declared.conflict.ConflictKind.{ConflictKind}
 use Rattle.rept_found.specs.Crash.{note_at}
 use Rattle.rept_found.specs.Telling.{Account, told_on}
+use Rattle.rept_session.specs.Shown.{SessionTold}
 use Rattle.rept_dialog.specs.Converse.{Parties, Converses, parties_over}
 use Rattle.rept_dialog.specs.declared.conversation.Conversed.{Conversed}
-use Rattle.rept_app.specs.Forms.{core_image_fault}
-use Rattle.rept_app.specs.Lines.{status_of}
-use Rattle.rept_app.specs.Loading.{CrashBytes, CoreBytes, ComesTo, ComesToCore, Loading, core_loads_to, loading, loads_to}
-use Rattle.rept_app.specs.Loading.Loading.{Loaded, LoadedCore, MadeRun, Refused}
-use Rattle.rept_app.specs.Mapped.{IsMappedAs, ListSays, MappedCrash, mapped_bytes, mapped_crash}
-use Rattle.rept_app.specs.Reading.{HasNoCrash}
-use Rattle.rept_app.specs.Told.{CrashRun, CrashTrace, IsAccountOf, IsCrashOf, ReadsNotes, contradiction_in, route_of, run_in, run_setting, trace_in}
-use Rattle.rept_app.specs.TraceRun.{IsRunOf}
-use Rattle.rept_app.specs.True.{IsExcluded, IsTrue}
-use Rattle.rept_app.specs.declared.refusal.FileKind.{FileKind}
-use Rattle.rept_app.specs.declared.refusal.FileKind.TheVariants as file
-use Rattle.rept_app.specs.declared.refusal.Refusal.{Refusal}
-use Rattle.rept_app.specs.declared.refusal.Refusal.TheVariants as refusal
-use Rattle.rept_app.specs.declared.status.Status.{Status}
-use Rattle.rept_app.specs.declared.status.Status.TheVariants as ends
+use Rattle.rept_opening.specs.Forms.{core_image_fault}
+use Rattle.rept_opening.specs.Lines.{status_of}
+use Rattle.rept_opening.specs.Loading.{CrashBytes, CoreBytes, ComesTo, ComesToCore, Loading, core_loads_to, loading, loads_to}
+use Rattle.rept_opening.specs.Loading.Loading.{Loaded, LoadedCore, MadeRun, Refused}
+use Rattle.rept_opening.specs.Mapped.{IsMappedAs, ListSays, MappedCrash, mapped_bytes, mapped_crash}
+use Rattle.rept_opening.specs.Reading.{HasNoCrash}
+use Rattle.rept_opening.specs.Report.{HasNoReport}
+use Rattle.rept_opening.specs.Opened.{CrashRun, CrashTrace, IsAccountOf, IsCrashOf, ReadsNotes, route_of, run_in, trace_in}
+use Rattle.rept_opening.specs.TraceRun.{IsRunOf}
+use Rattle.rept_opening.specs.True.{IsTrue}
+use Rattle.rept_opening.specs.declared.refusal.FileKind.{FileKind}
+use Rattle.rept_opening.specs.declared.refusal.FileKind.TheVariants as file
+use Rattle.rept_opening.specs.declared.refusal.Refusal.{Refusal}
+use Rattle.rept_opening.specs.declared.refusal.Refusal.TheVariants as refusal
+use Rattle.rept_opening.specs.declared.status.Status.{Status}
+use Rattle.rept_opening.specs.declared.status.Status.TheVariants as ends
 use Rattle.rept_debug.specs.Begin.{BeginsAt, NeverBegins}
 use Rattle.rept_debug.specs.declared.no_talk.NoTalk.{NoTalk}
 use Rattle.rept_debug.specs.declared.no_talk.NoTalk.TheVariants as no_talk
+use Rattle.rept_debug.specs.declared.talk.HeldDialog.{HeldDialog}
 use Rattle.rept_debug.specs.declared.talk.Talk.{Talk}
 
 -- the three streams, before a call and after it
@@ -69,17 +70,15 @@ Notices errors = (errors.after ≡ errors.before) ⊎ ((from : ℕ) × IsWritten
 abbrev pub dialog_over : {W : Type 0} → CrashRun W → Account → Parties
 dialog_over p a = parties_over (told_on (route_of p) a) (half_at (note_at p.crash 0) 12)
 
+-- a dialog over what a session tells, with the signal of the crash, and how it ended
+abbrev pub HoldsDialog : SessionTold → ℕ → PortMove Port → PortMove Port → HeldDialog → Type 0
+HoldsDialog t signal source sink held = Converses (parties_over t signal) source sink held.end
+
 -- what arrived was answered over an account of the run
 pub record TalksOver {W : Type 0} (p : CrashRun W) (source sink : PortMove Port) (end : Conversed) : Type 0 where
   pub account : Account
   pub report : IsAccountOf p account
   pub talks : Converses (dialog_over p account) source sink end
-
--- the closure of the run has a conflict, and no execution of it ends in the crash; or memory ran out
-abbrev pub IsRefusedRun : {W : Type 0} → CrashRun W → Refusal → Type 0
-IsRefusedRun p r =
-    ((kind : ConflictKind) × ClosureHas (run_setting p) kind × IsExcluded p × (r ≡ refusal.Inconsistent (contradiction_in p kind)))
-    ⊎ (status_of r ≡ ends.OutOfMemory)
 
 -- the run of a trace, and what was answered over it
 pub record IsHeldTrace (t : CrashTrace) (io : Streams) (talk : Talk) : Type 0 where
@@ -93,7 +92,7 @@ pub record IsHeldTrace (t : CrashTrace) (io : Streams) (talk : Talk) : Type 0 wh
 abbrev pub IsRefusedTrace : CrashTrace → Refusal → Type 0
 IsRefusedTrace t r =
     ((fault : PathFault) × NeverBegins t.crash t.trace t.manner.from fault × (r ≡ refusal.Path fault))
-    ⊎ ((from : ℕ) × (run : Run) × BeginsAt t.crash t.trace t.manner.from from × IsRunOf t.crash t.trace from run × IsRefusedRun (run_in t run) r)
+    ⊎ ((from : ℕ) × (run : Run) × BeginsAt t.crash t.trace t.manner.from from × IsRunOf t.crash t.trace from run × HasNoReport (run_in t run) r)
     ⊎ (status_of r ≡ ends.OutOfMemory)
 
 -- the files are accepted, and their trace was answered

@@ -8,13 +8,12 @@ use Rattle.rept_ports.specs.declared.arguments.Unreadable.TheVariants.{NotText, 
 use Rattle.rept_remote.specs.declared.arrival.Ending.TheVariants as ending
 use Rattle.rept_dialog.specs.declared.conversation.Conversed.{Conversed}
 use Rattle.rept_dialog.specs.declared.conversation.Conversed.TheVariants as conversed
-use Rattle.rept_app.specs.Delivered.{Delivers, SaysOrNoMemory}
-use Rattle.rept_app.specs.MappedEnds.{TellsName}
-use Rattle.rept_app.specs.Status.{number_of_status}
-use Rattle.rept_app.specs.declared.refusal.Refusal.{Refusal}
-use Rattle.rept_app.specs.declared.refusal.Refusal.TheVariants as refusal
-use Rattle.rept_app.specs.declared.status.Status.{Status}
-use Rattle.rept_app.specs.declared.status.Status.TheVariants as ends
+use Rattle.rept_opening.specs.Delivered.{Delivers, SaysOrNoMemory, TellsName}
+use Rattle.rept_opening.specs.Status.{number_of_status}
+use Rattle.rept_opening.specs.declared.refusal.Refusal.{Refusal}
+use Rattle.rept_opening.specs.declared.refusal.Refusal.TheVariants as refusal
+use Rattle.rept_opening.specs.declared.status.Status.{Status}
+use Rattle.rept_opening.specs.declared.status.Status.TheVariants as ends
 use Rattle.rept_debug.specs.Debugged.{HasNoTalk, IsDebugged, Notices, status_of_no_talk, streams}
 use Rattle.rept_debug.specs.declared.no_talk.NoTalk.{NoTalk}
 use Rattle.rept_debug.specs.declared.no_talk.NoTalk.TheVariants as no_talk

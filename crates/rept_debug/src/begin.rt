@@ -4,12 +4,12 @@ ghost use Rattle.std.specs.Prelude.{◌≡◌, ◌<◌, ◌^◌, ℕ, List, leng
 ghost use Rattle.rept_path.specs.declared.fault.PathFault.TheVariants as fault;
 ghost use Rattle.rept_runs.specs.Kind.{is_several};
 ghost use Rattle.rept_found.specs.Crash.{crash_of};
-ghost use Rattle.rept_app.specs.Reading.{AreNotesOf, HasNotes};
-ghost use Rattle.rept_app.specs.TraceRun.{FitsDump, HasNoRunOf};
+ghost use Rattle.rept_opening.specs.Reading.{AreNotesOf, HasNotes};
+ghost use Rattle.rept_opening.specs.TraceRun.{FitsDump, HasNoRunOf};
 ghost use Rattle.rept_debug.specs.Begin.{AreBegun, IsKind};
 
-use rept_app::trace_run;
 use rept_dump::Dump;
+use rept_opening::trace_run;
 use rept_path::PathFault;
 use rept_steps::Run;
 use std::alloc::Global;

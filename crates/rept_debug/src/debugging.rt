@@ -2,8 +2,7 @@
 
 ghost use Rattle.std.specs.Prelude.{◌≡◌, ◌≤◌, ◌<◌, ◌^◌, map, length, string_bytes, IfOk, IfErr, IfSome};
 ghost use Rattle.rept_ports.specs.Port.{move};
-ghost use Rattle.rept_app.specs.Loading.{ShelfMoves, crash_bytes};
-ghost use Rattle.rept_app.specs.Top.{FaultsEnd};
+ghost use Rattle.rept_opening.specs.Loading.{ShelfMoves, crash_bytes, FaultsEnd};
 ghost use Rattle.rept_words.specs.Words.{meaning_of};
 ghost use Rattle.rept_debug.specs.Debugged.{HasNoTalk, IsDebugged, IsHeld, IsRefusedCrash, Notices, streams};
 
@@ -11,9 +10,9 @@ use crate::mapped::debug_mapped;
 use crate::no_talk::NoTalk;
 use crate::talk::{Talk, debug_trace};
 use rept_amo::Atomic;
-use rept_app::{Asked, CrashFiles, Refusal, load_files, read_dump};
 use rept_found::{reports_are_true, trips_are_true};
 use rept_known::Both;
+use rept_opening::{Asked, CrashFiles, Refusal, load_files, read_dump};
 use rept_partial::Range;
 use rept_ports::{Shelf, Sink, Source};
 use rept_runs::is_several;

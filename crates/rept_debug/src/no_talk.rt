@@ -3,7 +3,7 @@
 ghost use Rattle.std.specs.Prelude.{◌≡◌};
 ghost use Rattle.rept_debug.specs.Debugged.{IsLoadFault, status_of_no_talk};
 
-use rept_app::{Refusal, Status};
+use rept_opening::{Refusal, Status};
 use std::alloc::Global;
 
 /// Why no dialog is held.

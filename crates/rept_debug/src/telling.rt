@@ -1,12 +1,11 @@
 //! Writing why no dialog is held.
 
 ghost use Rattle.rept_ports.specs.Port.{move};
-ghost use Rattle.rept_app.specs.Delivered.{Delivers};
-ghost use Rattle.rept_app.specs.MappedEnds.{TellsName};
+ghost use Rattle.rept_opening.specs.Delivered.{Delivers};
 ghost use Rattle.rept_debug.specs.Process.{TellsNoTalk, TellsRefusal};
 
 use crate::no_talk::NoTalk;
-use rept_app::{Refusal, Status, deliver, tell, tell_failed};
+use rept_opening::{Refusal, Status, deliver, tell, tell_failed};
 use rept_ports::Sink;
 use std::alloc::Global;
 

@@ -5,13 +5,14 @@ use Rattle.rept_ports.specs.Shelves.{Files, Shelved}
 use Rattle.rept_ports.specs.declared.arguments.Unreadable.{Unreadable}
 use Rattle.rept_ports.specs.declared.arguments.Unreadable.TheVariants.{NotText, OutOfMemory}
 use Rattle.rept_words.specs.Words.{meaning_of}
-use Rattle.rept_app.specs.Delivered.{Delivers, SaysRefusal}
+use Rattle.rept_opening.specs.Delivered.{Delivers, SaysRefusal}
 use Rattle.rept_app.specs.Promise.{Promise}
 use Rattle.rept_app.specs.Told.{CallInput, CallWrites, call_input}
-use Rattle.rept_app.specs.Top.{FaultsEnd, ShelfCauses, TopCauses, EndsByFiles}
-use Rattle.rept_app.specs.declared.refusal.Refusal.TheVariants as refusal
-use Rattle.rept_app.specs.declared.status.Status.{Status}
-use Rattle.rept_app.specs.declared.status.Status.TheVariants as ends
+use Rattle.rept_opening.specs.Loading.{FaultsEnd}
+use Rattle.rept_app.specs.Top.{ShelfCauses, TopCauses, EndsByFiles}
+use Rattle.rept_opening.specs.declared.refusal.Refusal.TheVariants as refusal
+use Rattle.rept_opening.specs.declared.status.Status.{Status}
+use Rattle.rept_opening.specs.declared.status.Status.TheVariants as ends
 
 -- the words; none, where one of them isn't text
 abbrev pub words_read : Result (List (List ℕ)) Unreadable → List (List ℕ)

@@ -5,16 +5,18 @@ ghost use Rattle.std.specs.Prelude.{◌≡◌, map, string_bytes, IfSome, None, 
 ghost use Rattle.std.specs.Process.{exit_status};
 ghost use Rattle.std.specs.Result.{result_map_both};
 ghost use Rattle.rept_ports.specs.Port.{move};
-ghost use Rattle.rept_app.specs.Delivered.{Delivers, SaysRefusal};
+ghost use Rattle.rept_opening.specs.Delivered.{Delivers, SaysRefusal};
 ghost use Rattle.rept_app.specs.Promise.{Promise};
-ghost use Rattle.rept_app.specs.Status.{number_of_status};
+ghost use Rattle.rept_opening.specs.Status.{number_of_status};
 ghost use Rattle.rept_app.specs.Told.{CallWrites, call_input};
-ghost use Rattle.rept_app.specs.Top.{FaultsEnd, ShelfCauses, TopCauses, EndsByFiles};
+ghost use Rattle.rept_opening.specs.Loading.{FaultsEnd};
+ghost use Rattle.rept_app.specs.Top.{ShelfCauses, TopCauses, EndsByFiles};
 ghost use Rattle.rept_words.specs.Words.{meaning_of};
-ghost use Rattle.rept_app.specs.declared.refusal.Refusal.TheVariants as refusal;
+ghost use Rattle.rept_opening.specs.declared.refusal.Refusal.TheVariants as refusal;
 ghost use Rattle.rept_run.specs.Process.{Answers, AreWordsRead, process, words_read};
 
-use rept_app::{Status, rept, tell_no_memory};
+use rept_app::rept;
+use rept_opening::{Status, tell_no_memory};
 use rept_ports::{DiskShelf, Shelf, Sink, Source, StdSink, StdSource, Unreadable, words_of};
 use std::alloc::Global;
 use std::process::ExitCode;

@@ -2,11 +2,12 @@ use Rattle.std.proofs.Common.{◌≡◌, map, string_bytes, List, [], ℕ, IfSom
 use Rattle.std.specs.Result.{result_map_both}
 use Rattle.rept_ports.specs.Port.{move}
 use Rattle.rept_ports.specs.declared.arguments.Unreadable.{Unreadable}
-use Rattle.rept_app.specs.Delivered.{Delivers}
+use Rattle.rept_opening.specs.Delivered.{Delivers}
 use Rattle.rept_app.specs.Promise.{Promise}
 use Rattle.rept_app.specs.Told.{CallWrites, call_input}
-use Rattle.rept_app.specs.Top.{EndsByFiles, FaultsEnd, ShelfCauses}
-use Rattle.rept_app.specs.declared.status.Status.TheVariants as ends
+use Rattle.rept_app.specs.Top.{EndsByFiles, ShelfCauses}
+use Rattle.rept_opening.specs.Loading.{FaultsEnd}
+use Rattle.rept_opening.specs.declared.status.Status.TheVariants as ends
 use Rattle.rept_words.specs.Words.{meaning_of}
 use Rattle.rept_run.specs.Process.{words_read}
 use Rattle.rept_run.proofs.status_on.Goals as goal

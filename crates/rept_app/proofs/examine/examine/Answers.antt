@@ -3,12 +3,14 @@ use Rattle.rept_found.specs.Crash.{Crash}
 use Rattle.rept_ports.specs.Port.{move}
 use Rattle.rept_app.specs.Examine.{Examines, WalksTrace, WalkHolds, IsWalked, TraceExcludes}
 use Rattle.rept_runs.specs.Kind.{is_several}
-use Rattle.rept_app.specs.Loading.{crash_bytes}
-use Rattle.rept_app.specs.Reading.{HasNotes, HasNoDump, IsDumpOf}
-use Rattle.rept_app.specs.Told.{crash_trace}
-use Rattle.rept_app.specs.declared.status.Status.TheVariants as ends
-use Rattle.rept_app.proofs.DeliveredLemmas.{delivers_as, ends_told, not_yielded, told_ports}
-use Rattle.rept_app.proofs.ToldLemmas.{where_told, at_some, reading_of}
+use Rattle.rept_opening.specs.Loading.{crash_bytes}
+use Rattle.rept_opening.specs.Reading.{HasNotes, HasNoDump, IsDumpOf}
+use Rattle.rept_opening.specs.Opened.{crash_trace}
+use Rattle.rept_opening.specs.declared.status.Status.TheVariants as ends
+use Rattle.rept_opening.proofs.DeliveredLemmas.{delivers_as}
+use Rattle.rept_app.proofs.DeliveredLemmas.{ends_told, not_yielded, told_ports}
+use Rattle.rept_opening.proofs.ToldLemmas.{where_told, at_some}
+use Rattle.rept_app.proofs.ToldLemmas.{reading_of}
 use Rattle.rept_app.proofs.ExamineLemmas.{as_refused, not_refused, refused_ends, refused_examines, refused_status, notes_end, told_examined, walked_examined, walks_examine, files_exclude, reads_here, walk_holds}
 use Rattle.rept_app.proofs.examine.examine.Goals as goal
 

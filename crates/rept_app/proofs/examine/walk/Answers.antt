@@ -1,9 +1,11 @@
 use Rattle.rept_found.specs.Crash.{crash_of}
 use Rattle.rept_app.specs.Examine.{WalksTrace}
-use Rattle.rept_app.specs.Told.{crash_trace}
-use Rattle.rept_app.specs.declared.refusal.Refusal.TheVariants as refusal
-use Rattle.rept_app.proofs.DeliveredLemmas.{delivers_as, ends_told, told_ports}
-use Rattle.rept_app.proofs.ToldLemmas.{where_told, at_some, reading_of}
+use Rattle.rept_opening.specs.Opened.{crash_trace}
+use Rattle.rept_opening.specs.declared.refusal.Refusal.TheVariants as refusal
+use Rattle.rept_opening.proofs.DeliveredLemmas.{delivers_as}
+use Rattle.rept_app.proofs.DeliveredLemmas.{ends_told, told_ports}
+use Rattle.rept_opening.proofs.ToldLemmas.{where_told, at_some}
+use Rattle.rept_app.proofs.ToldLemmas.{reading_of}
 use Rattle.rept_app.proofs.ExamineLemmas.{refused_told, not_input, not_output, told_walked, refused_yields, studied_walked, refused_walks, studies_walk, trace_excludes, study_holds}
 use Rattle.rept_app.proofs.examine.walk.Goals as goal
 

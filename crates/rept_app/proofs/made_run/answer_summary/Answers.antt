@@ -4,15 +4,15 @@ use Rattle.rept_found.proofs.Truths.{uses_here, no_execution}
 use Rattle.rept_report.specs.OneThread.{path_setting}
 use Rattle.rept_found.specs.Crash.{path_of}
 use Rattle.rept_words.specs.declared.request.Domain.TheVariants as domain
-use Rattle.rept_app.specs.Delivered.{Delivers}
-use Rattle.rept_app.specs.Domains.{means_of}
-use Rattle.rept_app.specs.declared.load.Manner.{Manner}
+use Rattle.rept_opening.specs.Delivered.{Delivers}
+use Rattle.rept_opening.specs.Domains.{means_of}
+use Rattle.rept_opening.specs.declared.load.Manner.{Manner}
 use Rattle.rept_app.specs.Ends.{EndsSession}
 use Rattle.rept_app.specs.Examine.{Examines, FilesEnd}
-use Rattle.rept_app.specs.Loading.{crash_bytes}
+use Rattle.rept_opening.specs.Loading.{crash_bytes}
 use Rattle.rept_app.specs.MadeRun.{Sums}
 use Rattle.rept_app.specs.Told.{made_bytes, summary_line}
-use Rattle.rept_app.proofs.DeliveredLemmas.{delivers_as}
+use Rattle.rept_opening.proofs.DeliveredLemmas.{delivers_as}
 use Rattle.rept_app.proofs.MadeLemmas.{sums, session_made, yields_made, crash_made, at_bytes}
 use Rattle.rept_app.proofs.ToldLemmas.{reading_of}
 use Rattle.rept_app.proofs.made_run.answer_summary.Goals as goal

@@ -5,16 +5,19 @@ use Rattle.rept_mapped.specs.Mapped.{mappings}
 use Rattle.rept_found.specs.Crash.{crash_of}
 use Rattle.rept_ports.specs.Port.{move}
 use Rattle.rept_app.specs.Examine.{Examines, IsWalked, TraceExcludes, WalkHolds, WalksTrace}
-use Rattle.rept_app.specs.Loading.{core_bytes, parts_bytes}
-use Rattle.rept_app.specs.Reading.{HasNotes}
-use Rattle.rept_app.specs.Told.{CrashTrace}
-use Rattle.rept_app.specs.declared.refusal.Refusal.TheVariants as refusal
-use Rattle.rept_app.specs.declared.status.Status.TheVariants as ends
-use Rattle.rept_app.proofs.DeliveredLemmas.{delivers_as, ends_told, not_yielded, told_ports}
-use Rattle.rept_app.proofs.ToldLemmas.{where_told, at_some, reading_of}
+use Rattle.rept_opening.specs.Loading.{core_bytes, parts_bytes}
+use Rattle.rept_opening.specs.Reading.{HasNotes}
+use Rattle.rept_opening.specs.Opened.{CrashTrace}
+use Rattle.rept_opening.specs.declared.refusal.Refusal.TheVariants as refusal
+use Rattle.rept_opening.specs.declared.status.Status.TheVariants as ends
+use Rattle.rept_opening.proofs.DeliveredLemmas.{delivers_as}
+use Rattle.rept_app.proofs.DeliveredLemmas.{ends_told, not_yielded, told_ports}
+use Rattle.rept_opening.proofs.ToldLemmas.{where_told, at_some}
+use Rattle.rept_app.proofs.ToldLemmas.{reading_of}
 use Rattle.rept_app.proofs.ExamineLemmas.{files_exclude, notes_end, reads_here, refused_ends, refused_examines, told_examined, walk_holds, walked_examined, walks_examine}
-use Rattle.rept_app.proofs.MappedLemmas.{kind_is, not_executable, parts_noted, parts_refused, parts_trace}
-use Rattle.rept_app.proofs.Notes.{has_notes, noted_by}
+use Rattle.rept_opening.proofs.MappedLemmas.{kind_is, parts_noted, parts_refused, parts_trace}
+use Rattle.rept_app.proofs.MappedLemmas.{not_executable}
+use Rattle.rept_opening.proofs.Notes.{has_notes, noted_by}
 use Rattle.rept_app.proofs.mapped.examine_images.Goals as goal
 
 pub walk-requires-clause-noted : goal.walk-requires-clause-noted

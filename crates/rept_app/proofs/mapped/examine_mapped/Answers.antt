@@ -2,14 +2,14 @@ use Rattle.std.proofs.Common.{◌≡◌, ◌⊎◌, List, ℕ, IfErr, IfSome, su
 use Rattle.rept_maps.specs.Views.{desc_of}
 use Rattle.rept_mapped.specs.Mapped.{mappings}
 use Rattle.rept_ports.specs.Port.{move}
-use Rattle.rept_app.specs.Delivered.{Delivers}
+use Rattle.rept_opening.specs.Delivered.{Delivers}
 use Rattle.rept_app.specs.Examine.{Examines, FilesExclude, FilesHold, IsExamined}
-use Rattle.rept_app.specs.Forms.{core_image_fault}
-use Rattle.rept_app.specs.Listed.{AreLoaded, HasNoFiles}
-use Rattle.rept_app.specs.Loading.{core_bytes, parts_bytes}
-use Rattle.rept_app.specs.declared.listed.ListStop.TheVariants as stops
-use Rattle.rept_app.specs.declared.status.Status.TheVariants as ends
-use Rattle.rept_app.proofs.MappedLemmas.{err_at}
+use Rattle.rept_opening.specs.Forms.{core_image_fault}
+use Rattle.rept_opening.specs.Listed.{AreLoaded, HasNoFiles}
+use Rattle.rept_opening.specs.Loading.{core_bytes, parts_bytes}
+use Rattle.rept_opening.specs.declared.listed.ListStop.TheVariants as stops
+use Rattle.rept_opening.specs.declared.status.Status.TheVariants as ends
+use Rattle.rept_opening.proofs.MappedLemmas.{err_at}
 use Rattle.rept_app.proofs.MappedExits.{files_causes, files_impossible, files_lines, files_stay, loaded_all, memory_causes, memory_impossible, memory_written, name_causes, name_impossible, name_lines, refused_causes, refused_impossible, refused_lines}
 use Rattle.rept_app.proofs.ToldLemmas.{reading_of}
 use Rattle.rept_app.proofs.mapped.examine_mapped.Goals as goal

@@ -1,51 +1,52 @@
-use Rattle.std.proofs.Common.{◌≡◌, ◌⊎◌, IfSome}
+use Rattle.std.proofs.Common.{inl, inr, sym, ap, subst}
 use Rattle.rept_found.specs.Crash.{crash_of}
 use Rattle.rept_ports.specs.Port.{move}
-use Rattle.rept_words.specs.declared.request.Domain.TheVariants as domain
-use Rattle.rept_app.specs.Delivered.{Delivers}
-use Rattle.rept_app.specs.Study.{Studies, IsStudied, StudyHolds}
-use Rattle.rept_app.specs.True.{IsExcluded}
-use Rattle.rept_app.specs.declared.status.Status.TheVariants as ends
-use Rattle.rept_app.proofs.StudyLemmas.{in_domain}
+use Rattle.rept_opening.specs.Delivered.{SaysOrNoMemory}
+use Rattle.rept_opening.specs.Domains.{means_of}
+use Rattle.rept_opening.specs.Opened.{crash_run}
+use Rattle.rept_app.specs.Study.{Studies, IsStudied}
+use Rattle.rept_opening.proofs.DeliveredLemmas.{delivers_as}
+use Rattle.rept_opening.proofs.ToldLemmas.{where_told, at_some}
 use Rattle.rept_app.proofs.ToldLemmas.{reading_of}
+use Rattle.rept_app.proofs.StudyLemmas.{delivers_from, held_causes, not_inconsistent, refused_causes, refused_excludes, refused_studies}
 use Rattle.rept_app.proofs.study.study.Goals as goal
 
-pub returns-in-Ranges-clause-text : goal.returns-in-Ranges-clause-text
-returns-in-Ranges-clause-text g c = λ notes are.
-    in_domain (λ d p. IfSome (g.S.Source.port c.args.input.now).bytes (λ bytes. Delivers (Studies p (reading_of bytes (g.S.Source.port c.study_by.new.input).bytes)) (move (g.K.Sink.port c.args.out.now) (g.K.Sink.port c.study_by.new.out)) c.study_by.result))
-    c.args.domain domain.Ranges (crash_of c.args.dump.now notes) c.args.run.now c.in-Ranges.is (c.study_by.ensures.text notes are)
+pub returns-in-Ok-clause-text : goal.returns-in-Ok-clause-text
+returns-in-Ok-clause-text g c = λ notes are.
+    let p = crash_run (means_of c.args.domain) (crash_of c.args.dump.now notes) c.args.run.now in
+    let h = c.in-Ok.ensures.asked notes are in
+    where_told _ _ (λ left told. delivers_as _ (Studies p (reading_of left (g.S.Source.port c.open_report.new.input).bytes)) _ _ (λ text status said. inr (inl (h.account, h.report, said)))
+    (at_some (g.S.Source.port c.args.input.now).bytes left _ told h.asked.0))
 
-pub returns-in-Ranges-clause-causes : goal.returns-in-Ranges-clause-causes
-returns-in-Ranges-clause-causes g c = λ notes are.
-    in_domain (λ d p. IsStudied p (move (g.S.Source.port c.args.input.now) (g.S.Source.port c.study_by.new.input)) (move (g.K.Sink.port c.args.out.now) (g.K.Sink.port c.study_by.new.out)) c.study_by.result)
-    c.args.domain domain.Ranges (crash_of c.args.dump.now notes) c.args.run.now c.in-Ranges.is (c.study_by.ensures.causes notes are)
+pub returns-in-Ok-clause-causes : goal.returns-in-Ok-clause-causes
+returns-in-Ok-clause-causes g c = λ notes are.
+    let h = c.in-Ok.ensures.asked notes are in
+    held_causes (means_of c.args.domain) (crash_of c.args.dump.now notes) c.args.run.now _ _ c.in-Ok.held.status h.report.report.consistent h.asked.1
 
-pub returns-in-Ranges-clause-stays : goal.returns-in-Ranges-clause-stays
-returns-in-Ranges-clause-stays g c = λ notes are.
-    in_domain (λ d p. (c.study_by.new.input ≡ c.args.input.now) ⊎ StudyHolds p c.study_by.result)
-    c.args.domain domain.Ranges (crash_of c.args.dump.now notes) c.args.run.now c.in-Ranges.is (c.study_by.ensures.stays notes are)
+pub returns-in-Ok-clause-stays : goal.returns-in-Ok-clause-stays
+returns-in-Ok-clause-stays g c = λ notes are. let h = c.in-Ok.ensures.asked notes are in inr (h.report.report.consistent, h.asked.1.answered)
 
-pub returns-in-KnownBits-clause-text : goal.returns-in-KnownBits-clause-text
-returns-in-KnownBits-clause-text g c = λ notes are.
-    in_domain (λ d p. IfSome (g.S.Source.port c.args.input.now).bytes (λ bytes. Delivers (Studies p (reading_of bytes (g.S.Source.port c.study_by-in-KnownBits.new.input).bytes)) (move (g.K.Sink.port c.args.out.now) (g.K.Sink.port c.study_by-in-KnownBits.new.out)) c.study_by-in-KnownBits.result))
-    c.args.domain domain.KnownBits (crash_of c.args.dump.now notes) c.args.run.now c.in-KnownBits.is (c.study_by-in-KnownBits.ensures.text notes are)
+pub returns-in-Ok-clause-impossible : goal.returns-in-Ok-clause-impossible
+returns-in-Ok-clause-impossible g c = λ notes are e. absurd (not_inconsistent c.in-Ok.held.status (c.in-Ok.ensures.asked notes are).asked.1.answered e)
 
-pub returns-in-KnownBits-clause-causes : goal.returns-in-KnownBits-clause-causes
-returns-in-KnownBits-clause-causes g c = λ notes are.
-    in_domain (λ d p. IsStudied p (move (g.S.Source.port c.args.input.now) (g.S.Source.port c.study_by-in-KnownBits.new.input)) (move (g.K.Sink.port c.args.out.now) (g.K.Sink.port c.study_by-in-KnownBits.new.out)) c.study_by-in-KnownBits.result)
-    c.args.domain domain.KnownBits (crash_of c.args.dump.now notes) c.args.run.now c.in-KnownBits.is (c.study_by-in-KnownBits.ensures.causes notes are)
+pub returns-in-Err-clause-text : goal.returns-in-Err-clause-text
+returns-in-Err-clause-text g c = λ notes are.
+    let p = crash_run (means_of c.args.domain) (crash_of c.args.dump.now notes) c.args.run.now in
+    let said = delivers_from (SaysOrNoMemory c.in-Err.refusal) (g.K.Sink.port c.args.out.now) (g.K.Sink.port c.open_report.new.out) (g.K.Sink.port c.tell.new.out) c.tell.result (ap g.K.Sink.port c.in-Err.ensures.unread.1) c.tell.ensures in
+    where_told _ _ (λ left told. delivers_as _ (Studies p (reading_of left (g.S.Source.port c.open_report.new.input).bytes)) _ _
+    (refused_studies (means_of c.args.domain) (crash_of c.args.dump.now notes) c.args.run.now c.in-Err.refusal (c.in-Err.ensures.refused notes are) (reading_of left (g.S.Source.port c.open_report.new.input).bytes)) said)
 
-pub returns-in-KnownBits-clause-stays : goal.returns-in-KnownBits-clause-stays
-returns-in-KnownBits-clause-stays g c = λ notes are.
-    in_domain (λ d p. (c.study_by-in-KnownBits.new.input ≡ c.args.input.now) ⊎ StudyHolds p c.study_by-in-KnownBits.result)
-    c.args.domain domain.KnownBits (crash_of c.args.dump.now notes) c.args.run.now c.in-KnownBits.is (c.study_by-in-KnownBits.ensures.stays notes are)
+pub returns-in-Err-clause-causes : goal.returns-in-Err-clause-causes
+returns-in-Err-clause-causes g c = λ notes are.
+    let p = crash_run (means_of c.args.domain) (crash_of c.args.dump.now notes) c.args.run.now in
+    let said = delivers_from (SaysOrNoMemory c.in-Err.refusal) (g.K.Sink.port c.args.out.now) (g.K.Sink.port c.open_report.new.out) (g.K.Sink.port c.tell.new.out) c.tell.result (ap g.K.Sink.port c.in-Err.ensures.unread.1) c.tell.ensures in
+    subst (λ x. IsStudied p (move (g.S.Source.port c.args.input.now) (g.S.Source.port x)) (move (g.K.Sink.port c.args.out.now) (g.K.Sink.port c.tell.new.out)) c.tell.result) (sym c.in-Err.ensures.unread.0)
+    (refused_causes (means_of c.args.domain) (crash_of c.args.dump.now notes) c.args.run.now c.in-Err.refusal (c.in-Err.ensures.refused notes are) (g.S.Source.port c.args.input.now) _ c.tell.result said)
 
-pub returns-in-Ranges-clause-impossible : goal.returns-in-Ranges-clause-impossible
-returns-in-Ranges-clause-impossible g c = λ notes are.
-    in_domain (λ d p. c.study_by.result ≡ ends.Inconsistent → IsExcluded p)
-    c.args.domain domain.Ranges (crash_of c.args.dump.now notes) c.args.run.now c.in-Ranges.is (c.study_by.ensures.impossible notes are)
+pub returns-in-Err-clause-stays : goal.returns-in-Err-clause-stays
+returns-in-Err-clause-stays g c = λ notes are. inl c.in-Err.ensures.unread.0
 
-pub returns-in-KnownBits-clause-impossible : goal.returns-in-KnownBits-clause-impossible
-returns-in-KnownBits-clause-impossible g c = λ notes are.
-    in_domain (λ d p. c.study_by-in-KnownBits.result ≡ ends.Inconsistent → IsExcluded p)
-    c.args.domain domain.KnownBits (crash_of c.args.dump.now notes) c.args.run.now c.in-KnownBits.is (c.study_by-in-KnownBits.ensures.impossible notes are)
+pub returns-in-Err-clause-impossible : goal.returns-in-Err-clause-impossible
+returns-in-Err-clause-impossible g c = λ notes are.
+    let said = delivers_from (SaysOrNoMemory c.in-Err.refusal) (g.K.Sink.port c.args.out.now) (g.K.Sink.port c.open_report.new.out) (g.K.Sink.port c.tell.new.out) c.tell.result (ap g.K.Sink.port c.in-Err.ensures.unread.1) c.tell.ensures in
+    refused_excludes (means_of c.args.domain) (crash_of c.args.dump.now notes) c.args.run.now c.in-Err.refusal (c.in-Err.ensures.refused notes are) _ c.tell.result said

@@ -1,29 +1,33 @@
 use Rattle.std.proofs.Common.{◌≡◌, ◌⊎◌, map, string_bytes, IfSome}
 use Rattle.rept_ports.specs.Port.{move}
-use Rattle.rept_app.specs.Delivered.{Delivers}
+use Rattle.rept_opening.specs.Delivered.{Delivers}
 use Rattle.rept_app.specs.Examine.{Examines}
-use Rattle.rept_app.specs.Lines.{status_of}
-use Rattle.rept_app.specs.Loading.{core_bytes, crash_bytes, loading, asked_for}
-use Rattle.rept_app.specs.Loading.Loading.{Loaded, LoadedCore, MadeRun}
-use Rattle.rept_app.specs.Mapped.{mapped_crash}
+use Rattle.rept_opening.specs.Lines.{status_of}
+use Rattle.rept_opening.specs.Loading.{core_bytes, crash_bytes, loading, asked_for}
+use Rattle.rept_opening.specs.Loading.Loading.{Loaded, LoadedCore, MadeRun}
+use Rattle.rept_opening.specs.Mapped.{mapped_crash}
 use Rattle.rept_app.specs.MappedEnds.{ExaminesMapped, MappedEnd, MappedExcludes, MappedHolds, mapped_call}
 use Rattle.rept_app.specs.MadeRun.{Sums}
-use Rattle.rept_app.specs.declared.load.Asked.TheVariants as asked
+use Rattle.rept_opening.specs.declared.load.Asked.TheVariants as asked
 use Rattle.rept_app.proofs.MadeLemmas.{made_holds}
 use Rattle.rept_app.proofs.WordsLemmas.{asks_few}
 use Rattle.rept_app.proofs.MappedTop.{as_before, both_asks, both_at, both_loads, both_mean, both_named, mapped_causes, mapped_ends, mapped_excludes, mapped_holds, mapped_loads, mapped_once, mapped_stays, mapped_usage, mapped_writes}
 use Rattle.rept_app.specs.Claims.{BitsKnowMore, ComeToReport, ReportHolds, NoExecution}
-use Rattle.rept_app.specs.Domains.{means_of}
+use Rattle.rept_opening.specs.Domains.{means_of}
 use Rattle.rept_app.specs.Told.{CallWrites, call_input}
 use Rattle.rept_app.specs.Top.{EndsByFiles}
 use Rattle.rept_words.specs.Words.{meaning_of}
-use Rattle.rept_app.specs.declared.status.Status.TheVariants as ends
-use Rattle.rept_app.proofs.DeliveredLemmas.{delivers_as, ends_told, told_ports, not_yielded}
+use Rattle.rept_opening.specs.declared.status.Status.TheVariants as ends
+use Rattle.rept_opening.proofs.DeliveredLemmas.{delivers_as}
+use Rattle.rept_app.proofs.DeliveredLemmas.{ends_told, told_ports, not_yielded}
 use Rattle.rept_app.proofs.PromiseLemmas.{promised}
-use Rattle.rept_app.proofs.TrueLemmas.{bits_know, reports_hold, true_in_both, true_of}
+use Rattle.rept_app.proofs.TrueLemmas.{bits_know, reports_hold}
+use Rattle.rept_opening.proofs.TrueLemmas.{true_in_both, true_of}
 use Rattle.rept_words.specs.declared.request.Domain.TheVariants as domain
-use Rattle.rept_app.proofs.ToldLemmas.{where_told, at_some, reading_of}
-use Rattle.rept_app.proofs.TopLemmas.{both, of_both, loaded_at, stops, refused_ends, refused_writes, refused_causes, refused_loads, no_status, input_only, output_only, conflict_only, examined_writes, examined_ends, examined_causes, examined_excludes, all_loads, files_hold, holds_where, completed, ok_at, done_at, all_at, made_at, asked_holds, loaded_asks, loads_named, refused_asks, made_asks, made_loads, made_means, made_causes, made_ends, made_writes, no_other, causes_of, once_of}
+use Rattle.rept_opening.proofs.ToldLemmas.{where_told, at_some}
+use Rattle.rept_app.proofs.ToldLemmas.{reading_of}
+use Rattle.rept_app.proofs.TopLemmas.{both, of_both, loaded_at, refused_ends, refused_writes, refused_causes, refused_loads, no_status, input_only, output_only, conflict_only, examined_writes, examined_ends, examined_causes, examined_excludes, all_loads, files_hold, holds_where, completed, done_at, all_at, made_at, asked_holds, loaded_asks, loads_named, refused_asks, made_asks, made_loads, made_means, made_causes, made_ends, made_writes, no_other, causes_of, once_of}
+use Rattle.rept_opening.proofs.LoadingLemmas.{stops, ok_at}
 use Rattle.rept_app.proofs.top.rept.Goals as goal
 
 pub returns-in-Ok-Files-clause-causes : goal.returns-in-Ok-Files-clause-causes

@@ -2,7 +2,7 @@ use Rattle.std.proofs.Common.{◌+◌, ◌-◌, ◌/◌, Option, IfSome, arith, 
 use Rattle.std.specs.Prelude.{MatchOption}
 use Rattle.rept_found.specs.Crash.{crash_of}
 use Rattle.rept_steps.specs.declared.run.Run.{Run}
-use Rattle.rept_app.specs.TraceRun.{FitsDump}
+use Rattle.rept_opening.specs.TraceRun.{FitsDump}
 use Rattle.rept_debug.specs.Begin.{HasNoStart}
 use Rattle.rept_debug.proofs.Sought.{IsSought, begun_after, cut_there, has_no_start, is_long, long_to_the_end, never_begun, next_to, still_sought}
 use Rattle.rept_debug.proofs.begin.later_run.Goals as goal

@@ -2,8 +2,8 @@ use Rattle.std.proofs.Common.{◌<◌, ◌-◌, ◌^◌, ℕ, List, IfSome}
 use Rattle.std.specs.Prelude.{MatchOption}
 use Rattle.rept_path.specs.declared.fault.PathFault.TheVariants as fault
 use Rattle.rept_found.specs.Crash.{crash_of}
-use Rattle.rept_app.specs.Reading.{AreNotesOf}
-use Rattle.rept_app.specs.TraceRun.{FitsDump, HasNoRunOf}
+use Rattle.rept_opening.specs.Reading.{AreNotesOf}
+use Rattle.rept_opening.specs.TraceRun.{FitsDump, HasNoRunOf}
 use Rattle.rept_debug.specs.Begin.{HasNoStart}
 use Rattle.rept_debug.proofs.Sought.{IsSought}
 use Rattle.rept_debug.proofs.begin.later_run.Given as goal

@@ -3,14 +3,14 @@ use Rattle.std.proofs.lemmas.Result.{IfErr-weaker, IfOk-weaker}
 use Rattle.rept_ports.specs.Port.{move}
 use Rattle.rept_words.specs.Words.{meaning_of}
 use Rattle.rept_words.specs.declared.request.Domain.TheVariants as domain
-use Rattle.rept_app.proofs.ToldLemmas.{at_some, where_told}
-use Rattle.rept_app.proofs.TopLemmas.{ok_at, stops}
-use Rattle.rept_app.proofs.TrueLemmas.{true_in_both, true_of}
-use Rattle.rept_app.specs.Domains.{means_of}
-use Rattle.rept_app.specs.Loading.{IsAsked, asked_for, core_bytes, crash_bytes, loading}
-use Rattle.rept_app.specs.Loading.Loading.{Loaded, LoadedCore}
-use Rattle.rept_app.specs.Mapped.{mapped_crash}
-use Rattle.rept_app.specs.declared.load.Asked.TheVariants as asked
+use Rattle.rept_opening.proofs.ToldLemmas.{at_some, where_told}
+use Rattle.rept_opening.proofs.LoadingLemmas.{ok_at, stops}
+use Rattle.rept_opening.proofs.TrueLemmas.{true_in_both, true_of}
+use Rattle.rept_opening.specs.Domains.{means_of}
+use Rattle.rept_opening.specs.Loading.{IsAsked, asked_for, core_bytes, crash_bytes, loading}
+use Rattle.rept_opening.specs.Loading.Loading.{Loaded, LoadedCore}
+use Rattle.rept_opening.specs.Mapped.{mapped_crash}
+use Rattle.rept_opening.specs.declared.load.Asked.TheVariants as asked
 use Rattle.rept_debug.specs.Debugged.{HasNoTalk, IsDebugged, IsHeldMapped, IsUnheld, streams}
 use Rattle.rept_debug.specs.declared.no_talk.NoTalk.TheVariants as no_talk
 use Rattle.rept_debug.proofs.ListedLemmas.{both_loads, mapped_moves, said_ok}

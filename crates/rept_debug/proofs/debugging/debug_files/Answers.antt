@@ -3,9 +3,9 @@ use Rattle.std.proofs.lemmas.Result.{IfErr-weaker, IfOk-weaker}
 use Rattle.rept_found.specs.Crash.{crash_of}
 use Rattle.rept_ports.specs.Port.{move}
 use Rattle.rept_runs.specs.Kind.{is_several}
-use Rattle.rept_app.specs.Loading.{CrashBytes, crash_bytes}
-use Rattle.rept_app.specs.Reading.{HasNoDump, HasNotes, IsDumpOf}
-use Rattle.rept_app.specs.Told.{crash_trace}
+use Rattle.rept_opening.specs.Loading.{CrashBytes, crash_bytes}
+use Rattle.rept_opening.specs.Reading.{HasNoDump, HasNotes, IsDumpOf}
+use Rattle.rept_opening.specs.Opened.{crash_trace}
 use Rattle.rept_debug.specs.Debugged.{IsHeld, IsHeldTrace, IsRefusedCrash, IsRefusedTrace, streams}
 use Rattle.rept_debug.proofs.OpenLemmas.{same_bytes}
 use Rattle.rept_debug.proofs.TalkLemmas.{held_at, refused_at}

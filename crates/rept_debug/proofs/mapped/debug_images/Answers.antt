@@ -5,11 +5,11 @@ use Rattle.rept_maps.specs.Views.{desc_of}
 use Rattle.rept_mapped.specs.Mapped.{mappings}
 use Rattle.rept_found.specs.Crash.{crash_of}
 use Rattle.rept_ports.specs.Port.{move}
-use Rattle.rept_app.specs.Loading.{core_bytes, parts_bytes}
-use Rattle.rept_app.specs.Reading.{HasNotes}
-use Rattle.rept_app.specs.Told.{crash_trace}
-use Rattle.rept_app.proofs.MappedLemmas.{kind_is, parts_noted, parts_refused}
-use Rattle.rept_app.proofs.Notes.{has_notes, noted_by}
+use Rattle.rept_opening.specs.Loading.{core_bytes, parts_bytes}
+use Rattle.rept_opening.specs.Reading.{HasNotes}
+use Rattle.rept_opening.specs.Opened.{crash_trace}
+use Rattle.rept_opening.proofs.MappedLemmas.{kind_is, parts_noted, parts_refused}
+use Rattle.rept_opening.proofs.Notes.{has_notes, noted_by}
 use Rattle.rept_debug.specs.Debugged.{IsHeld, IsHeldTrace, IsRefusedCrash, IsRefusedTrace, streams}
 use Rattle.rept_debug.proofs.ListedLemmas.{held_parts, refused_parts}
 use Rattle.rept_debug.proofs.mapped.debug_images.Goals as goal

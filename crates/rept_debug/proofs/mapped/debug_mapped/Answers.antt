@@ -2,13 +2,13 @@ use Rattle.std.proofs.Common.{◌≡◌, List, ℕ, IfErr, inr, refl, ap, subst,
 use Rattle.rept_maps.specs.Views.{desc_of}
 use Rattle.rept_mapped.specs.Mapped.{mappings}
 use Rattle.rept_ports.specs.Port.{move}
-use Rattle.rept_app.specs.Forms.{core_image_fault}
-use Rattle.rept_app.specs.Listed.{AreLoaded, HasNoFiles}
-use Rattle.rept_app.specs.Loading.{core_bytes, parts_bytes}
-use Rattle.rept_app.specs.Mapped.{mapped_crash}
-use Rattle.rept_app.specs.declared.listed.ListStop.TheVariants as stops
-use Rattle.rept_app.specs.declared.refusal.Refusal.TheVariants as refusal
-use Rattle.rept_app.proofs.MappedLemmas.{err_at}
+use Rattle.rept_opening.specs.Forms.{core_image_fault}
+use Rattle.rept_opening.specs.Listed.{AreLoaded, HasNoFiles}
+use Rattle.rept_opening.specs.Loading.{core_bytes, parts_bytes}
+use Rattle.rept_opening.specs.Mapped.{mapped_crash}
+use Rattle.rept_opening.specs.declared.listed.ListStop.TheVariants as stops
+use Rattle.rept_opening.specs.declared.refusal.Refusal.TheVariants as refusal
+use Rattle.rept_opening.proofs.MappedLemmas.{err_at}
 use Rattle.rept_debug.specs.Debugged.{IsHeld, IsRefusedCrash, IsUnheld, streams}
 use Rattle.rept_debug.specs.declared.no_talk.NoTalk.TheVariants as no_talk
 use Rattle.rept_debug.proofs.ListedLemmas.{held_listed, name_unheld, refused_unheld, unheld_listed, where_any}

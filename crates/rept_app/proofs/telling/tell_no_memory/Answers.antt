@@ -1,7 +1,0 @@
-use Rattle.rept_app.specs.Delivered.{SaysRefusal}
-use Rattle.rept_app.specs.declared.refusal.Refusal.TheVariants as refusal
-use Rattle.rept_app.proofs.DeliveredLemmas.{delivers_as}
-use Rattle.rept_app.proofs.telling.tell_no_memory.Goals as goal
-
-pub returns : goal.returns
-returns g c = delivers_as _ (SaysRefusal refusal.OutOfMemory) _ _ (λ text status h. record { line = h.0; ending = h.1 }) c.deliver.ensures

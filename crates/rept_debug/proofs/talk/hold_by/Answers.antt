@@ -1,5 +1,0 @@
-use Rattle.rept_debug.proofs.talk.hold_by.Goals as goal
-
--- the paths that are dropped are those that were made
-pub invariant_of-basis : goal.invariant_of-basis
-invariant_of-basis g c = record { lined = c.in-Ok.basis.paths.lined; stripped = c.in-Ok.basis.paths.stripped; listed = c.in-Ok.basis.paths.listed; lawful = c.in-Ok.basis.paths.lawful }

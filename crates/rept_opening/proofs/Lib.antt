@@ -1,0 +1,11 @@
+pub mod DeliveredLemmas
+pub mod LoadLemmas
+pub mod LoadingLemmas
+pub mod MappedLemmas
+pub mod Notes
+pub mod PathLemmas
+pub mod ReadingLemmas
+pub mod ReportLemmas
+pub mod RunLemmas
+pub mod ToldLemmas
+pub mod TrueLemmas

@@ -1,0 +1,5 @@
+use Rattle.std.proofs.Common.{append_assoc, refl}
+use Rattle.rept_opening.proofs.path_line.push_gap.Goals as goal
+
+pub returns : goal.returns
+returns c = rw (c.in_ok-push_two_places.ensures, c.in_ok-push_numbered.ensures, c.from.ensures) (simp append_assoc refl)

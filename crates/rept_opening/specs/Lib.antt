@@ -1,0 +1,14 @@
+pub mod Delivered
+pub mod Domains
+pub mod Forms
+pub mod Lines
+pub mod Listed
+pub mod Loading
+pub mod Mapped
+pub mod Opened
+pub mod Path
+pub mod Reading
+pub mod Report
+pub mod Status
+pub mod TraceRun
+pub mod True

@@ -1,0 +1,24 @@
+//! A crash that is opened: its words and files, the run that its trace tells, the report of that, and what is asked of it.
+#![tactic(auto)]
+
+mod analysis;
+mod answering;
+mod dumping;
+mod listed;
+mod load;
+mod path;
+mod path_line;
+mod refusal;
+mod running;
+mod status;
+mod telling;
+mod texts;
+
+pub use answering::{Asking, Circumstances, open_report};
+pub use dumping::read_dump;
+pub use listed::{ListStop, ListedFiles, images_in, load_listed};
+pub use load::{Asked, CoreFiles, CrashFiles, Manner, load_files};
+pub use refusal::{FileKind, Refusal};
+pub use running::trace_run;
+pub use status::Status;
+pub use telling::{deliver, tell, tell_failed, tell_no_memory};
