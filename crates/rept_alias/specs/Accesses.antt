@@ -1,13 +1,15 @@
--- Which addresses a load or store may touch (RISC-V unprivileged manual 20191213, chapter 2.6: the address is the base and
--- the sign-extended immediate, modulo 2 ^ 32, and the bytes follow each other), where the base is one of a range. Sets of
--- addresses by a first and a last one are this project's own.
+-- Which addresses a load or store may touch (RISC-V unprivileged manual 20191213, chapter 2.6: the
+-- address is the base and the sign-extended immediate, modulo 2 ^ 32, and the bytes follow each
+-- other), where the base is one of a range. Sets of addresses by a first and a last one are this
+-- project's own.
 use Rattle.std.specs.Prelude.{ℕ, ◌+◌, ◌-◌, ◌%◌, ◌^◌, ◌≤◌, nat_le, ◌==◌, Bool, true, false, ◌||◌, ◌&&◌, if◌then◌else◌, ℤ, pos, ◌+ℤ◌, int_lt, Option, Some, None, not}
 use Rattle.rept_isa.specs.Numbers.{plus, beside}
 use Rattle.rept_partial.specs.declared.range.Range.{Range}
 use Rattle.rept_alias.specs.declared.addresses.Access.{Access}
 use Rattle.rept_alias.specs.declared.addresses.CallAccess.{CallAccess}
 
--- how many steps lead upwards from one address to another, past the end of the address space if need be
+-- how many steps lead upwards from one address to another, past the end of the address space if
+-- need be
 abbrev pub distance : ℕ → ℕ → ℕ
 distance from to = (to + (2 ^ 32 - from)) % 2 ^ 32
 
@@ -30,7 +32,8 @@ between lo hi = record { all = false; lo = lo; hi = hi }
 abbrev pub everywhere : Access
 everywhere = record { all = true; lo = 0; hi = 4294967295 }
 
--- whether, as whole numbers, the first byte of the lowest base is at or above 0, and the last byte of the highest one is below 2 ^ 32
+-- whether, as whole numbers, the first byte of the lowest base is at or above 0, and the last byte
+-- of the highest one is below 2 ^ 32
 abbrev pub stays_inside : Range → ℤ → ℕ → Bool
 stays_inside base imm last = not (int_lt (pos base.lo +ℤ imm) (pos 0)) && int_lt (pos base.hi +ℤ imm +ℤ pos last) (pos (2 ^ 32))
 

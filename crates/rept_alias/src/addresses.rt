@@ -3,8 +3,9 @@
 ghost use Rattle.std.specs.Prelude.{◌≡◌};
 ghost use Rattle.rept_alias.specs.Accesses.{hits, hits_part, call_hits};
 
-/// The addresses that an access may touch: all, or those from `lo` up to `hi`, both included. From `lo` one counts upwards
-/// modulo 2^32, so `hi` may be below `lo`: then the addresses go on past the end of the address space at 0.
+/// The addresses that an access may touch: all, or those from `lo` up to `hi`, both included. From
+/// `lo` one counts upwards modulo 2^32, so `hi` may be below `lo`: then the addresses go on past
+/// the end of the address space at 0.
 #[derive(Clone, Copy, PartialEq, Eq, Debug)]
 pub struct Access {
     /// every address; `lo` and `hi` say nothing then
@@ -24,7 +25,8 @@ impl Access {
     }
 }
 
-/// The addresses that a step may write: up to two accesses, as a system call has. Without one, none.
+/// The addresses that a step may write: up to two accesses, as a system call has. Without one,
+/// none.
 #[derive(Clone, Copy, PartialEq, Eq, Debug)]
 pub struct CallAccess {
     /// one part of them

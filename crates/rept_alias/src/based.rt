@@ -9,9 +9,10 @@ use crate::addresses::Access;
 use rept_isa::number::plus;
 use rept_partial::{Partial, Range};
 
-/// The addresses that a load or store of `width` bytes at the offset `imm` from its base may touch, where the base is one of
-/// a range. A base of one value gives exactly the bytes of the access. Several give every address from the first byte of the
-/// lowest base to the last byte of the highest one, and where that would pass an end of the address space, all addresses.
+/// The addresses that a load or store of `width` bytes at the offset `imm` from its base may touch,
+/// where the base is one of a range. A base of one value gives exactly the bytes of the access.
+/// Several give every address from the first byte of the lowest base to the last byte of the
+/// highest one, and where that would pass an end of the address space, all addresses.
 pub fn access(base: Range, imm: i32, width: u8) -> Access
     requires { (width ≡ 1) ⊎ (width ≡ 2) ⊎ (width ≡ 4) }
     ensures value { result ≡ access_of base imm width }

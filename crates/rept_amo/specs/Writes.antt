@@ -1,11 +1,12 @@
--- Whether a row writes all bytes that it may write, and how many byte facts it gives. Which bytes it may write is told by the rules of RV32IM, whose rows
--- of atomic instructions may write what theirs may. This project's own.
+-- Whether a row writes all bytes that it may write, and how many byte facts it gives. Which bytes
+-- it may write is told by the rules of RV32IM, whose rows of atomic instructions may write what
+-- theirs may. This project's own.
 use Rattle.std.specs.Prelude.{ℕ, Bool, true, false, ◌==◌, ◌&&◌, not, is_some, Option, Some, None}
 use Rattle.rept_isa.specs.declared.instr.AmoOp.{AmoOp}
 use Rattle.rept_isa.specs.declared.instr.AmoOp.TheVariants as atomic
 use Rattle.rept_isa.specs.declared.row.StepRow.{StepRow}
 use Rattle.rept_amo.specs.declared.form.Form.{Form}
-use Rattle.rept_view.specs.declared.drawn.When.TheVariants.{Before, After}
+use Rattle.rept_view.specs.declared.inferred.When.TheVariants.{Before, After}
 use Rattle.rept_view.specs.Seen.{Seen}
 use Rattle.rept_rules.specs.MayWrite as base
 

@@ -1,56 +1,57 @@
 //! The rules of RV32IMA.
 
 ghost use Rattle.std.specs.Prelude.{◌≡◌, ℕ, ◌+◌, ◌++◌, ◌^◌, ◌<◌, min, Contains, Some};
-ghost use Rattle.rept_view.specs.declared.drawn.Drawn.{Drawn};
+ghost use Rattle.rept_view.specs.declared.inferred.Conclusion.{Conclusion};
 ghost use Rattle.rept_amo.specs.Conclusions.{AtomicConcludes, form_of};
-ghost use Rattle.rept_amo.specs.Listing.{drawn_of, access_drawn};
+ghost use Rattle.rept_amo.specs.Listing.{inferred_of, access_inferred};
 ghost use Rattle.rept_amo.specs.Needs.{needs_at};
 ghost use Rattle.rept_amo.specs.declared.form.Form.{Form};
 ghost use Rattle.rept_rules.specs.Listing.{known_at};
 ghost use Rattle.smallvec.specs.SmallVec.{HasRoomFor};
 
-use crate::draw::draw_access;
-use crate::form::{Access, Form, form_of};
+use crate::form::{AtomicAccess, Form, form_of};
+use crate::infer::infer_access;
 use crate::rest::add_needs;
 use crate::sure::{is_sure, places_by};
 use rept_alias::CallAccess;
 use rept_isa::StepRow;
 use rept_partial::Flat;
 use rept_rules::Base;
-use rept_rules::draw::Conclusions;
+use rept_rules::infer::Conclusions;
 use rept_rules::rest::Needs;
-use rept_view::{Drawn, Need, RegisterAt, RowRules, RowView, When};
+use rept_view::{Conclusion, Premise, RegisterAt, RowRules, RowView, When};
 use smallvec::SmallVec;
 use std::alloc::Global;
 
-/// The rules of RV32IMA: of rows of atomic instructions its own, and of all other rows those of RV32IM.
+/// The rules of RV32IMA: of rows of atomic instructions its own, and of all other rows those of
+/// RV32IM.
 #[derive(Drop)]
 pub struct Atomic {
     base: Base,
-    draws: u64,
+    infers: u64,
 }
 
 impl Atomic {
-    /// The rules, which nothing was drawn by yet.
+    /// The rules, which nothing was inferred by yet.
     pub fn new() -> Self
-        ensures { result.draws ≡ 0 }
+        ensures { result.infers ≡ 0 }
     {
         Atomic {
             base: Base::new(),
-            draws: 0,
+            infers: 0,
         }
     }
 }
 
 /// All that a row of this form gives, where its address is known.
-fn draw_form<V: RowView>(drawn: &mut Conclusions, form: &Form, view: &V)
-    requires { HasRoomFor drawn.old 14 }
-    ensures items { drawn.new.items ≡ drawn.old.items ++ access_drawn form.now (known_at (V.seen view.now) When.Before form.now.rs1) (V.seen view.now) }
-    ensures capacity { drawn.new.capacity ≡ drawn.old.capacity }
+fn infer_form<V: RowView>(inferred: &mut Conclusions, form: &Form, view: &V)
+    requires { HasRoomFor inferred.old 14 }
+    ensures items { inferred.new.items ≡ inferred.old.items ++ access_inferred form.now (known_at (V.seen view.now) When.Before form.now.rs1) (V.seen view.now) }
+    ensures capacity { inferred.new.capacity ≡ inferred.old.capacity }
 {
     match view.reg(When::Before, form.rs1) {
         Flat::Unknown => {}
-        Flat::Known(base) => draw_access(drawn, &Access { form: *form, base }, view),
+        Flat::Known(base) => infer_access(inferred, &AtomicAccess { form: *form, base }, view),
     }
 }
 
@@ -62,7 +63,7 @@ fn need_form<V: RowView>(needs: &mut Needs, form: &Form, view: &V, rule: u8)
 {
     match view.reg(When::Before, form.rs1) {
         Flat::Unknown => {}
-        Flat::Known(base) => add_needs(needs, &Access { form: *form, base }, rule),
+        Flat::Known(base) => add_needs(needs, &AtomicAccess { form: *form, base }, rule),
     }
 }
 
@@ -72,24 +73,29 @@ impl RowRules for Atomic {
 
     ghost rules = { atomic_rules };
 
-    ghost draws = { λ a. a.draws };
+    ghost infers = { λ a. a.infers };
 
     ghost lawful = { atomic_lawful };
 
-    fn draw<V: RowView>(&mut self, alloc: Global, row: &StepRow, view: &V) -> SmallVec<Drawn, 16>
-        ensures list { result.items ≡ drawn_of (form_of row.now.instr) row.now (V.seen view.now) }
+    fn infer<V: RowView>(
+        &mut self,
+        alloc: Global,
+        row: &StepRow,
+        view: &V,
+    ) -> SmallVec<Conclusion, 16>
+        ensures list { result.items ≡ inferred_of (form_of row.now.instr) row.now (V.seen view.now) }
         ensures inline { result.capacity ≡ 16 }
-        ensures raised { self.new.draws ≡ min (self.old.draws + 1) 18446744073709551615 }
-        ensures listed { (form : Form) (d : Drawn) → form_of row.now.instr ≡ Some form → Contains result.items d → AtomicConcludes row.now (V.seen view.now) d }
-        ensures all { (form : Form) (d : Drawn) → form_of row.now.instr ≡ Some form → AtomicConcludes row.now (V.seen view.now) d → Contains result.items d }
+        ensures raised { self.new.infers ≡ min (self.old.infers + 1) 18446744073709551615 }
+        ensures listed { (form : Form) (d : Conclusion) → form_of row.now.instr ≡ Some form → Contains result.items d → AtomicConcludes row.now (V.seen view.now) d }
+        ensures all { (form : Form) (d : Conclusion) → form_of row.now.instr ≡ Some form → AtomicConcludes row.now (V.seen view.now) d → Contains result.items d }
     {
-        self.draws = self.draws.saturating_add(1);
+        self.infers = self.infers.saturating_add(1);
         match form_of(&row.instr) {
-            None => self.base.draw(alloc, row, view),
+            None => self.base.infer(alloc, row, view),
             Some(form) => {
-                let mut drawn = SmallVec::new(alloc);
-                draw_form(&mut drawn, &form, view);
-                drawn
+                let mut inferred = SmallVec::new(alloc);
+                infer_form(&mut inferred, &form, view);
+                inferred
             }
         }
     }
@@ -98,13 +104,13 @@ impl RowRules for Atomic {
         alloc: Global,
         row: &StepRow,
         view: &V,
-        drawn: &Drawn,
-    ) -> SmallVec<Need, 10> {
+        inferred: &Conclusion,
+    ) -> SmallVec<Premise, 10> {
         match form_of(&row.instr) {
-            None => Base::needs(alloc, row, view, drawn),
+            None => Base::needs(alloc, row, view, inferred),
             Some(form) => {
                 let mut needs = SmallVec::new(alloc);
-                need_form(&mut needs, &form, view, drawn.rule);
+                need_form(&mut needs, &form, view, inferred.rule);
                 needs
             }
         }

@@ -18,14 +18,15 @@ pub struct Form {
 
 /// An atomic instruction and the address in its first register.
 #[derive(Clone, Copy)]
-pub struct Access {
+pub struct AtomicAccess {
     pub form: Form,
     pub base: u32,
 }
 
-/// A word that a rule gives, at a moment and an address, and the first of the row's places for bytes that it takes.
+/// A word that a rule gives, at a moment and an address, and the first of the row's places for
+/// bytes that it takes.
 #[derive(Clone, Copy)]
-pub struct WordDrawn {
+pub struct WordInferred {
     pub rule: u8,
     pub when: When,
     pub base: u32,
@@ -44,10 +45,10 @@ pub fn form_of(instr: &Instr) -> Option<Form>
 }
 
 /// A word before the row.
-pub fn word_before(rule: u8, base: u32, word: u32) -> WordDrawn
+pub fn word_before(rule: u8, base: u32, word: u32) -> WordInferred
     ensures { result ≡ word_before rule base word }
 {
-    WordDrawn {
+    WordInferred {
         rule,
         when: When::Before,
         base,
@@ -57,10 +58,10 @@ pub fn word_before(rule: u8, base: u32, word: u32) -> WordDrawn
 }
 
 /// The word that an atomic memory operation leaves.
-pub fn word_after(base: u32, word: u32) -> WordDrawn
+pub fn word_after(base: u32, word: u32) -> WordInferred
     ensures { result ≡ word_after base word }
 {
-    WordDrawn {
+    WordInferred {
         rule: number::WRITTEN,
         when: When::After,
         base,
@@ -70,10 +71,10 @@ pub fn word_after(base: u32, word: u32) -> WordDrawn
 }
 
 /// The word that an SC stored.
-pub fn word_stored(base: u32, word: u32) -> WordDrawn
+pub fn word_stored(base: u32, word: u32) -> WordInferred
     ensures { result ≡ word_stored base word }
 {
-    WordDrawn {
+    WordInferred {
         rule: number::STORED,
         when: When::After,
         base,

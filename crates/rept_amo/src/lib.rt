@@ -1,9 +1,10 @@
-//! What a row of an atomic instruction lets one conclude of the values before and after it, beside the rules of RV32IM.
+//! What a row of an atomic instruction lets one conclude of the values before and after it, beside
+//! the rules of RV32IM.
 #![tactic(auto)]
 
 pub mod atomic;
-mod draw;
 pub mod form;
+mod infer;
 pub mod laws;
 mod number;
 mod rest;

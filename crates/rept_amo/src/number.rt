@@ -1,4 +1,4 @@
-//! The numbers of the rules by which a row of an atomic instruction lets facts be drawn.
+//! The numbers of the rules by which a row of an atomic instruction lets facts be applied.
 
 /// the register that takes the word
 pub const READ: u8 = 19;

@@ -4,7 +4,7 @@ ghost use Rattle.std.specs.Prelude.{◌≡◌, ◌+◌, ◌<◌, ◌≤◌, ◌^
 ghost use Rattle.smallvec.specs.SmallVec.{HasRoomFor};
 ghost use Rattle.rept_amo.specs.Needs.{source_needs, access_needs};
 
-use crate::form::Access;
+use crate::form::AtomicAccess;
 use crate::number;
 use rept_isa::AmoOp;
 use rept_rules::rest::{Needs, need_both, need_bytes, need_register};
@@ -26,7 +26,7 @@ fn need_words(needs: &mut Needs, op: AmoOp, base: u32)
 }
 
 /// Adds what a conclusion by this rule rests on.
-pub fn add_needs(needs: &mut Needs, x: &Access, rule: u8)
+pub fn add_needs(needs: &mut Needs, x: &AtomicAccess, rule: u8)
     requires { HasRoomFor needs.old 9 }
     ensures items { needs.new.items ≡ needs.old.items ++ access_needs x.now rule }
     ensures capacity { needs.new.capacity ≡ needs.old.capacity }

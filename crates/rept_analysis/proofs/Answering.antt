@@ -27,7 +27,7 @@ use Rattle.rept_report.proofs.Implied.{ImpliedAt, implied_at, implied_next, impl
 use Rattle.rept_analysis.specs.State.{AnalysisState, all_known, Subject, along}
 use Rattle.rept_analysis.specs.Moments.{moment}
 use Rattle.rept_report.specs.Why.{fact_of}
-use Rattle.rept_analysis.specs.Drawing.{Knows, IsTracked, IsFitted, IsSettled}
+use Rattle.rept_analysis.specs.Inferring.{Knows, IsTracked, IsFitted, IsSettled}
 use Rattle.rept_analysis.specs.Kept.{is_among, register_answer, answers, IsFinished}
 use Rattle.rept_analysis.proofs.Following.{moment_is}
 use Rattle.rept_analysis.proofs.Reported.{among_contains, contains_among}
@@ -65,10 +65,10 @@ module _ {W : Type 0} (S : Setting W) (K L : Knowledge) (same : KnowSameRegister
   same_candidate k h = record { may = may_write_same S K L same k a ∙ h.may; reaches = h.reaches }
 
   last_same : (j : ℕ) → IsLastCandidate S K (spot p a) j → IsLastCandidate S L (spot p a) j
-  last_same j h = record { one = candidate_same j h.one; after = λ k c other. h.after k (same_candidate k c) other; dark = h.dark }
+  last_same j h = record { one = candidate_same j h.one; after = λ k c other. h.after k (same_candidate k c) other; untraced = h.untraced }
 
   same_last : (j : ℕ) → IsLastCandidate S L (spot p a) j → IsLastCandidate S K (spot p a) j
-  same_last j h = record { one = same_candidate j h.one; after = λ k c other. h.after k (candidate_same k c) other; dark = h.dark }
+  same_last j h = record { one = same_candidate j h.one; after = λ k c other. h.after k (candidate_same k c) other; untraced = h.untraced }
 
   certain_same : (j : ℕ) (b : Bool) → is_certain S K (spot p a) j ≡ b → is_certain S L (spot p a) j ≡ b
   certain_same j b e = ap (λ (x : Bool). x && S.moments.past j p) (sym (is_sure_same S K L same j)) ∙ e
@@ -80,7 +80,7 @@ module _ {W : Type 0} (S : Setting W) (K L : Knowledge) (same : KnowSameRegister
   writer_same writers.TheVariants.None h = record { rows = λ k c. h.rows k (same_candidate k c); light = h.light }
 
 pub implied_same : {W : Type 0} (P : Subject W) (K L : Knowledge) → KnowSameRegisters K L → (p a : ℕ) → implied (along P) K p a ≡ implied (along P) L p a
-implied_same P K L same p a = ap (λ (may : ℕ → ℕ → Bool). if nat_lt a (2 ^ 32) && nat_le p P.given.moments.end && (P.given.moments.dark_past p && all_past P.given.moments may (spot p a) P.given.legs.count) then P.given.dump a else None) (fun_ext (λ i. fun_ext (λ b. may_write_same (along P) K L same i b)))
+implied_same P K L same p a = ap (λ (may : ℕ → ℕ → Bool). if nat_lt a (2 ^ 32) && nat_le p P.given.moments.end && (P.given.moments.untraced_past p && all_past P.given.moments may (spot p a) P.given.legs.count) then P.given.dump a else None) (fun_ext (λ i. fun_ext (λ b. may_write_same (along P) K L same i b)))
 
 module _ {W : Type 0} (s : AnalysisState W) (settled : IsSettled s) where
   -- the sets are those of the whole log
@@ -113,10 +113,10 @@ module _ {W : Type 0} (s : AnalysisState W) (settled : IsSettled s) where
   -- a byte of a tracked address that the dump implies is known
   module _ (laws : HasLaws (along s.path)) (a v : ℕ) (tracked : IsTracked a s) where
     same_carries : (m w : ℕ) → Carries (along s.path) (all_known s) (passage a m w) → Carries (along s.path) (told (oldest s.filled s.known.log)) (passage a m w)
-    same_carries m w h = record { next = h.next; light = h.light; spared = λ i falls. may_write_same (along s.path) (told (oldest s.filled s.known.log)) (all_known s) (λ q r. rw filled_all refl) i a ∙ h.spared i falls }
+    same_carries m w h = record { next = h.next; light = h.light; spared = λ i may_act. may_write_same (along s.path) (told (oldest s.filled s.known.log)) (all_known s) (λ q r. rw filled_all refl) i a ∙ h.spared i may_act }
 
     at_end : (m : ℕ) → m ≡ s.path.given.moments.end → ImpliedAt (along s.path) (all_known s) m a v → Knows m (Byte a) v s
-    at_end m at h = rw at (settled.drawn.bytes a tracked v h.byte)
+    at_end m at h = rw at (settled.inferred.bytes a tracked v h.byte)
 
     -- the end is so many steps away at most
     from_end : (n m : ℕ) → s.path.given.moments.left m ≤ n → ImpliedAt (along s.path) (all_known s) m a v → Knows m (Byte a) v s
@@ -132,7 +132,7 @@ module _ {W : Type 0} (s : AnalysisState W) (settled : IsSettled s) where
               let next = laws.moments.reaches m h.early other in
               let less = next.nearer in
               let later = from_end k next.to (omega (arith, near, less)) (implied_next (along s.path) laws (all_known s) m next.to a v next.next h) in
-              (settled.drawn.carried a m next.to tracked).back v (same_carries m next.to (implied_carries (along s.path) laws (all_known s) m next.to a v next.next h)) later
+              (settled.inferred.carried a m next.to tracked).back v (same_carries m next.to (implied_carries (along s.path) laws (all_known s) m next.to a v next.next h)) later
         ]
 
   pub implied_known : HasLaws (along s.path) → (p a v : ℕ) → IsTracked a s → implied (along s.path) (all_known s) p a ≡ Some v → Knows p (Byte a) v s

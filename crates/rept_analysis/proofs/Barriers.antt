@@ -1,4 +1,5 @@
--- The rows by which bytes are carried stay such rows as more is known, and when one of them is put in their list anew.
+-- The rows by which bytes are carried stay such rows as more is known, and when one of them is put
+-- in their list anew.
 use Rattle.std.proofs.Common.{◌≡◌, ℕ, zero, suc, ◌+◌, ◌<◌, ◌^◌, false, List, length, Some, inl, inr, refl, sym, ap, subst, ◌∙◌, arith, get_or, set, slice_get}
 use Rattle.std.specs.Option.{IsSome}
 use Rattle.std.proofs.lemmas.Bool.{cases_eq}
@@ -20,7 +21,7 @@ use Rattle.rept_report.specs.Log.{oldest}
 use Rattle.rept_report.proofs.Monotony.{quiet_less, spared_more}
 use Rattle.rept_analysis.specs.Work.{number_past}
 use Rattle.rept_analysis.specs.State.{AnalysisState, all_known, with_writing, Subject, along}
-use Rattle.rept_analysis.specs.Drawing.{Knows, IsSilent, IsSpared, IsSparedNow, IsInList, past, IsBarrier, AreBarriers, AreWritings, Grows}
+use Rattle.rept_analysis.specs.Inferring.{Knows, IsSilent, IsSpared, IsSparedNow, IsInList, past, IsBarrier, AreBarriers, AreWritings, Grows}
 
 module _ {W : Type 0} (s t : AnalysisState W) (laws : HasLaws (along s.path)) (words : HasWords (all_known t)) (setting : t.path ≡ s.path) (older : oldest t.filled t.known.log ≡ oldest s.filled s.known.log) (more : (p : ℕ) (c : Cell) (v : ℕ) → Knows p c v s → Knows p c v t) where
   -- a row that may not write a byte may not where more is known
@@ -154,7 +155,8 @@ put_writings s t k w x found row free time extent is h = subst (λ (y : Analysis
 pub put_grows : {W : Type 0} (s t : AnalysisState W) (list : List Writing) → t ≡ with_writing s list → (AreWritings s → AreWritings t) → Grows s t
 put_grows s t list is keeps = subst (λ (y : AnalysisState _). (AreWritings s → AreWritings y) → Grows s y) (sym is) (λ f. record { path = refl; count = refl; row = λ i. refl; spans = refl; filled = refl; shown = refl; complete = refl; conflict = refl; answers = refl; older = refl; longer = omega arith; log = λ t h. refl; more = λ p c v e. e; tracked = λ a h. h; counted = omega arith; writing = f; fewer = omega arith; spent = omega arith; words = λ w. w }) keeps
 
--- row i of the list was put in it anew, with what it may write by all that is known by now, and all else stayed
+-- row i of the list was put in it anew, with what it may write by all that is known by now, and all
+-- else stayed
 module _ {W : Type 0} (s t : AnalysisState W) (k i : ℕ) (x : Writing) (access : CallAccess) (row : x.row ≡ i) (its : x.access ≡ access) (within : k < length s.work.writing) (listed : (w : Writing) → slice_get s.work.writing k ≡ Some w → w.row ≡ i) where
   abbrev former : Writing
   former = get_or s.work.writing k x

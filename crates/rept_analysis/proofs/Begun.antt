@@ -16,7 +16,7 @@ use Rattle.rept_report.proofs.Places.{oldest_all, oldest_more}
 use Rattle.rept_report.proofs.Standing.{oldest_up}
 use Rattle.rept_report.proofs.Monotony.{quiet_less}
 use Rattle.rept_analysis.specs.State.{AnalysisState, Subject, along}
-use Rattle.rept_analysis.specs.Drawing.{Knows, Grows, LastKnownAt, LastPointKnown, LastKnownBelow}
+use Rattle.rept_analysis.specs.Inferring.{Knows, Grows, LastKnownAt, LastPointKnown, LastKnownBelow}
 use Rattle.rept_analysis.specs.Kept.{IsKept}
 use Rattle.rept_analysis.proofs.Following.{LastsBelow}
 use Rattle.rept_analysis.specs.Refined.{IsHalted}

@@ -1,4 +1,5 @@
--- Where more is known around a row, no fewer of its cells are; where just as many are, they are the same.
+-- Where more is known around a row, no fewer of its cells are; where just as many are, they are the
+-- same.
 use Rattle.std.proofs.Common.{◌≡◌, ℕ, ◌<◌, ◌≤◌, Option, Some, None, inl, inr, refl, sym, ◌∙◌, arith, is_some, min}
 use Rattle.std.proofs.lemmas.Bool.{cases_lt}
 use Rattle.rept_isa.specs.declared.row.StepRow.{StepRow}
@@ -6,8 +7,8 @@ use Rattle.rept_isa.specs.Numbers.{plus, beside}
 use Rattle.rept_isa.specs.Operands.{first_read, second_read, written_by}
 use Rattle.rept_reason.specs.declared.fact.Cell.{Cell}
 use Rattle.rept_reason.specs.declared.fact.Cell.TheVariants.{Register, Byte}
-use Rattle.rept_view.specs.declared.drawn.When.{When}
-use Rattle.rept_view.specs.declared.drawn.When.TheVariants.{Before, After}
+use Rattle.rept_view.specs.declared.inferred.When.{When}
+use Rattle.rept_view.specs.declared.inferred.When.TheVariants.{Before, After}
 use Rattle.rept_view.specs.Seen.{Seen, seen_cell}
 use Rattle.rept_view.specs.Rules.{Rules, offset_of, IsRowByte, IsRowCell}
 use Rattle.rept_analysis.specs.Sums.{one_if}

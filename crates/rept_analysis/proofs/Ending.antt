@@ -14,7 +14,7 @@ use Rattle.rept_report.proofs.ViewLaws.{known_more}
 use Rattle.rept_report.proofs.Registers.{quiet_same}
 use Rattle.rept_log.specs.Known.{Known}
 use Rattle.rept_analysis.specs.State.{AnalysisState, all_known, Subject, along}
-use Rattle.rept_analysis.specs.Drawing.{Grows, SameFacts, Continues, IsFitted, IsDrawnAll, IsSettled, IsUncut, AreWritings, AreExact}
+use Rattle.rept_analysis.specs.Inferring.{Grows, SameFacts, Continues, IsFitted, IsInferredAll, IsSettled, IsUncut, AreWritings, AreExact}
 use Rattle.rept_analysis.specs.Work.{left}
 use Rattle.rept_analysis.specs.Kept.{IsKept}
 use Rattle.rept_analysis.specs.Refined.{KeepsAnswers, KeepsKnown, IsClashOf, ShowsTo, IsEnded, IsStopped, IsPaused, IsHalted}
@@ -26,10 +26,10 @@ pub same_stop : {x : Stop} → ◌≡◌ {A = Result ⊤ Stop} (Err x) (Err OutO
 same_stop e = cc
 
 pub Same_itself : {W : Type 0} (a : AnalysisState W) → SameFacts a a
-Same_itself a = record { path = refl; known = refl; shown = refl; complete = refl; conflict = refl; draws = refl; drawn = refl }
+Same_itself a = record { path = refl; known = refl; shown = refl; complete = refl; conflict = refl; infers = refl; inferred = refl }
 
 pub Same_trans : {W : Type 0} (a b c : AnalysisState W) → SameFacts a b → SameFacts b c → SameFacts a c
-Same_trans a b c g h = record { path = h.path ∙ g.path; known = h.known ∙ g.known; shown = h.shown ∙ g.shown; complete = h.complete ∙ g.complete; conflict = h.conflict ∙ g.conflict; draws = h.draws ∙ g.draws; drawn = h.drawn ∙ g.drawn }
+Same_trans a b c g h = record { path = h.path ∙ g.path; known = h.known ∙ g.known; shown = h.shown ∙ g.shown; complete = h.complete ∙ g.complete; conflict = h.conflict ∙ g.conflict; infers = h.infers ∙ g.infers; inferred = h.inferred ∙ g.inferred }
 
 -- what facts show depends on the path and the facts alone
 module _ {W : Type 0} (s t : AnalysisState W) (path : t.path ≡ s.path) (known : t.known ≡ s.known) where
@@ -63,7 +63,7 @@ module _ {W : Type 0} (a b : AnalysisState W) (same : SameFacts a b) where
   back_to P h = rw (same.path, same.known) at h
 
   pub measure_same : measure b ≡ measure a
-  measure_same = rw (same.path, same.known, same.drawn) refl
+  measure_same = rw (same.path, same.known, same.inferred) refl
 
   pub stopped_from : (c : AnalysisState W) (kind : ConflictKind) → IsStopped b c kind → IsStopped a c kind
   stopped_from c kind h = record {
@@ -123,8 +123,8 @@ quiet_part s n all quiet =
     let whole : oldest n s.known.log ≡ s.known.log = oldest_all n s.known.log (omega (arith, all)) in
     subst (λ (fs : List Fact). IsQuiet (along s.path) (told fs)) (sym whole) quiet
 
-pub settled_by : {W : Type 0} (s : AnalysisState W) (n : ℕ) → n ≡ length s.known.log → IsQuiet (along s.path) (told (oldest n s.known.log)) → IsFitted s → s.filled ≡ n → IsDrawnAll s → AreWritings s → AreExact s → IsSettled s
-settled_by s n all quiet fitted filled drawn writings exact = record { quiet = quiet_whole s n all quiet; fitted = fitted; filled = filled ∙ all; drawn = drawn; writings = writings; exact = exact }
+pub settled_by : {W : Type 0} (s : AnalysisState W) (n : ℕ) → n ≡ length s.known.log → IsQuiet (along s.path) (told (oldest n s.known.log)) → IsFitted s → s.filled ≡ n → IsInferredAll s → AreWritings s → AreExact s → IsSettled s
+settled_by s n all quiet fitted filled inferred writings exact = record { quiet = quiet_whole s n all quiet; fitted = fitted; filled = filled ∙ all; inferred = inferred; writings = writings; exact = exact }
 
 module _ {W : Type 0} (a b c : AnalysisState W) where
   pub ended_after : Continues a b → KeepsKnown a b → IsEnded b c → IsEnded a c
@@ -144,16 +144,16 @@ module _ {W : Type 0} (a b c : AnalysisState W) where
   halted_after (Conflict kind) g more h = stopped_after kind g more h
   halted_after OutOfMemory g more h = record { path = h.path ∙ g.path; complete = h.complete ∙ g.complete; conflict = h.conflict ∙ g.conflict; kept = λ p r v e. h.kept p r v (continues_answers a b g p r v e); more = known_after a b c more h.more; whole = h.whole }
 
--- how often rules can be drawn stays so where only sets change
-pub spent_like : {W : Type 0} (a b s : AnalysisState W) → SameFacts a b → a.work.draws + left a.work.drawn ≤ s.work.draws + left s.work.drawn → b.work.draws ≤ s.work.draws + left s.work.drawn
-spent_like a b s same h = let draws = same.draws in omega (arith, h, draws)
+-- how often rules can be applied stays so where only sets change
+pub spent_like : {W : Type 0} (a b s : AnalysisState W) → SameFacts a b → a.work.infers + left a.work.inferred ≤ s.work.infers + left s.work.inferred → b.work.infers ≤ s.work.infers + left s.work.inferred
+spent_like a b s same h = let infers = same.infers in omega (arith, h, infers)
 
-pub spent_after : {W : Type 0} (a b d s : AnalysisState W) → SameFacts a b → Grows b d → a.work.draws + left a.work.drawn ≤ s.work.draws + left s.work.drawn → d.work.draws + left d.work.drawn ≤ s.work.draws + left s.work.drawn
+pub spent_after : {W : Type 0} (a b d s : AnalysisState W) → SameFacts a b → Grows b d → a.work.infers + left a.work.inferred ≤ s.work.infers + left s.work.inferred → d.work.infers + left d.work.inferred ≤ s.work.infers + left s.work.inferred
 spent_after a b d s same grows h =
     let spent = grows.spent in
-    let draws = same.draws in
-    let drawn : left b.work.drawn ≡ left a.work.drawn = rw same.drawn refl in
-    omega (arith, h, spent, draws, drawn)
+    let infers = same.infers in
+    let inferred : left b.work.inferred ≡ left a.work.inferred = rw same.inferred refl in
+    omega (arith, h, spent, infers, inferred)
 
 pub uncut_like : {W : Type 0} (a b : AnalysisState W) → SameFacts a b → IsUncut a → IsUncut b
-uncut_like a b same u i at = u i (rw same.drawn at at)
+uncut_like a b same u i at = u i (rw same.inferred at at)

@@ -1,4 +1,5 @@
--- Each fact that an analysis answers at the end has a reason, and bytes are found in the prefixes of its log.
+-- Each fact that an analysis answers at the end has a reason, and bytes are found in the prefixes
+-- of its log.
 use Rattle.std.proofs.Common.{◌≡◌, ℕ, ◌≤◌, Bool, List, Some, sym, ap, subst}
 use Rattle.rept_reason.specs.declared.fact.Fact.{Fact}
 use Rattle.rept_reason.specs.declared.fact.Cell.TheVariants.{Byte}

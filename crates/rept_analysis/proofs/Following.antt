@@ -19,9 +19,9 @@ use Rattle.rept_reason.specs.Facts.{Knowledge, told, flat, register_known}
 use Rattle.rept_span.specs.Ranges.{Legs, range}
 use Rattle.rept_span.specs.Filled.{entry_at}
 use Rattle.rept_span.proofs.RangeLaws.{HasIn}
-use Rattle.rept_view.specs.declared.drawn.When.{When}
-use Rattle.rept_view.specs.declared.drawn.When.TheVariants.{Before, After}
-use Rattle.rept_view.specs.declared.drawn.Drawn.{Drawn}
+use Rattle.rept_view.specs.declared.inferred.When.{When}
+use Rattle.rept_view.specs.declared.inferred.When.TheVariants.{Before, After}
+use Rattle.rept_view.specs.declared.inferred.Conclusion.{Conclusion}
 use Rattle.rept_view.specs.Seen.{Seen, KnowsMore, seen_cell}
 use Rattle.rept_view.specs.Rules.{offset_of, IsRowByte, IsRowCell, Rules}
 use Rattle.rept_log.specs.Around.{around, around_lawful}
@@ -31,7 +31,7 @@ use Rattle.rept_report.specs.Moments.{Moments}
 use Rattle.rept_report.specs.Views.{point_of, instant_of, all_words, bounds, register_range, known_or, seen_at, registers_at, may_write}
 use Rattle.rept_report.specs.Conclusions.{IsWordOf, HasWords, Concludes}
 use Rattle.rept_report.specs.Conclusions.IsCarried.{last_byte}
-use Rattle.rept_report.specs.Conclusions.Follows.{last_value, kept_onward, kept_back, carried, drawn, only_value}
+use Rattle.rept_report.specs.Conclusions.Follows.{last_value, kept_onward, kept_back, carried, inferred, only_value}
 use Rattle.rept_report.specs.Conflicts.{IsQuiet}
 use Rattle.rept_report.specs.Log.{oldest, OnceEach}
 use Rattle.rept_report.proofs.Told.{same_some, none_some}
@@ -44,10 +44,10 @@ use Rattle.rept_log.specs.Compared.{IsSameAfter, IsNextDiffering}
 use Rattle.rept_log.specs.Known.{Known as LogKnown}
 use Rattle.rept_analysis.specs.State.{AnalysisState, all_known, Subject, along}
 use Rattle.rept_analysis.specs.Moments.{filled_range, moment, moment_lawful}
-use Rattle.rept_analysis.specs.Room.{IsDrawable, own_at, IsOwnByte}
-use Rattle.rept_analysis.proofs.Reserve.{drawable_more, own_byte_more}
+use Rattle.rept_analysis.specs.Room.{IsInferable, own_at, IsOwnByte}
+use Rattle.rept_analysis.proofs.Reserve.{inferable_more, own_byte_more}
 use Rattle.rept_report.specs.Why.{fact_of}
-use Rattle.rept_analysis.specs.Drawing.{Knows, IsTracked, Grows, IsFollowing, IsBrought, IsLearntAt, IsKeptAt, LastPointKnown, LastKnownBelow, IsFitted, IsAccess, AreTrackedFrom, IsRowTracked, IsConclusion, KeptBelow, DrawnKnown, IsRowDrawn, IsRowClosed, LastByteKnown, SingleKnown, AreRowAddresses}
+use Rattle.rept_analysis.specs.Inferring.{Knows, IsTracked, Grows, IsFollowing, IsBrought, IsLearntAt, IsKeptAt, LastPointKnown, LastKnownBelow, IsFitted, IsAccess, AreTrackedFrom, IsRowTracked, IsConclusion, KeptBelow, InferredKnown, IsRowInferred, IsRowClosed, LastByteKnown, SingleKnown, AreRowAddresses}
 
 pub flat_known : (x : Option ℕ) (v : ℕ) → flat x ≡ Known v → x ≡ Some v
 flat_known None v e = cc
@@ -189,7 +189,7 @@ word_fits : (c : Cell) (v : ℕ) → v < 2 ^ 32 → IsWordOf c v
 word_fits (Register r) v h = h
 word_fits (Byte a) v h = tt
 
--- what a row lets one draw follows
+-- what a row lets one infer follows
 module _ {W : Type 0} (s : AnalysisState W) (laws : HasLaws (along s.path)) (words : HasWords (all_known s)) (i : ℕ) (row : StepRow) (found : s.path.given.legs.row i ≡ Some row) (inside : i < s.path.given.legs.count) where
   log_words : HasWords (told s.known.log)
   log_words p r v e = words p r v e
@@ -198,11 +198,11 @@ module _ {W : Type 0} (s : AnalysisState W) (laws : HasLaws (along s.path)) (wor
   same_cells w (Register r) = refl
   same_cells w (Byte a) = refl
 
-  pub drawn_seen : (d : Drawn) → Contains (s.path.rules.draw row (around s.path.given.moments s.known i)) d → Contains (s.path.rules.draw row (seen_at (along s.path) (all_known s) i)) d
-  drawn_seen d h = laws.rules.needs_enough row (around s.path.given.moments s.known i) (seen_at (along s.path) (all_known s) i) d (around_lawful s.path.given.moments s.known i log_words) (seen_at_lawful (along s.path) (all_known s) words i) h (λ n needed. same_cells n.when n.cell)
+  pub inferred_seen : (d : Conclusion) → Contains (s.path.rules.infer row (around s.path.given.moments s.known i)) d → Contains (s.path.rules.infer row (seen_at (along s.path) (all_known s) i)) d
+  inferred_seen d h = laws.rules.needs_enough row (around s.path.given.moments s.known i) (seen_at (along s.path) (all_known s) i) d (around_lawful s.path.given.moments s.known i log_words) (seen_at_lawful (along s.path) (all_known s) words i) h (λ n needed. same_cells n.when n.cell)
 
-  pub seen_drawn : (d : Drawn) → Contains (s.path.rules.draw row (seen_at (along s.path) (all_known s) i)) d → Contains (s.path.rules.draw row (around s.path.given.moments s.known i)) d
-  seen_drawn d h = laws.rules.needs_enough row (seen_at (along s.path) (all_known s) i) (around s.path.given.moments s.known i) d (seen_at_lawful (along s.path) (all_known s) words i) (around_lawful s.path.given.moments s.known i log_words) h (λ n needed. sym (same_cells n.when n.cell))
+  pub seen_inferred : (d : Conclusion) → Contains (s.path.rules.infer row (seen_at (along s.path) (all_known s) i)) d → Contains (s.path.rules.infer row (around s.path.given.moments s.known i)) d
+  seen_inferred d h = laws.rules.needs_enough row (seen_at (along s.path) (all_known s) i) (around s.path.given.moments s.known i) d (seen_at_lawful (along s.path) (all_known s) words i) (around_lawful s.path.given.moments s.known i log_words) h (λ n needed. sym (same_cells n.when n.cell))
 
   -- before and after the row there are places for facts
   instant_early : (w : When) (c : Cell) → IsInstant (along s.path) c (instant_of s.path.given.moments i w c)
@@ -211,22 +211,22 @@ module _ {W : Type 0} (s : AnalysisState W) (laws : HasLaws (along s.path)) (wor
   instant_early Before (Byte a) = laws.moments.rows_before i row found
   instant_early After (Byte a) = laws.moments.rows_after i row found
 
-  drawn_here : (d : Drawn) (a : ℕ) → Contains (s.path.rules.draw row (around s.path.given.moments s.known i)) d → IsRowByte s.path.rules row (around s.path.given.moments s.known i) a → IsDrawable s.path s.known.log i d
-  drawn_here d a h own = record { row = row; found = found; view = around s.path.given.moments s.known i; lawful = around_lawful s.path.given.moments s.known i log_words; drawn = h; base_register = own.base_register; base = own.base; read = own.read; seen = own.base_known; known = own.base_known }
+  inferred_here : (d : Conclusion) (a : ℕ) → Contains (s.path.rules.infer row (around s.path.given.moments s.known i)) d → IsRowByte s.path.rules row (around s.path.given.moments s.known i) a → IsInferable s.path s.known.log i d
+  inferred_here d a h own = record { row = row; found = found; view = around s.path.given.moments s.known i; lawful = around_lawful s.path.given.moments s.known i log_words; inferred = h; base_register = own.base_register; base = own.base; read = own.read; seen = own.base_known; known = own.base_known }
 
-  pub drawn_conclusion : IsRowTracked row i s → (d : Drawn) → Contains (s.path.rules.draw row (around s.path.given.moments s.known i)) d → IsConclusion i d s
-  drawn_conclusion tracked d h =
+  pub inferred_conclusion : IsRowTracked row i s → (d : Conclusion) → Contains (s.path.rules.infer row (around s.path.given.moments s.known i)) d → IsConclusion i d s
+  inferred_conclusion tracked d h =
       let own = laws.rules.own row (around s.path.given.moments s.known i) d (around_lawful s.path.given.moments s.known i log_words) h in
       record {
         cell = own.1;
         fits = own.2;
-        follows = λ small quiet. record { early = instant_early d.when d.cell; cell = own.1; word = word_fits d.cell d.value small; by = drawn i row d found (drawn_seen d h) refl refl refl };
+        follows = λ small quiet. record { early = instant_early d.when d.cell; cell = own.1; word = word_fits d.cell d.value small; by = inferred i row d found (inferred_seen d h) refl refl refl };
         tracked = λ a is. tracked a (subst (λ (c : Cell). IsRowCell s.path.rules row (around s.path.given.moments s.known i) d.when c) is own.0);
-        byte = λ a is. drawn_here d a h (subst (λ (c : Cell). IsRowCell s.path.rules row (around s.path.given.moments s.known i) d.when c) is own.0);
+        byte = λ a is. inferred_here d a h (subst (λ (c : Cell). IsRowCell s.path.rules row (around s.path.given.moments s.known i) d.when c) is own.0);
       }
 
-pub conclusion_more : {W : Type 0} (s t : AnalysisState W) → HasLaws (along s.path) → Grows s t → HasWords (all_known t) → (i : ℕ) (d : Drawn) → IsConclusion i d s → IsConclusion i d t
-conclusion_more s t laws g words i d h = record { cell = h.cell; fits = h.fits; follows = λ small. subst (λ (P : Subject _). IsFollowing t (fact_of (instant_of P.given.moments i d.when d.cell) d.cell d.value)) (sym g.path) (follows_more s t laws g words (fact_of (instant_of s.path.given.moments i d.when d.cell) d.cell d.value) (h.follows small)); tracked = λ a is. g.tracked a (h.tracked a is); byte = λ a is. subst (λ (P : Subject _). IsDrawable P t.known.log i d) (sym g.path) (drawable_more s.path s.known.log t.known.log (λ p r v e. g.more p (Register r) v e) i d (h.byte a is)) }
+pub conclusion_more : {W : Type 0} (s t : AnalysisState W) → HasLaws (along s.path) → Grows s t → HasWords (all_known t) → (i : ℕ) (d : Conclusion) → IsConclusion i d s → IsConclusion i d t
+conclusion_more s t laws g words i d h = record { cell = h.cell; fits = h.fits; follows = λ small. subst (λ (P : Subject _). IsFollowing t (fact_of (instant_of P.given.moments i d.when d.cell) d.cell d.value)) (sym g.path) (follows_more s t laws g words (fact_of (instant_of s.path.given.moments i d.when d.cell) d.cell d.value) (h.follows small)); tracked = λ a is. g.tracked a (h.tracked a is); byte = λ a is. subst (λ (P : Subject _). IsInferable P t.known.log i d) (sym g.path) (inferable_more s.path s.known.log t.known.log (λ p r v e. g.more p (Register r) v e) i d (h.byte a is)) }
 
 -- the sets of a moment are the ranges
 module _ {W : Type 0} (s : AnalysisState W) (i : ℕ) (inside : i < s.path.given.legs.count) (fitted : IsFitted s) where
@@ -253,7 +253,8 @@ module _ {W : Type 0} (s : AnalysisState W) (i : ℕ) (inside : i < s.path.given
   pub access_is : (row : StepRow) (access : CallAccess) → s.path.given.legs.row i ≡ Some row → ((a : ℕ) → a < 2 ^ 32 → call_hits access a ≡ s.path.rules.touched row (moment s.path.sets older s.spans i) s.path.given.image_end a) → IsAccess i access s
   access_is row access found hits a small = hits a small ∙ rw found (ap (λ (v : Seen). s.path.rules.touched row v s.path.given.image_end a) moment_is)
 
--- what a row may not write by all facts and the sets of older ones, it may not write by what is known
+-- what a row may not write by all facts and the sets of older ones, it may not write by what is
+-- known
 module _ {W : Type 0} (s : AnalysisState W) (i : ℕ) (inside : i < s.path.given.legs.count) (fitted : IsFitted s) (laws : HasLaws (along s.path)) (words : HasWords (all_known s)) (once : OnceEach s.known.log) (quiet : IsQuiet (along s.path) (all_known s)) where
   now_seen : KnowsMore (moment s.path.sets s.known.log s.spans i) (registers_at (along s.path) (all_known s) i)
   now_seen = seen_more (along s.path).moments (register_known (told s.known.log)) (λ p a. None) (filled_range s.path.sets s.spans) (register_known (all_known s)) (λ p a. None) (register_range (along s.path) (all_known s)) i (record {
@@ -279,13 +280,13 @@ pub fitted_after : {W : Type 0} (s t : AnalysisState W) → Grows s t → IsFitt
 fitted_after s t g h = rw (g.path, g.spans, g.older) h
 
 -- an element that was read
-pub slice_read : (xs : List Drawn) (k : ℕ) (d : Drawn) → k < length xs → d ≡ get_or xs k d → slice_get xs k ≡ Some d
+pub slice_read : (xs : List Conclusion) (k : ℕ) (d : Conclusion) → k < length xs → d ≡ get_or xs k d → slice_get xs k ≡ Some d
 slice_read xs k d lt read = slice_get-get_or xs k d lt ∙ ap Some (sym read)
 
-pub row_closed : {W : Type 0} (s : AnalysisState W) (i : ℕ) (row : StepRow) → s.path.given.legs.row i ≡ Some row → KeptBelow 32 row i s → IsRowTracked row i s → DrawnKnown row i s → IsRowClosed i s
-row_closed s i row found registers tracked drawn_ row' found' =
+pub row_closed : {W : Type 0} (s : AnalysisState W) (i : ℕ) (row : StepRow) → s.path.given.legs.row i ≡ Some row → KeptBelow 32 row i s → IsRowTracked row i s → InferredKnown row i s → IsRowClosed i s
+row_closed s i row found registers tracked inferred_ row' found' =
     let same : row ≡ row' = same_row (sym found ∙ found') in
-    subst (λ (x : StepRow). IsRowDrawn x i s) same (record { registers = registers; tracked = tracked; drawn = drawn_ })
+    subst (λ (x : StepRow). IsRowInferred x i s) same (record { registers = registers; tracked = tracked; inferred = inferred_ })
   where
     same_row : {x y : StepRow} → Some x ≡ Some y → x ≡ y
     same_row e = cc

@@ -13,11 +13,11 @@ use Rattle.rept_report.specs.Setting.{Setting, HasLaws, way_of}
 use Rattle.rept_report.specs.Conflicts.{IsQuiet}
 use Rattle.rept_report.specs.Log.{oldest, logged_of, entry, place_of}
 use Rattle.rept_report.specs.Reasons.{StandsIn, IsStanding}
-use Rattle.rept_report.specs.Why.{Because, fact_of, IsDrawnBecause, IsKnownBecause, IsCarriedBecause, IsLeastFront}
+use Rattle.rept_report.specs.Why.{Because, fact_of, IsInferredBecause, IsKnownBecause, IsCarriedBecause, IsLeastFront}
 use Rattle.rept_report.proofs.Told.{none_some, same_some, speaks_is, told_old}
 use Rattle.rept_report.proofs.Places.{oldest_all, oldest_less, place_none}
 use Rattle.rept_report.proofs.Standing.{front_quiet}
-use Rattle.rept_report.proofs.Explained.{known_by, drawn_by, carried_by}
+use Rattle.rept_report.proofs.Explained.{known_by, inferred_by, carried_by}
 use Rattle.rept_report.proofs.Implied.{known_stands}
 use Rattle.rept_isa.specs.declared.row.StepRow.{StepRow}
 use Rattle.rept_partial.specs.Sets.{Sets}
@@ -25,8 +25,8 @@ use Rattle.rept_span.specs.Moves.{Moves}
 use Rattle.rept_view.specs.Rules.{Rules}
 use Rattle.rept_versions.specs.Facts.{Store}
 use Rattle.rept_log.specs.Fronts.{FrontView, Stored, IsFront, basis_of, front_of, stands}
-use Rattle.rept_analysis.specs.State.{AnalysisState, Whole, Reader, setting_of, state_of, with_draws, along}
-use Rattle.rept_analysis.specs.Drawing.{IsRowDrawn, IsSettled}
+use Rattle.rept_analysis.specs.State.{AnalysisState, Whole, Reader, setting_of, state_of, with_infers, along}
+use Rattle.rept_analysis.specs.Inferring.{IsRowInferred, IsSettled}
 use Rattle.rept_analysis.specs.Kept.{is_among, answers, IsFinished, IsKept}
 use Rattle.rept_analysis.specs.Reasoned.{front_below, AreSetsOf, IsNotLast}
 use Rattle.rept_analysis.proofs.Barriers.{writings_still}
@@ -143,14 +143,14 @@ module _ {W : Type 0} (s : AnalysisState W) (laws : HasLaws (along s.path)) (kep
       let h = known_by (along s.path) laws kept.traced.entries end.trace end.quiet (is_among s.known.store.tracked) end.closed t f r (stands (front_at s laws kept finished t)) (finds_logged t) cell (subst (λ (fs : List Fact). entry fs t ≡ Some f) (sym kept.traced.logged) at) in
       none h.0 h.1
 
-  pub no_drawn : (f : Fact) (a t : ℕ) → f.cell ≡ Byte a → IsLeastFront (along s.path) s.known.log f (t + 1) → entry s.known.log t ≡ Some f → ((why : Because) → IsDrawnBecause (along s.path) (stands (front_at s laws kept finished t)) f why → ⊥) → IsAnswered f → ⊥
-  no_drawn f a t cell least at none e =
+  pub no_inferred : (f : Fact) (a t : ℕ) → f.cell ≡ Byte a → IsLeastFront (along s.path) s.known.log f (t + 1) → entry s.known.log t ≡ Some f → ((why : Because) → IsInferredBecause (along s.path) (stands (front_at s laws kept finished t)) f why → ⊥) → IsAnswered f → ⊥
+  no_inferred f a t cell least at none e =
       let end = has_ended s laws kept finished in
       let same : f ≡ fact_of f.point (Byte a) f.value = fact_is f (fact_of f.point (Byte a) f.value) refl cell refl in
       let least' = subst (λ (x : Fact). IsLeastFront (along s.path) (logged_of kept.traced.entries) x (t + 1)) same (subst (λ (fs : List Fact). IsLeastFront (along s.path) fs f (t + 1)) (sym kept.traced.logged) least) in
       let at' = subst (λ (x : Fact). entry (logged_of kept.traced.entries) t ≡ Some x) same (subst (λ (fs : List Fact). entry fs t ≡ Some f) (sym kept.traced.logged) at) in
-      let h = drawn_by (along s.path) laws kept.traced.entries end.trace end.quiet (is_among s.known.store.tracked) end.closed t f.point a f.value (stands (front_at s laws kept finished t)) (finds_logged t) least' at' in
-      none h.0 (subst (λ (x : Fact). IsDrawnBecause (along s.path) (stands (front_at s laws kept finished t)) x h.0) (sym same) h.1)
+      let h = inferred_by (along s.path) laws kept.traced.entries end.trace end.quiet (is_among s.known.store.tracked) end.closed t f.point a f.value (stands (front_at s laws kept finished t)) (finds_logged t) least' at' in
+      none h.0 (subst (λ (x : Fact). IsInferredBecause (along s.path) (stands (front_at s laws kept finished t)) x h.0) (sym same) h.1)
 
   pub no_carried : (f : Fact) (a t : ℕ) → f.cell ≡ Byte a → IsLeastFront (along s.path) s.known.log f t → IsNotLast s.known.log f t → ((why : Because) → IsCarriedBecause (along s.path) (oldest t s.known.log) f why → ⊥) → IsAnswered f → ⊥
   no_carried f a t cell least other none e =
@@ -208,29 +208,29 @@ front_same {P} {L} read sets moves rules a t b is = ap (λ (x : Stored P L). fro
 pub front_by : {P L B W R : Type 0} (read : Reader P L) (sets : Sets W) (moves : Moves W) (rules : Rules) (store : B → Store) (a : Whole P L B W R) (t : ℕ) (spans : View W) → HasLaws (setting_of read sets moves rules a) → IsKept (state_of read sets moves rules store a) → IsFinished (state_of read sets moves rules store a) → AreSetsOf (setting_of read sets moves rules a) (oldest t a.known.log) spans → IsFront (front_of sets moves rules (basis_of read.timeline read.last (record { paths = a.paths; last = a.last; exe = a.exe; core = a.core; facts = oldest t a.known.log }))) a.known.last spans
 front_by read sets moves rules store a t spans laws kept finished its = front_is (state_of read sets moves rules store a) laws kept finished t spans its
 
--- an analysis stays what it is, however often rules were drawn
+-- an analysis stays what it is, however often rules were applied
 module _ {W : Type 0} (s : AnalysisState W) (kept : IsKept s) (n : ℕ) where
-  row_again : (i : ℕ) (row : StepRow) → IsRowDrawn row i s → IsRowDrawn row i (with_draws s n)
-  row_again i row d = record { registers = λ r named in_file kept'. let k = d.registers r named in_file kept' in record { onward = k.onward; back = k.back }; tracked = d.tracked; drawn = d.drawn }
+  row_again : (i : ℕ) (row : StepRow) → IsRowInferred row i s → IsRowInferred row i (with_infers s n)
+  row_again i row d = record { registers = λ r named in_file kept'. let k = d.registers r named in_file kept' in record { onward = k.onward; back = k.back }; tracked = d.tracked; inferred = d.inferred }
 
-  settled_again : IsSettled s → IsSettled (with_draws s n)
+  settled_again : IsSettled s → IsSettled (with_infers s n)
   settled_again h = record {
     quiet = h.quiet;
     fitted = h.fitted;
     filled = h.filled;
-    drawn = record {
-      last = h.drawn.last;
-      rows = λ i inside row found. row_again i row (h.drawn.rows i inside row found);
-      bytes = h.drawn.bytes;
-      carried = λ a m w at. let k = h.drawn.carried a m w at in record { onward = k.onward; back = k.back };
-      singles = h.drawn.singles;
+    inferred = record {
+      last = h.inferred.last;
+      rows = λ i inside row found. row_again i row (h.inferred.rows i inside row found);
+      bytes = h.inferred.bytes;
+      carried = λ a m w at. let k = h.inferred.carried a m w at in record { onward = k.onward; back = k.back };
+      singles = h.inferred.singles;
     };
-    writings = writings_still s (with_draws s n) refl refl refl (λ p c v e. e) refl (λ x. x) h.writings;
+    writings = writings_still s (with_infers s n) refl refl refl (λ p c v e. e) refl (λ x. x) h.writings;
     exact = h.exact;
   }
 
-  pub kept_redrawn : IsKept (with_draws s n)
-  kept_redrawn = record {
+  pub kept_inferred_again : IsKept (with_infers s n)
+  kept_inferred_again = record {
     few = kept.few;
     registers = kept.registers;
     last_is = kept.last_is;
@@ -245,6 +245,6 @@ module _ {W : Type 0} (s : AnalysisState W) (kept : IsKept s) (n : ℕ) where
     finished = λ e. let h = kept.finished e in record { settled = settled_again h.settled; report = h.report; all = h.all };
     room = kept.room;
     rows = kept.rows;
-    drawn = passes_more s (with_draws s n) refl (λ p c v e. e) refl kept.drawn;
+    inferred = passes_more s (with_infers s n) refl (λ p c v e. e) refl kept.inferred;
     roomy = kept.roomy;
   }

@@ -1,7 +1,7 @@
 -- A byte's value is carried number by number, strip by strip and over the links between them.
 use Rattle.std.proofs.Common.{◌≡◌, ℕ, ◌+◌, ◌-◌, ◌<◌, ◌≤◌, ◌^◌, ◌⊎◌, if◌then◌else◌, Bool, true, false, Option, Some, None, inl, inr, refl, sym, ap, subst, ◌∙◌, arith, min, is_some}
 use Rattle.std.proofs.lemmas.Bool.{cases_lt, cases_order, false≢true}
-use Rattle.rept_versions.specs.declared.facts.Stretch.{Stretch}
+use Rattle.rept_versions.specs.declared.facts.ValueStretch.{ValueStretch}
 use Rattle.rept_versions.specs.Facts.{KnownValues, Nexts}
 use Rattle.rept_reason.specs.declared.fact.Cell.TheVariants.{Byte}
 use Rattle.rept_report.specs.declared.paths.Strip.{Strip}
@@ -15,8 +15,8 @@ use Rattle.rept_analysis.specs.Kept.{IsKept}
 use Rattle.rept_analysis.specs.State.{AnalysisState, Subject, timeline_of, along}
 use Rattle.rept_analysis.proofs.Spreading.{bridged_still}
 use Rattle.rept_reach.specs.Reaching.{IsLeaving}
-use Rattle.rept_reach.specs.declared.reaches.Window.{Window}
-use Rattle.rept_analysis.specs.Drawing.{Knows, Grows, IsCalm, IsCarriedFrom, IsCarriedIf, IsBridged, IsSparedBetween, IsBlocked, AreBlocked, IsEnd, IsPiece, IsCarriedBeside, IsCarriedBelow, IsCarriedIn, IsCarriedAlong, IsEven, IsEvenAround, AreLinksBelow, AreLinks, IsCarriedUpTo}
+use Rattle.rept_reach.specs.declared.reaches.NumberWindow.{NumberWindow}
+use Rattle.rept_analysis.specs.Inferring.{Knows, Grows, IsCalm, IsCarriedFrom, IsCarriedIf, IsBridged, IsSparedBetween, IsBlocked, AreBlocked, IsEnd, IsPiece, IsCarriedBeside, IsCarriedBelow, IsCarriedIn, IsCarriedAlong, IsEven, IsEvenAround, AreLinksBelow, AreLinks, IsCarriedUpTo}
 
 module _ {W : Type 0} (s : AnalysisState W) where
   pub blocked_if : (x : Passage) → IsBlocked x s → IsCarriedIf x s
@@ -104,19 +104,19 @@ none_found None never = refl
 none_found (Some y) never = absurd (never y refl)
 
 -- a stretch that wasn't found
-pub nexts_none : (f : KnownValues) (a p : ℕ) (x : Option Stretch) → ((y : Stretch) → x ≡ Some y → ⊥) → Nexts f a p x → Nexts f a p None
+pub nexts_none : (f : KnownValues) (a p : ℕ) (x : Option ValueStretch) → ((y : ValueStretch) → x ≡ Some y → ⊥) → Nexts f a p x → Nexts f a p None
 nexts_none f a p None never h = h
 nexts_none f a p (Some y) never h = absurd (never y refl)
 
 -- where a value begins after a number, or where it ends if it begins there or before
-abbrev pub IsEdge : ℕ → Stretch → ℕ → Type 0
+abbrev pub IsEdge : ℕ → ValueStretch → ℕ → Type 0
 IsEdge from stretch point = ((from < stretch.first) × (point ≡ stretch.first)) ⊎ ((stretch.first ≤ from) × (point ≡ stretch.last))
 
 -- the number before which it begins, or at which it ends
-abbrev pub IsBorder : ℕ → Stretch → ℕ → Type 0
+abbrev pub IsBorder : ℕ → ValueStretch → ℕ → Type 0
 IsBorder from stretch m = ((from < stretch.first) × (m + 1 ≡ stretch.first)) ⊎ ((stretch.first ≤ from) × (m ≡ stretch.last))
 
-module _ {W : Type 0} (s : AnalysisState W) (a from : ℕ) (stretch : Stretch) (next : Nexts s.known.store.fact a from (Some stretch)) where
+module _ {W : Type 0} (s : AnalysisState W) (a from : ℕ) (stretch : ValueStretch) (next : Nexts s.known.store.fact a from (Some stretch)) where
   pub border_onward : (m : ℕ) → IsBorder from stretch m → from ≤ m
   border_onward m (inl (later, is)) = omega (arith, later, is)
   border_onward m (inr (begun, is)) = let reaches = next.reaches in omega (arith, reaches, is)
@@ -137,7 +137,7 @@ module _ {W : Type 0} (s : AnalysisState W) (a from : ℕ) (strip : Strip) (belo
   pub in_all : strip.last ≤ from → IsCarriedIn a strip s
   in_all far i up down = below i up (omega (arith, far, down)) down
 
-  module _ (stretch : Stretch) (next : Nexts s.known.store.fact a from (Some stretch)) where
+  module _ (stretch : ValueStretch) (next : Nexts s.known.store.fact a from (Some stretch)) where
     -- from each number before the one at which something begins or ends
     before_border : (m : ℕ) → IsBorder from stretch m → (i : ℕ) → from ≤ i → i < m → IsCarriedIf (passage a i (i + 1)) s
     before_border m (inl (later, is)) i low lt = free_if s (passage a i (i + 1)) (next.free i low (omega (arith, is, lt))) (next.free (i + 1) (omega (arith, low)) (omega (arith, is, lt)))
@@ -294,7 +294,7 @@ module _ {W : Type 0} (s : AnalysisState W) (a from : ℕ) where
   in_even to strip even same near i up down = alike_if s (passage a i (i + 1)) (even i (omega (arith, same, up)) (omega (arith, down, near)) ∙ sym (even (i + 1) (omega (arith, same, up)) (omega (arith, down, near))))
 
   -- from numbers that lead to no others than those at which the same is known
-  pub up_to_even : (number n : ℕ) (known : Window) → IsEvenAround a number known s → known.from ≤ from → IsLeaving s.path.given.moments known from n → IsCarriedUpTo a from s → IsCarriedUpTo a n s
+  pub up_to_even : (number n : ℕ) (known : NumberWindow) → IsEvenAround a number known s → known.from ≤ from → IsLeaving s.path.given.moments known from n → IsCarriedUpTo a from s → IsCarriedUpTo a n s
   up_to_even number n known around begun its before m w lt =
       elim (cases_lt m from) [
         | inl early ↦ before m w early
@@ -319,7 +319,7 @@ up_to_idle s a m before here n w lt =
     ]
 
 -- the same window, around another of its numbers
-pub around_at : {W : Type 0} (s : AnalysisState W) (a number m : ℕ) (known : Window) → IsEvenAround a number known s → known.from ≤ m → m < known.to → IsEvenAround a m known s
+pub around_at : {W : Type 0} (s : AnalysisState W) (a number m : ℕ) (known : NumberWindow) → IsEvenAround a number known s → known.from ≤ m → m < known.to → IsEvenAround a m known s
 around_at s a number m known around low high = record {
   from = low;
   to = high;

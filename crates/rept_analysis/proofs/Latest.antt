@@ -27,10 +27,10 @@ module _ {W : Type 0} (S : Setting W) (K : Knowledge) (x : Spot) where
   candidate_maybe i h = record { begun = record { row = there (S.legs.row i) (registers_at S K i) h.may; begun_at = h.reaches }; may = h.may }
 
   latest_last : (j : ℕ) → IsLatest S.moments (IsMaybe (time_of S) (writes_by S K) x) j → IsLastCandidate S K x j
-  latest_last j h = record { one = maybe_candidate j h.one; after = λ k c other. h.after k (candidate_maybe k c) other; dark = h.dark }
+  latest_last j h = record { one = maybe_candidate j h.one; after = λ k c other. h.after k (candidate_maybe k c) other; untraced = h.untraced }
 
   last_latest : (j : ℕ) → IsLastCandidate S K x j → IsLatest S.moments (IsMaybe (time_of S) (writes_by S K) x) j
-  last_latest j h = record { one = candidate_maybe j h.one; after = λ k c other. h.after k (maybe_candidate k c) other; dark = h.dark }
+  last_latest j h = record { one = candidate_maybe j h.one; after = λ k c other. h.after k (maybe_candidate k c) other; untraced = h.untraced }
 
   pub writer_is : (w : Writer) → IsLastWriter (time_of S) (writes_by S K) x w → IsWriter S K x w
   writer_is (writers.TheVariants.Writes j) h = (latest_last j h.0, h.1)

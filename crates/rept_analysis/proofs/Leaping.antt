@@ -1,21 +1,22 @@
--- A byte's value goes at once to all numbers that come from known ones, up to a row that may write it.
+-- A byte's value goes at once to all numbers that come from known ones, up to a row that may write
+-- it.
 use Rattle.std.proofs.Common.{◌≡◌, ℕ, ◌+◌, ◌-◌, ◌<◌, ◌≤◌, ◌^◌, ◌⊎◌, true, Option, Some, None, inl, inr, sym, subst, arith, max, min}
 use Rattle.std.specs.Option.{is_some}
 use Rattle.std.proofs.lemmas.Bool.{cases_lt, false≢true}
 use Rattle.rept_reason.specs.declared.fact.Cell.TheVariants.{Byte}
-use Rattle.rept_reach.specs.declared.reaches.Window.{Window}
+use Rattle.rept_reach.specs.declared.reaches.NumberWindow.{NumberWindow}
 use Rattle.rept_reach.specs.Reaching.{IsLit, IsReachedUp, IsReachedDown}
 use Rattle.rept_writing.specs.Hits.{IsFreeSince, IsFreeUntil}
 use Rattle.rept_report.specs.Spots.{passage}
-use Rattle.rept_versions.specs.declared.facts.Stretch.{Stretch}
+use Rattle.rept_versions.specs.declared.facts.ValueStretch.{ValueStretch}
 use Rattle.rept_versions.specs.Facts.{Nexts}
-use Rattle.rept_analysis.specs.declared.leap.Leap.{Leap}
+use Rattle.rept_analysis.specs.declared.leap.ByteLeap.{ByteLeap}
 use Rattle.rept_analysis.specs.State.{AnalysisState}
 use Rattle.rept_analysis.specs.Kept.{IsKept}
-use Rattle.rept_analysis.specs.Drawing.{Knows, IsTracked, AreWritings, IsBridged, IsLeapUp, IsLeapDown, IsLed}
+use Rattle.rept_analysis.specs.Inferring.{Knows, IsTracked, AreWritings, IsBridged, IsLeapUp, IsLeapDown, IsLed}
 use Rattle.rept_analysis.proofs.Listing.{spared_by}
 
-module _ {W : Type 0} (s : AnalysisState W) (x : Leap) (v : ℕ) (order : x.first ≤ x.last) (known : (q : ℕ) → x.first ≤ q → q ≤ x.last → Knows q (Byte x.address) v s) where
+module _ {W : Type 0} (s : AnalysisState W) (x : ByteLeap) (v : ℕ) (order : x.first ≤ x.last) (known : (q : ℕ) → x.first ≤ q → q ≤ x.last → Knows q (Byte x.address) v s) where
   -- what goes up is led
   pub led_up : IsLeapUp x s → IsLed (record { address = x.address; from = x.last; to = x.to; value = v }) s
   led_up leap q (inl between) ne =
@@ -48,14 +49,14 @@ module _ {W : Type 0} (s : AnalysisState W) (x : Leap) (v : ℕ) (order : x.firs
       }
   led_down leap q (inl between) ne = let from = leap.from in let low = between.0 in let high = between.1 in absurd (ne (omega (arith, from, low, high)))
 
--- between a number and a next one where no row of the list falls that may write the byte
+-- between a number and a next one where no row of the list may act that may write the byte
 module _ {W : Type 0} (s : AnalysisState W) (h : AreWritings s) (a : ℕ) (small : a < 2 ^ 32) (number since until : ℕ) (free_since : IsFreeSince s.work.writing number a since) (free_until : IsFreeUntil s.work.writing number a until) where
   pub bridged_free : (m k : ℕ) → IsLit s.path.given.moments m k → since ≤ m → k < until → IsBridged (passage a m k) s
   bridged_free m k lit late early = record {
     next = lit.next;
     light = lit.light;
-    spared = λ i falls. spared_by s h a small i (λ j w found row hits.
-        let inside = (h.barriers.each j w found).extent m k lit.next (subst (λ (n : ℕ). s.path.given.moments.falls n m k ≡ true) (sym row) falls) in
+    spared = λ i may_act. spared_by s h a small i (λ j w found row hits.
+        let inside = (h.barriers.each j w found).extent m k lit.next (subst (λ (n : ℕ). s.path.given.moments.may_act n m k ≡ true) (sym row) may_act) in
         let above = inside.0 in
         let below = inside.1 in
         elim (cases_lt w.at number) [
@@ -66,7 +67,7 @@ module _ {W : Type 0} (s : AnalysisState W) (h : AreWritings s) (a : ℕ) (small
 
 -- how far up it goes
 module _ {W : Type 0} (s : AnalysisState W) (h : AreWritings s) (a : ℕ) (small : a < 2 ^ 32) (first last since until : ℕ) (free_since : IsFreeSince s.work.writing last a since) (free_until : IsFreeUntil s.work.writing last a until) where
-  pub leaps_up : (known : Window) (n : ℕ) → known.from ≡ max since first → known.to ≡ last + 1 → last + 1 < until → IsReachedUp s.path.given.moments known (until - 1) n → IsLeapUp (record { address = a; first = first; last = last; to = n }) s
+  pub leaps_up : (known : NumberWindow) (n : ℕ) → known.from ≡ max since first → known.to ≡ last + 1 → last + 1 < until → IsReachedUp s.path.given.moments known (until - 1) n → IsLeapUp (record { address = a; first = first; last = last; to = n }) s
   leaps_up known n from to later reached = record {
     from = let x = reached.from in omega (arith, x, to);
     inside = reached.inside;
@@ -82,7 +83,7 @@ module _ {W : Type 0} (s : AnalysisState W) (h : AreWritings s) (a : ℕ) (small
 
 -- how far down it goes
 module _ {W : Type 0} (s : AnalysisState W) (h : AreWritings s) (a : ℕ) (small : a < 2 ^ 32) (first last since until : ℕ) (free_since : IsFreeSince s.work.writing first a since) (free_until : IsFreeUntil s.work.writing first a until) where
-  pub leaps_down : (known : Window) (n : ℕ) → known.from ≡ first → known.to ≡ min until (last + 1) → since < first → IsReachedDown s.path.given.moments known since n → IsLeapDown (record { address = a; first = first; last = last; to = n }) s
+  pub leaps_down : (known : NumberWindow) (n : ℕ) → known.from ≡ first → known.to ≡ min until (last + 1) → since < first → IsReachedDown s.path.given.moments known since n → IsLeapDown (record { address = a; first = first; last = last; to = n }) s
   leaps_down known n from to earlier reached = record {
     from = let x = reached.to in omega (arith, x, from);
     ways = λ k least before.
@@ -96,6 +97,6 @@ module _ {W : Type 0} (s : AnalysisState W) (h : AreWritings s) (a : ℕ) (small
       late k least before (inr none) = absurd (omega (arith, none, from, least, before))
 
 -- a byte with a stretch is tracked
-pub tracked_by : {W : Type 0} (s : AnalysisState W) → IsKept s → (a : ℕ) (o : Option Stretch) → Nexts s.known.store.fact a 0 o → is_some o ≡ true → IsTracked a s
+pub tracked_by : {W : Type 0} (s : AnalysisState W) → IsKept s → (a : ℕ) (o : Option ValueStretch) → Nexts s.known.store.fact a 0 o → is_some o ≡ true → IsTracked a s
 tracked_by s kept a None h some = absurd (false≢true some)
 tracked_by s kept a (Some stretch) h some = let ordered = h.run.ordered in kept.listed stretch.first a stretch.value (h.run.value stretch.first (omega arith) ordered)

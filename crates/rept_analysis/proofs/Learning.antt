@@ -18,22 +18,22 @@ use Rattle.rept_report.proofs.Told.{told_new, told_old, told_more, speaks_is, no
 use Rattle.rept_report.proofs.Places.{oldest_new}
 use Rattle.rept_report.proofs.Traces.{trace_words, words_of}
 use Rattle.rept_versions.specs.Facts.{ByteFact}
-use Rattle.rept_log.specs.declared.answer.Answer.{Answer}
-use Rattle.rept_log.specs.declared.answer.Answer.TheVariants.{Old, New, Clash}
+use Rattle.rept_log.specs.declared.answer.LearnOutcome.{LearnOutcome}
+use Rattle.rept_log.specs.declared.answer.LearnOutcome.TheVariants.{Old, New, Clash}
 use Rattle.rept_log.specs.Known.{Known, knows, known_change, with_entry, IsNew, LearnsRegister, AddsByte, LearnsByte, HasNoRoom, TracksMore, TracksByte}
 use Rattle.rept_analysis.specs.State.{AnalysisState, IsRoomy, all_known, along}
 use Rattle.rept_report.specs.Why.{fact_of}
-use Rattle.rept_analysis.specs.Drawing.{IsTracked, Grows, IsFollowing, IsBrought, IsRowAddress, HasPlace}
+use Rattle.rept_analysis.specs.Inferring.{IsTracked, Grows, IsFollowing, IsBrought, IsRowAddress, HasPlace}
 use Rattle.rept_analysis.specs.Sums.{sum_to}
 use Rattle.rept_analysis.specs.Room.{places_at, HasRoom}
-use Rattle.rept_analysis.specs.Drawing.HasNews.{fact, address}
+use Rattle.rept_analysis.specs.Inferring.HasNews.{fact, address}
 use Rattle.rept_analysis.specs.Kept.{IsKept}
 use Rattle.rept_passes.specs.declared.pass.Pass.{Pass}
 use Rattle.rept_passes.specs.declared.pass.Pass.TheVariants.{Never}
 use Rattle.rept_analysis.proofs.Barriers.{writings_still}
 use Rattle.rept_analysis.proofs.Begun.{log_added}
 use Rattle.rept_analysis.proofs.Passing.{passes_more, never_pass}
-use Rattle.rept_analysis.proofs.Reserve.{room_like, room_drawn, room_last, room_to_draw, room_to_read, room_tracked, room_to_track, room_new}
+use Rattle.rept_analysis.proofs.Reserve.{room_like, room_inferred, room_last, room_to_infer, room_to_read, room_tracked, room_to_track, room_new}
 use Rattle.rept_analysis.specs.Told.{ByteToldAs, IsNewlyTold, ToldAs, Tracks}
 
 abbrev pub with_known : {W : Type 0} → AnalysisState W → Known → AnalysisState W
@@ -145,7 +145,7 @@ module _ {W : Type 0} (s : AnalysisState W) (kept : IsKept s) (f : Fact) (keep :
         finished = λ e. absurd (false≢true (sym n.open_ ∙ e));
         room = kept.room;
         rows = kept.rows;
-        drawn = passes_more s (with_known s k) refl more refl kept.drawn;
+        inferred = passes_more s (with_known s k) refl more refl kept.inferred;
         roomy = n.roomy more;
       }
 
@@ -205,7 +205,7 @@ module _ {W : Type 0} (s : AnalysisState W) (kept : IsKept s) (p r v : ℕ) (ear
     agree = register_agrees;
   }
 
-  pub told_register : (k : Known) → OnceEach k.log → (answer : Answer) → LearnsRegister s.known k (fact_of p (Register r) v) answer → IsKept (with_known s k) × ToldAs s (with_known s k) (fact_of p (Register r) v) answer
+  pub told_register : (k : Known) → OnceEach k.log → (answer : LearnOutcome) → LearnsRegister s.known k (fact_of p (Register r) v) answer → IsKept (with_known s k) × ToldAs s (with_known s k) (fact_of p (Register r) v) answer
   told_register k once Old (same, known) = (kept_same s k same kept, (same_known s k same, known))
   told_register k once (Clash w) (same, known, differs) = (kept_same s k same kept, (same_known s k same, known, differs))
   told_register k once New (same, none) =
@@ -288,16 +288,16 @@ module _ {W : Type 0} (s : AnalysisState W) (laws : HasLaws (along s.path)) (kep
   byte_learnt = record { point = p; address = a; value = v }
 
   byte_room : (keep : Bool) → HasPlace keep p a s → (k : Known) → AddsByte (known_change joins s.known k) byte_learnt keep → ((q : ℕ) (c : Cell) (w : ℕ) → all_known s q c ≡ Some w → knows k q c ≡ Some w) → IsRoomy s → HasRoom s.path k
-  byte_room true place k adds more j = room_drawn s.path laws s.known k more joins p a v place adds (kept.roomy j)
+  byte_room true place k adds more j = room_inferred s.path laws s.known k more joins p a v place adds (kept.roomy j)
   byte_room false (inl place) k adds more j = room_last s.path s.known k more joins p a v place tracked adds (kept.roomy j)
   byte_room false (inr plain) k adds more j = absurd (plain j)
 
   byte_full : (keep : Bool) → HasPlace keep p a s → HasNoRoom s.known p a keep → IsRoomy s → ⊥
-  byte_full true place full j = room_to_draw s.path laws s.known (kept.roomy j) p a place full
+  byte_full true place full j = room_to_infer s.path laws s.known (kept.roomy j) p a place full
   byte_full false (inl place) full j = room_to_read s.path s.known (kept.roomy j) p a place tracked full
   byte_full false (inr plain) full j = plain j
 
-  pub told_byte : (keep : Bool) → (keep ≡ false → IsBrought s g) → HasPlace keep p a s → (k : Known) → OnceEach k.log → (r : Result Answer AllocError) → LearnsByte (known_change joins s.known k) byte_learnt keep r → IsKept (with_known s k) × ByteToldAs s (with_known s k) g r
+  pub told_byte : (keep : Bool) → (keep ≡ false → IsBrought s g) → HasPlace keep p a s → (k : Known) → OnceEach k.log → (r : Result LearnOutcome AllocError) → LearnsByte (known_change joins s.known k) byte_learnt keep r → IsKept (with_known s k) × ByteToldAs s (with_known s k) g r
   told_byte keep brought place k once (Err e) (same, full) = (kept_same s k same kept, (same_known s k same, byte_full keep place full))
   told_byte keep brought place k once (Ok Old) (same, known) = (kept_same s k same kept, (same_known s k same, known))
   told_byte keep brought place k once (Ok (Clash w)) (same, known, differs) = (kept_same s k same kept, (same_known s k same, known, differs))
@@ -329,7 +329,7 @@ module _ {W : Type 0} (s : AnalysisState W) (legs : AreLegs s.path.given.legs) (
       finished = λ e. absurd (false≢true (sym open_ ∙ e));
       room = kept.room;
       rows = kept.rows;
-      drawn = passes_more s (with_known s k) refl (λ p c v e. sym (same_knows p c) ∙ e) refl kept.drawn;
+      inferred = passes_more s (with_known s k) refl (λ p c v e. sym (same_knows p c) ∙ e) refl kept.inferred;
       roomy = λ j. room_tracked s.path legs s.known (kept.roomy j) row.0 row.1 a row.2 h.was_not k h;
     }
 
@@ -368,7 +368,7 @@ module _ {W : Type 0} (s : AnalysisState W) (legs : AreLegs s.path.given.legs) (
   tracked_byte k (Ok true) h = (track_kept k h, (track_grows k h, address a small h.was_not (now_tracked k h), now_tracked k h, h.log, h.fact, refl))
 
 -- a new analysis
-pub fresh_kept : {W : Type 0} (s : AnalysisState W) (bytes : ℕ) → bytes ≡ sum_to (places_at s.path) (s.path.given.legs.count) → s.path.given.legs.count ≤ 66560 → ((p : ℕ) → length (s.path.given.last p) ≡ 32) → IsNew s.work.joins s.known (s.path.given.legs.count) bytes → s.spans.points ≡ s.path.given.legs.count + 1 → s.filled ≡ 0 → s.shown ≡ 0 → s.complete ≡ false → s.conflict ≡ None → s.path.given.moments.end < s.work.room → length s.work.drawn ≡ s.path.given.legs.count → ((i : ℕ) (x : Pass) → slice_get s.work.drawn i ≡ Some x → x ≡ Never) → IsKept s
+pub fresh_kept : {W : Type 0} (s : AnalysisState W) (bytes : ℕ) → bytes ≡ sum_to (places_at s.path) (s.path.given.legs.count) → s.path.given.legs.count ≤ 66560 → ((p : ℕ) → length (s.path.given.last p) ≡ 32) → IsNew s.work.joins s.known (s.path.given.legs.count) bytes → s.spans.points ≡ s.path.given.legs.count + 1 → s.filled ≡ 0 → s.shown ≡ 0 → s.complete ≡ false → s.conflict ≡ None → s.path.given.moments.end < s.work.room → length s.work.inferred ≡ s.path.given.legs.count → ((i : ℕ) (x : Pass) → slice_get s.work.inferred i ≡ Some x → x ≡ Never) → IsKept s
 fresh_kept s bytes sum few registers new sized filled shown open_ calm_ room rows never = record {
   few = few;
   registers = registers;
@@ -384,7 +384,7 @@ fresh_kept s bytes sum few registers new sized filled shown open_ calm_ room row
   finished = λ e. absurd (false≢true (sym open_ ∙ e));
   room = room;
   rows = rows;
-  drawn = λ i row x at is. never_pass s row i x (never i x is);
+  inferred = λ i row x at is. never_pass s row i x (never i x is);
   roomy = λ j. let places = new.made.places j.0 in let spare = new.made.spare j.0 in room_new s.path s.known bytes sum new.made.tracked new.left (omega (arith, places)) (omega (arith, spare));
 }
   where

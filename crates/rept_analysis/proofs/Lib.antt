@@ -5,7 +5,7 @@ pub mod Barriers
 pub mod Begun
 pub mod Cells
 pub mod Counting
-pub mod Drawn
+pub mod Conclusion
 pub mod Ending
 pub mod Following
 pub mod Going

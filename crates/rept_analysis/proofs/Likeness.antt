@@ -13,13 +13,13 @@ use Rattle.rept_writing.specs.Hits.{IsFirstHit, IsNextHitBelow}
 use Rattle.rept_writing.specs.declared.list.Writing.{Writing}
 use Rattle.rept_analysis.specs.declared.pairs.Pairs.{Pairs}
 use Rattle.rept_analysis.specs.State.{AnalysisState, all_known, along}
-use Rattle.rept_analysis.specs.Drawing.{Drew, IsSpared, AreWritings, AreExact, IsCarriedOver, IsCarriedAlong, CarriedAlongBelow, IsEven}
+use Rattle.rept_analysis.specs.Inferring.{HasInferred, IsSpared, AreWritings, AreExact, IsCarriedOver, IsCarriedAlong, CarriedAlongBelow, IsEven}
 use Rattle.rept_analysis.specs.Pairs.{GoWith}
-use Rattle.rept_analysis.specs.Likeness.{IsToldBy, AreHitsShared, IsLike, IsLikeAny, IsCurrent}
-use Rattle.rept_analysis.proofs.Drawn.{tracked_more}
+use Rattle.rept_analysis.specs.Likeness.{IsToldBy, AreHitsShared, IsLikeByte, IsLikeAny, IsCurrent}
+use Rattle.rept_analysis.proofs.Conclusion.{tracked_more}
 use Rattle.rept_analysis.proofs.Listing.{same_hit, spared_by}
 
-module _ {W : Type 0} (s : AnalysisState W) (writings : AreWritings s) (current : IsCurrent s) (exact : AreExact s) (a b : ℕ) (low : a < 2 ^ 32) (small : b < 2 ^ 32) (like : IsLike a b s) where
+module _ {W : Type 0} (s : AnalysisState W) (writings : AreWritings s) (current : IsCurrent s) (exact : AreExact s) (a b : ℕ) (low : a < 2 ^ 32) (small : b < 2 ^ 32) (like : IsLikeByte a b s) where
   abbrev K : Knowledge
   K = told (oldest s.filled s.known.log)
 
@@ -38,7 +38,7 @@ module _ {W : Type 0} (s : AnalysisState W) (writings : AreWritings s) (current 
       false≢true (sym free ∙ may)))
 
   carries_too : (m w : ℕ) → Carries (along s.path) K (passage b m w) → Carries (along s.path) K (passage a m w)
-  carries_too m w h = record { next = h.next; light = h.light; spared = λ i falls. spared_too i (h.spared i falls) }
+  carries_too m w h = record { next = h.next; light = h.light; spared = λ i may_act. spared_too i (h.spared i may_act) }
 
   -- the same is known of the first one
   same_first : (m w : ℕ) → IsCarriedOver (passage a m w) s → Carries (along s.path) K (passage a m w) → s.known.store.fact m a ≡ s.known.store.fact w a
@@ -69,17 +69,17 @@ abbrev pub AreLed : {W : Type 0} → Option ℕ → ℕ → AnalysisState W → 
 AreLed leader n s = CarriedAlongBelow n s × IfSome leader (λ a. IsCarriedAlong a s)
 
 -- one more is carried that is like the leader
-pub led_more : {W : Type 0} (s t : AnalysisState W) (learnt : Bool) (leader : Option ℕ) (k b : ℕ) → AreWritings s → IsCurrent s → IfSome leader (λ a. a < 2 ^ 32) → b < 2 ^ 32 → slice_get t.known.store.tracked k ≡ Some b → IsLikeAny leader b t → Drew s t learnt (AreLed leader k) → Drew s t learnt (AreLed leader (k + 1))
-led_more s t learnt leader k b writings current low small at like drew = record {
-  news = drew.news;
-  unchanged = drew.unchanged;
+pub led_more : {W : Type 0} (s t : AnalysisState W) (learnt : Bool) (leader : Option ℕ) (k b : ℕ) → AreWritings s → IsCurrent s → IfSome leader (λ a. a < 2 ^ 32) → b < 2 ^ 32 → slice_get t.known.store.tracked k ≡ Some b → IsLikeAny leader b t → HasInferred s t learnt (AreLed leader k) → HasInferred s t learnt (AreLed leader (k + 1))
+led_more s t learnt leader k b writings current low small at like inferred = record {
+  news = inferred.news;
+  unchanged = inferred.unchanged;
   closed = λ e.
-      let same = drew.unchanged e in
-      let before = drew.closed e in
+      let same = inferred.unchanged e in
+      let before = inferred.closed e in
       let there : slice_get s.known.store.tracked k ≡ Some b = subst (λ (x : AnalysisState _). slice_get x.known.store.tracked k ≡ Some b) same at in
       let here = carried_like s writings current leader b low small (subst (λ (x : AnalysisState _). IsLikeAny leader b x) same like) before.1 in
       (tracked_more s (λ c x. IsCarriedAlong c x) k b there before.0 here, before.1);
-  uncut = drew.uncut;
+  uncut = inferred.uncut;
 }
 
 -- what goes with something is one

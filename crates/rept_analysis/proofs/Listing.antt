@@ -18,7 +18,7 @@ use Rattle.rept_report.specs.Spots.{Passage, passage}
 use Rattle.rept_report.specs.Log.{oldest}
 use Rattle.rept_analysis.specs.State.{AnalysisState, Subject, timeline_of, with_writing}
 use Rattle.rept_analysis.specs.declared.piece.Piece.{Piece}
-use Rattle.rept_analysis.specs.Drawing.{Grows, IsAccess, IsSpared, IsBridged, IsSparedBetween, IsSilent, IsInList, past, IsWriting, AreWritingsBefore, AreBarriers, AreWritings, AreExact, SameFacts, IsFitted, IsBlocked, AreBlocked, Blocks, IsHitBy, IsBlocker, IsCalm, IsLooseEnd, IsLooseBefore, IsEnd, IsPiece}
+use Rattle.rept_analysis.specs.Inferring.{Grows, IsAccess, IsSpared, IsBridged, IsSparedBetween, IsSilent, IsInList, past, IsWriting, AreWritingsBefore, AreBarriers, AreWritings, AreExact, SameFacts, IsFitted, IsBlocked, AreBlocked, Blocks, IsHitBy, IsBlocker, IsCalm, IsLooseEnd, IsLooseBefore, IsEnd, IsPiece}
 use Rattle.rept_analysis.proofs.Barriers.{past_at}
 
 -- the same rows may write where path, facts and sets are the same
@@ -165,7 +165,7 @@ none_spared s i access is none a small = sym (is a small) ∙ none a
 
 -- with another list everything else is the same
 pub listed_same : {W : Type 0} (s t : AnalysisState W) (list : List Writing) → t ≡ with_writing s list → SameFacts s t
-listed_same s t list is = subst (λ (x : AnalysisState _). SameFacts s x) (sym is) (record { path = refl; known = refl; shown = refl; complete = refl; conflict = refl; draws = refl; drawn = refl })
+listed_same s t list is = subst (λ (x : AnalysisState _). SameFacts s x) (sym is) (record { path = refl; known = refl; shown = refl; complete = refl; conflict = refl; infers = refl; inferred = refl })
 
 pub fitted_listed : {W : Type 0} (s t : AnalysisState W) (list : List Writing) → t ≡ with_writing s list → IsFitted s → IsFitted t
 fitted_listed s t list is h = subst (λ (x : AnalysisState _). IsFitted x) (sym is) h
@@ -233,97 +233,98 @@ module _ {W : Type 0} (s : AnalysisState W) (h : AreWritings s) (a : ℕ) (small
             ]
       ])
 
-  -- none of the entries below one that may write the byte falls
-  abbrev pub DoNoneFall : ℕ → ℕ → ℕ → Type 0
-  DoNoneFall m w k = (j : ℕ) (x : Writing) → j < k → slice_get list j ≡ Some x → call_hits x.access a ≡ true → s.path.given.moments.falls x.row m w ≡ false
+  -- none of the entries below one that may write the byte may act
+  abbrev pub DoNoneMayAct : ℕ → ℕ → ℕ → Type 0
+  DoNoneMayAct m w k = (j : ℕ) (x : Writing) → j < k → slice_get list j ≡ Some x → call_hits x.access a ≡ true → s.path.given.moments.may_act x.row m w ≡ false
 
-  -- an entry that may write the byte and falls between the numbers is a meeting
-  meeting_by : (m w j : ℕ) (x : Writing) → s.path.given.moments.next m w ≡ true → slice_get list j ≡ Some x → call_hits x.access a ≡ true → s.path.given.moments.falls x.row m w ≡ true → IsMeeting list (record { from = m; to = w; address = a }) j
-  meeting_by m w j x next found hits falls =
-      let within = (h.barriers.each j x found).extent m w next falls in
+  -- an entry that may write the byte and may act between the numbers is a meeting
+  meeting_by : (m w j : ℕ) (x : Writing) → s.path.given.moments.next m w ≡ true → slice_get list j ≡ Some x → call_hits x.access a ≡ true → s.path.given.moments.may_act x.row m w ≡ true → IsMeeting list (record { from = m; to = w; address = a }) j
+  meeting_by m w j x next found hits may_act =
+      let within = (h.barriers.each j x found).extent m w next may_act in
       record { writing = x; stands = found; hits = hits; above = within.0; below = within.1 }
 
-  pub none_fall_more : (m w k hit : ℕ) (x : Writing) → s.path.given.moments.next m w ≡ true → IsNextMeeting list k (record { from = m; to = w; address = a }) (Some hit) → slice_get list hit ≡ Some x → s.path.given.moments.falls x.row m w ≡ false → DoNoneFall m w k → DoNoneFall m w (hit + 1)
-  none_fall_more m w k hit x next first at calm below j y lt found hits =
+  pub none_may_act_more : (m w k hit : ℕ) (x : Writing) → s.path.given.moments.next m w ≡ true → IsNextMeeting list k (record { from = m; to = w; address = a }) (Some hit) → slice_get list hit ≡ Some x → s.path.given.moments.may_act x.row m w ≡ false → DoNoneMayAct m w k → DoNoneMayAct m w (hit + 1)
+  none_may_act_more m w k hit x next first at calm below j y lt found hits =
       elim (cases_order j hit) [
         | inl same ↦
             let here : x ≡ y = same_writing (sym at ∙ subst (λ (n : ℕ). slice_get list n ≡ Some y) same found) in
-            subst (λ (z : Writing). s.path.given.moments.falls z.row m w ≡ false) here calm
+            subst (λ (z : Writing). s.path.given.moments.may_act z.row m w ≡ false) here calm
         | inr (inl low) ↦
             elim (cases_lt j k) [
               | inl early ↦ below j y early found hits
               | inr late ↦
-                  elim (cases_Bool (s.path.given.moments.falls y.row m w)) [
-                    | inl falls ↦ absurd (first.2 j late low (meeting_by m w j y next found hits falls))
+                  elim (cases_Bool (s.path.given.moments.may_act y.row m w)) [
+                    | inl may_act ↦ absurd (first.2 j late low (meeting_by m w j y next found hits may_act))
                     | inr spared ↦ spared
                   ]
             ]
         | inr (inr over) ↦ absurd (omega (arith, lt, over))
       ]
 
-  -- where a row falls that may write the byte it isn't carried
-  pub blocked_by : (m w hit : ℕ) (x : Writing) → slice_get list hit ≡ Some x → hits_at list hit a ≡ true → s.path.given.moments.falls x.row m w ≡ true → IsBlocked (passage a m w) s
-  blocked_by m w hit x at hits falls exact carries = false≢true (sym (carries.spared x.row falls) ∙ exact hit x a at small (sym (same_hit list hit a x at) ∙ hits))
+  -- where a row may act that may write the byte it isn't carried
+  pub blocked_by : (m w hit : ℕ) (x : Writing) → slice_get list hit ≡ Some x → hits_at list hit a ≡ true → s.path.given.moments.may_act x.row m w ≡ true → IsBlocked (passage a m w) s
+  blocked_by m w hit x at hits may_act exact carries = false≢true (sym (carries.spared x.row may_act) ∙ exact hit x a at small (sym (same_hit list hit a x at) ∙ hits))
 
-  -- the index of an entry that may write the byte and falls, or that there is none
-  pub blocker_meeting : (m w hit : ℕ) (x : Writing) → IsMeeting list (record { from = m; to = w; address = a }) hit → slice_get list hit ≡ Some x → s.path.given.moments.falls x.row m w ≡ true → Blocks (passage a m w) s hit
-  blocker_meeting m w hit x meeting at falls = record {
+  -- the index of an entry that may write the byte and may act, or that there is none
+  pub blocker_meeting : (m w hit : ℕ) (x : Writing) → IsMeeting list (record { from = m; to = w; address = a }) hit → slice_get list hit ≡ Some x → s.path.given.moments.may_act x.row m w ≡ true → Blocks (passage a m w) s hit
+  blocker_meeting m w hit x meeting at may_act = record {
     writing = x;
     found = at;
     hits = subst (λ (y : Writing). call_hits y.access a ≡ true) (same_writing (sym meeting.stands ∙ at)) meeting.hits;
-    falls = falls;
+    may_act = may_act;
   }
 
-  pub no_blocker : (m w k : ℕ) (o : Option ℕ) → ((y : ℕ) → o ≡ Some y → ⊥) → s.path.given.moments.next m w ≡ true → IsNextMeeting list k (record { from = m; to = w; address = a }) o → DoNoneFall m w k → IsBlocker (passage a m w) s None
+  pub no_blocker : (m w k : ℕ) (o : Option ℕ) → ((y : ℕ) → o ≡ Some y → ⊥) → s.path.given.moments.next m w ≡ true → IsNextMeeting list k (record { from = m; to = w; address = a }) o → DoNoneMayAct m w k → IsBlocker (passage a m w) s None
   no_blocker m w k (Some y) never next none below j x = never y refl
   no_blocker m w k None never next none below j x =
       elim (cases_lt j k) [
-        | inl early ↦ false≢true (sym (below j x.writing early x.found x.hits) ∙ x.falls)
-        | inr late ↦ none j late (meeting_by m w j x.writing next x.found x.hits x.falls)
+        | inl early ↦ false≢true (sym (below j x.writing early x.found x.hits) ∙ x.may_act)
+        | inr late ↦ none j late (meeting_by m w j x.writing next x.found x.hits x.may_act)
       ]
 
   -- where there is none the byte is carried
-  pub bridged_unless : (m w : ℕ) → s.path.given.moments.next m w ≡ true → s.path.given.moments.dark m w ≡ false → IsBlocker (passage a m w) s None → IsBridged (passage a m w) s
+  pub bridged_unless : (m w : ℕ) → s.path.given.moments.next m w ≡ true → s.path.given.moments.untraced m w ≡ false → IsBlocker (passage a m w) s None → IsBridged (passage a m w) s
   bridged_unless m w next light none = record {
     next = next;
     light = light;
-    spared = λ i falls. spared_by i (λ j x found row hits. none j (record {
+    spared = λ i may_act. spared_by i (λ j x found row hits. none j (record {
       writing = x;
       found = found;
       hits = hits;
-      falls = subst (λ (n : ℕ). s.path.given.moments.falls n m w ≡ true) (sym row) falls;
+      may_act = subst (λ (n : ℕ). s.path.given.moments.may_act n m w ≡ true) (sym row) may_act;
     }));
   }
 
   -- where there is one it isn't
   pub blocked_if_blocks : (m w k : ℕ) → Blocks (passage a m w) s k → IsBlocked (passage a m w) s
-  blocked_if_blocks m w k x = blocked_by m w k x.writing x.found (same_hit list k a x.writing x.found ∙ x.hits) x.falls
+  blocked_if_blocks m w k x = blocked_by m w k x.writing x.found (same_hit list k a x.writing x.found ∙ x.hits) x.may_act
 
   pub blocked_some : (m w : ℕ) (o : Option ℕ) → is_some o ≡ true → IsBlocker (passage a m w) s o → IsBlocked (passage a m w) s
   blocked_some m w None some x = absurd (false≢true some)
   blocked_some m w (Some k) some x = blocked_if_blocks m w k x
 
-  pub bridged_not_some : (m w : ℕ) (o : Option ℕ) → s.path.given.moments.next m w ≡ true → s.path.given.moments.dark m w ≡ false → is_some o ≡ false → IsBlocker (passage a m w) s o → IsBridged (passage a m w) s
+  pub bridged_not_some : (m w : ℕ) (o : Option ℕ) → s.path.given.moments.next m w ≡ true → s.path.given.moments.untraced m w ≡ false → is_some o ≡ false → IsBlocker (passage a m w) s o → IsBridged (passage a m w) s
   bridged_not_some m w None next light none x = bridged_unless m w next light x
   bridged_not_some m w (Some k) next light none x = absurd (false≢true (sym none))
 
-  -- an entry that may write the byte, whose row falls there
-  pub blocked_if_falls : (m w k : ℕ) (x : Writing) → slice_get list k ≡ Some x → call_hits x.access a ≡ true → s.path.given.moments.falls x.row m w ≡ true → IsBlocked (passage a m w) s
-  blocked_if_falls m w k x found hits falls = blocked_by m w k x found (same_hit list k a x found ∙ hits) falls
+  -- an entry that may write the byte, whose row may act there
+  pub blocked_if_may_act : (m w k : ℕ) (x : Writing) → slice_get list k ≡ Some x → call_hits x.access a ≡ true → s.path.given.moments.may_act x.row m w ≡ true → IsBlocked (passage a m w) s
+  blocked_if_may_act m w k x found hits may_act = blocked_by m w k x found (same_hit list k a x found ∙ hits) may_act
 
-  -- an entry that may write the byte, whose row falls between a number and each one that is next to it
+  -- an entry that may write the byte, whose row may act between a number and each one that is next
+  -- to it
   pub blocked_by_bar : (m k : ℕ) (x : Writing) → slice_get list k ≡ Some x → call_hits x.access a ≡ true → IsBar s.path.given.moments x.row m → AreBlocked a m s
   blocked_by_bar m k x found hits bar w next = blocked_by m w k x found (same_hit list k a x found ∙ hits) (bar w next)
 
   -- so where such an entry is named by its row
-  pub hit_blocks : (m w row : ℕ) → IsHitBy a row s → s.path.given.moments.falls row m w ≡ true → IsBlocked (passage a m w) s
-  hit_blocks m w row x falls = blocked_if_falls m w x.index x.writing x.found x.hits (subst (λ (i : ℕ). s.path.given.moments.falls i m w ≡ true) (sym x.row_is) falls)
+  pub hit_blocks : (m w row : ℕ) → IsHitBy a row s → s.path.given.moments.may_act row m w ≡ true → IsBlocked (passage a m w) s
+  hit_blocks m w row x may_act = blocked_if_may_act m w x.index x.writing x.found x.hits (subst (λ (i : ℕ). s.path.given.moments.may_act i m w ≡ true) (sym x.row_is) may_act)
 
-  pub hit_bars : (m row : ℕ) → IsHitBy a row s → IsBar s.path.given.moments row m → AreBlocked a m s
-  hit_bars m row x bar = blocked_by_bar m x.index x.writing x.found x.hits (subst (λ (i : ℕ). IsBar s.path.given.moments i m) (sym x.row_is) bar)
+  pub hit_surely_blocks : (m row : ℕ) → IsHitBy a row s → IsBar s.path.given.moments row m → AreBlocked a m s
+  hit_surely_blocks m row x bar = blocked_by_bar m x.index x.writing x.found x.hits (subst (λ (i : ℕ). IsBar s.path.given.moments i m) (sym x.row_is) bar)
 
-pub blocked_dark : {W : Type 0} (s : AnalysisState W) (x : Passage) → s.path.given.moments.dark x.from x.to ≡ true → IsBlocked x s
-blocked_dark s x dark exact carries = false≢true (sym carries.light ∙ dark)
+pub blocked_untraced : {W : Type 0} (s : AnalysisState W) (x : Passage) → s.path.given.moments.untraced x.from x.to ≡ true → IsBlocked x s
+blocked_untraced s x untraced exact carries = false≢true (sym carries.light ∙ untraced)
 
 pub some_pause : {p q : ℕ} → Some p ≡ Some q → p ≡ q
 some_pause e = cc
@@ -352,25 +353,26 @@ module _ {W : Type 0} (s : AnalysisState W) (h : AreWritings s) (a : ℕ) (small
       by : (o : Option ℕ) → strip.pause ≡ o → IsBridged (passage a m (m + 1)) s
       by None is =
           let clear : IsClear (timeline_of s) m = subst (λ (o : Option ℕ). IsAlike (timeline_of s) o m) is (its.alike m low high) in
-          record { next = (its.joined m low high).next; light = clear.light; spared = λ i falls. own i (clear.own i falls) }
+          record { next = (its.joined m low high).next; light = clear.light; spared = λ i may_act. own i (clear.own i may_act) }
       by (Some p) is =
           let like : IsLike (timeline_of s) m p = subst (λ (o : Option ℕ). IsAlike (timeline_of s) o m) is (its.alike m low high) in
           let pause = calm p is in
           record {
             next = (its.joined m low high).next;
-            light = not_dark (s.path.given.moments.dark m (m + 1)) refl like.dark pause.light;
-            spared = λ i falls.
+            light = not_untraced (s.path.given.moments.untraced m (m + 1)) refl like.untraced pause.light;
+            spared = λ i may_act.
                 elim (cases_eq (s.path.given.moments.before i) m) [
                   | inl here ↦ own i here
-                  | inr other ↦ pause.spared i (like.others i falls other)
+                  | inr other ↦ pause.spared i (like.others i may_act other)
                 ];
           }
         where
-          not_dark : (b : Bool) → s.path.given.moments.dark m (m + 1) ≡ b → (s.path.given.moments.dark m (m + 1) ≡ true → s.path.given.moments.dark p (p + 1) ≡ true) → s.path.given.moments.dark p (p + 1) ≡ false → s.path.given.moments.dark m (m + 1) ≡ false
-          not_dark true e dark light = absurd (false≢true (sym light ∙ dark e))
-          not_dark false e dark light = e
+          not_untraced : (b : Bool) → s.path.given.moments.untraced m (m + 1) ≡ b → (s.path.given.moments.untraced m (m + 1) ≡ true → s.path.given.moments.untraced p (p + 1) ≡ true) → s.path.given.moments.untraced p (p + 1) ≡ false → s.path.given.moments.untraced m (m + 1) ≡ false
+          not_untraced true e untraced light = absurd (false≢true (sym light ∙ untraced e))
+          not_untraced false e untraced light = e
 
-  -- the entries before an index stand at lower numbers than the one after the last of them, and those from an index on at no lower ones
+  -- the entries before an index stand at lower numbers than the one after the last of them, and
+  -- those from an index on at no lower ones
   below_past : (k j : ℕ) (w : Writing) → j < k → k ≤ length entries → slice_get entries j ≡ Some w → w.at < past entries k
   below_past zero j w lt inside found = absurd (omega (arith, lt))
   below_past (suc k) j w lt inside found =
@@ -404,7 +406,8 @@ module _ {W : Type 0} (s : AnalysisState W) (h : AreWritings s) (a : ℕ) (small
       ])
   between_free k from to few low least most order none m (inr x) = let up = x.0 in let down = x.1 in absurd (omega (arith, up, down, order))
 
-  -- the number after that of the last entry before those of the strip is no later than its first one
+  -- the number after that of the last entry before those of the strip is no later than its first
+  -- one
   past_low : (k : ℕ) → IsSplitAt entries strip.first k → past entries k ≤ strip.first
   past_low zero split = omega arith
   past_low (suc k) split =
@@ -416,7 +419,8 @@ module _ {W : Type 0} (s : AnalysisState W) (h : AreWritings s) (a : ℕ) (small
       let next : past entries (suc k) ≡ (get_or entries k none).at + 1 = subst (λ (n : ℕ). past entries n ≡ (get_or entries k none).at + 1) one_more (past_at entries k (get_or entries k none) last) in
       omega (arith, under, next)
 
-  -- the number after that of the last entry in the strip before a number that may write the byte is no later
+  -- the number after that of the last entry in the strip before a number that may write the byte is
+  -- no later
   past_early : (least point k : ℕ) → IsSplitAt entries strip.first least → strip.first ≤ point → IsPastHitFrom entries least point a k → past entries k ≤ point
   past_early least point k split here last =
       elim last.before [
@@ -434,8 +438,8 @@ module _ {W : Type 0} (s : AnalysisState W) (h : AreWritings s) (a : ℕ) (small
   -- of an entry that may write the byte
   loose_by : (n : ℕ) (w : Writing) → slice_get entries n ≡ Some w → call_hits w.access a ≡ true → (i : ℕ) → w.at ≡ i → strip.first ≤ i → i < strip.last → (m : Option ℕ) → IsLooseEnd strip n m s → IsBlocked (passage a i (i + 1)) s ⊎ (m ≡ Some i)
   loose_by n w stands hits i at up down None its =
-      let falls : s.path.given.moments.falls w.row w.at (w.at + 1) ≡ true = its w stands (omega (arith, at, up)) (omega (arith, at, down)) in
-      inl (blocked_by s h a small i (i + 1) n w stands (same_hit entries n a w stands ∙ hits) (subst (λ (x : ℕ). s.path.given.moments.falls w.row x (x + 1) ≡ true) at falls))
+      let may_act : s.path.given.moments.may_act w.row w.at (w.at + 1) ≡ true = its w stands (omega (arith, at, up)) (omega (arith, at, down)) in
+      inl (blocked_by s h a small i (i + 1) n w stands (same_hit entries n a w stands ∙ hits) (subst (λ (x : ℕ). s.path.given.moments.may_act w.row x (x + 1) ≡ true) at may_act))
   loose_by n w stands hits i at up down (Some m) its = let number = (its w stands).0 in inr (ap Some (sym number ∙ at))
 
   loose_next : (n : ℕ) → n < length entries → (m : Option ℕ) → IsLooseEnd strip n m s → (i : ℕ) → m ≡ Some i → s.path.given.moments.next i (i + 1) ≡ true
@@ -530,15 +534,15 @@ module _ {W : Type 0} (s : AnalysisState W) (h : AreWritings s) (a : ℕ) (small
         ends i (inl before) = ends_before k refl loose i before
         ends i (inr is) = loose_next hit first.inside piece.after after i is
 
--- an entry that isn't in the strip, or whose row falls
+-- an entry that isn't in the strip, or whose row may act
 pub loose_low : {W : Type 0} (s : AnalysisState W) (strip : Strip) (k : ℕ) (w : Writing) → slice_get s.work.writing k ≡ Some w → w.at < strip.first → IsLooseEnd strip k None s
 loose_low s strip k w found low x at up down = let same : w.at ≡ x.at = ap (λ (y : Writing). y.at) (same_writing (sym found ∙ at)) in absurd (omega (arith, low, up, same))
 
 pub loose_high : {W : Type 0} (s : AnalysisState W) (strip : Strip) (k : ℕ) (w : Writing) → slice_get s.work.writing k ≡ Some w → strip.last ≤ w.at → IsLooseEnd strip k None s
 loose_high s strip k w found high x at up down = let same : w.at ≡ x.at = ap (λ (y : Writing). y.at) (same_writing (sym found ∙ at)) in absurd (omega (arith, high, down, same))
 
-pub loose_falls : {W : Type 0} (s : AnalysisState W) (strip : Strip) (k : ℕ) (w : Writing) → slice_get s.work.writing k ≡ Some w → s.path.given.moments.falls w.row w.at (w.at + 1) ≡ true → IsLooseEnd strip k None s
-loose_falls s strip k w found falls x at up down = subst (λ (y : Writing). s.path.given.moments.falls y.row y.at (y.at + 1) ≡ true) (same_writing (sym found ∙ at)) falls
+pub loose_may_act : {W : Type 0} (s : AnalysisState W) (strip : Strip) (k : ℕ) (w : Writing) → slice_get s.work.writing k ≡ Some w → s.path.given.moments.may_act w.row w.at (w.at + 1) ≡ true → IsLooseEnd strip k None s
+loose_may_act s strip k w found may_act x at up down = subst (λ (y : Writing). s.path.given.moments.may_act y.row y.at (y.at + 1) ≡ true) (same_writing (sym found ∙ at)) may_act
 
 pub loose_some : {W : Type 0} (s : AnalysisState W) (strip : Strip) (k : ℕ) (w : Writing) → slice_get s.work.writing k ≡ Some w → s.path.given.moments.next w.at (w.at + 1) ≡ true → IsLooseEnd strip k (Some w.at) s
 loose_some s strip k w found next x at = (sym (ap (λ (y : Writing). y.at) (same_writing (sym found ∙ at))), next)

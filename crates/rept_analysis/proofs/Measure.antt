@@ -6,8 +6,8 @@ use Rattle.rept_reason.specs.declared.fact.Cell.TheVariants.{Register, Byte}
 use Rattle.rept_reason.specs.Facts.{IsCell}
 use Rattle.rept_report.specs.Setting.{IsInstant}
 use Rattle.rept_analysis.specs.State.{AnalysisState, Subject, all_known, along}
-use Rattle.rept_analysis.specs.Drawing.{Knows, Grows, HasNews}
-use Rattle.rept_analysis.specs.Drawing.HasNews.{fact, address, anew}
+use Rattle.rept_analysis.specs.Inferring.{Knows, Grows, HasNews}
+use Rattle.rept_analysis.specs.Inferring.HasNews.{fact, address, anew}
 use Rattle.rept_analysis.specs.Kept.{is_among}
 use Rattle.rept_analysis.specs.Measure.{registers_unknown, bytes_unknown, measure}
 use Rattle.rept_analysis.specs.Sums.{count_true, sum_to}

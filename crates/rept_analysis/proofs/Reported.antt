@@ -12,7 +12,7 @@ use Rattle.rept_report.specs.Knowing.{KnowSameRegisters}
 use Rattle.rept_report.specs.Views.{may_write, Carries}
 use Rattle.rept_report.specs.Conclusions.{IsCarried, Follows, Concludes}
 use Rattle.rept_report.specs.Conclusions.IsCarried.{last_byte, onward, back}
-use Rattle.rept_report.specs.Conclusions.Follows.{last_value, kept_onward, kept_back, carried, drawn, only_value}
+use Rattle.rept_report.specs.Conclusions.Follows.{last_value, kept_onward, kept_back, carried, inferred, only_value}
 use Rattle.rept_report.specs.Conflicts.{IsQuiet}
 use Rattle.rept_report.specs.Closure.{IsReport}
 use Rattle.rept_report.specs.Log.{oldest}
@@ -21,10 +21,10 @@ use Rattle.rept_report.proofs.Places.{oldest_all}
 use Rattle.rept_report.proofs.Registers.{may_write_same, range_same}
 use Rattle.rept_report.proofs.Implied.{trace_report}
 use Rattle.rept_analysis.specs.State.{AnalysisState, all_known, along}
-use Rattle.rept_analysis.specs.Drawing.{IsTracked, IsSettled, IsRowDrawn}
+use Rattle.rept_analysis.specs.Inferring.{IsTracked, IsSettled, IsRowInferred}
 use Rattle.rept_analysis.specs.Kept.{is_among, answers, IsKept}
 use Rattle.rept_analysis.proofs.Learning.{trace_known, known_words}
-use Rattle.rept_analysis.proofs.Following.{seen_drawn}
+use Rattle.rept_analysis.proofs.Following.{seen_inferred}
 
 pub among_contains : (xs : List ℕ) (a : ℕ) → is_among xs a ≡ true → Contains xs a
 among_contains [] a e = absurd (false≢true e)
@@ -64,10 +64,10 @@ module _ {W : Type 0} (s : AnalysisState W) (laws : HasLaws (along s.path)) (kep
   spared i a e = may_write_same S (told (oldest s.filled s.known.log)) K log_same i a ∙ e
 
   carries_same : (a p q : ℕ) → Carries S K (passage a p q) → Carries S (told (oldest s.filled s.known.log)) (passage a p q)
-  carries_same a p q h = record { next = h.next; light = h.light; spared = λ i falls. spared i a (h.spared i falls) }
+  carries_same a p q h = record { next = h.next; light = h.light; spared = λ i may_act. spared i a (h.spared i may_act) }
 
-  row_at : (i : ℕ) (row : StepRow) → s.path.given.legs.row i ≡ Some row → IsRowDrawn row i s
-  row_at i row found = settled.drawn.rows i (laws.legs.inside i row found) row found
+  row_at : (i : ℕ) (row : StepRow) → s.path.given.legs.row i ≡ Some row → IsRowInferred row i s
+  row_at i row found = settled.inferred.rows i (laws.legs.inside i row found) row found
 
   moved : (f : Fact) (p : ℕ) (c : Cell) → f.point ≡ p → f.cell ≡ c → K p c ≡ Some f.value → K f.point f.cell ≡ Some f.value
   moved f p c ep ec h = rw (ep, ec) h
@@ -79,23 +79,23 @@ module _ {W : Type 0} (s : AnalysisState W) (laws : HasLaws (along s.path)) (kep
   is_tracked f a listed e = among_contains s.known.store.tracked a (subst (λ (c : Cell). IsListed (is_among s.known.store.tracked) c) e listed)
 
   carried_known : (f : Fact) → IsListed (is_among s.known.store.tracked) f.cell → IsCarried S K f → K f.point f.cell ≡ Some f.value
-  carried_known f listed (last_byte a p c e) = moved f _ (Byte a) p c (settled.drawn.bytes a (is_tracked f a listed c) f.value e)
-  carried_known f listed (onward a p q is c h e) = moved f q (Byte a) is c ((settled.drawn.carried a p q (is_tracked f a listed c)).onward f.value (carries_same a p q h) e)
-  carried_known f listed (back a p q is c h e) = moved f p (Byte a) is c ((settled.drawn.carried a p q (is_tracked f a listed c)).back f.value (carries_same a p q h) e)
+  carried_known f listed (last_byte a p c e) = moved f _ (Byte a) p c (settled.inferred.bytes a (is_tracked f a listed c) f.value e)
+  carried_known f listed (onward a p q is c h e) = moved f q (Byte a) is c ((settled.inferred.carried a p q (is_tracked f a listed c)).onward f.value (carries_same a p q h) e)
+  carried_known f listed (back a p q is c h e) = moved f p (Byte a) is c ((settled.inferred.carried a p q (is_tracked f a listed c)).back f.value (carries_same a p q h) e)
 
   closed_conclusions : (f : Fact) → IsListed (is_among s.known.store.tracked) f.cell → Concludes S K f → K f.point f.cell ≡ Some f.value
   closed_conclusions f listed h = go h.by
     where
       go : Follows S K f → K f.point f.cell ≡ Some f.value
-      go (last_value r p c e) = let cell = register_cell f r h.cell c in moved f f.point (Register r) refl c (settled.drawn.last r cell.1 f.point f.value p cell.0 e)
+      go (last_value r p c e) = let cell = register_cell f r h.cell c in moved f f.point (Register r) refl c (settled.inferred.last r cell.1 f.point f.value p cell.0 e)
       go (kept_onward i r row found p c kept' e) = let cell = register_cell f r h.cell c in moved f (i + 1) (Register r) p c (((row_at i row found).registers r cell.0 cell.1 kept').onward f.value e)
       go (kept_back i r row found p c kept' e) = let cell = register_cell f r h.cell c in moved f i (Register r) p c (((row_at i row found).registers r cell.0 cell.1 kept').back f.value e)
       go (carried x) = carried_known f listed x
-      go (drawn i row d found x p c v) = rw (p, c, v) ((row_at i row found).drawn d (seen_drawn s laws (known_words s kept) i row found (laws.legs.inside i row found) d x))
+      go (inferred i row d found x p c v) = rw (p, c, v) ((row_at i row found).inferred d (seen_inferred s laws (known_words s kept) i row found (laws.legs.inside i row found) d x))
       go (only_value r set c is only) =
           let cell = register_cell f r h.cell c in
           let early : f.point ≤ s.path.given.legs.count = subst (λ (x : Cell). IsInstant S x f.point) c h.early in
-          moved f f.point (Register r) refl c (settled.drawn.singles f.point (omega (arith, early)) r cell.1 set f.value (settled.fitted f.point early r cell.1 ∙ range_same S (told (oldest s.filled s.known.log)) K log_same f.point r ∙ is) only cell.0)
+          moved f f.point (Register r) refl c (settled.inferred.singles f.point (omega (arith, early)) r cell.1 set f.value (settled.fitted f.point early r cell.1 ∙ range_same S (told (oldest s.filled s.known.log)) K log_same f.point r ∙ is) only cell.0)
 
   pub settled_closed : IsClosed S K (is_among s.known.store.tracked)
   settled_closed = record {

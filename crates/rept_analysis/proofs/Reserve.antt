@@ -12,9 +12,9 @@ use Rattle.rept_reason.specs.declared.fact.Fact.{Fact}
 use Rattle.rept_reason.specs.declared.fact.Cell.{Cell}
 use Rattle.rept_reason.specs.declared.fact.Cell.TheVariants.{Register, Byte}
 use Rattle.rept_reason.specs.Facts.{told, register_known}
-use Rattle.rept_view.specs.declared.drawn.Drawn.{Drawn}
-use Rattle.rept_view.specs.declared.drawn.When.{When}
-use Rattle.rept_view.specs.declared.drawn.When.TheVariants.{Before}
+use Rattle.rept_view.specs.declared.inferred.Conclusion.{Conclusion}
+use Rattle.rept_view.specs.declared.inferred.When.{When}
+use Rattle.rept_view.specs.declared.inferred.When.TheVariants.{Before}
 use Rattle.rept_view.specs.Rules.{offset_of}
 use Rattle.rept_span.specs.Ranges.{AreLegs}
 use Rattle.rept_report.specs.Setting.{HasLaws}
@@ -24,7 +24,7 @@ use Rattle.rept_report.proofs.ViewLaws.{known_more}
 use Rattle.rept_versions.specs.Facts.{KnownValues}
 use Rattle.rept_log.specs.Known.{Known, knows, known_change, AddsByte, HasNoRoom, TracksMore}
 use Rattle.rept_analysis.specs.Sums.{one_if, count_true, sum_to}
-use Rattle.rept_analysis.specs.Room.{places_of, places_at, bytes_looked_at, marked, unread, IsDrawable, IsDrawnAt, IsSlotLearnt, OwnByte, own_at, IsOwnByte, IsByteTracked, HasRoom}
+use Rattle.rept_analysis.specs.Room.{places_of, places_at, bytes_looked_at, marked, unread, IsInferable, IsInferredAt, IsSlotLearnt, OwnByte, own_at, IsOwnByte, IsByteTracked, HasRoom}
 use Rattle.rept_analysis.proofs.Sums.{count_le, count_less, sum_le, sum_less}
 use Rattle.rept_analysis.specs.State.{Subject, along}
 
@@ -123,13 +123,13 @@ same_byte : {a b : ℕ} → Byte a ≡ Byte b → a ≡ b
 same_byte e = cc
 
 module _ {W : Type 0} (P : Subject W) (old new : List Fact) (more : (p r v : ℕ) → told old p (Register r) ≡ Some v → told new p (Register r) ≡ Some v) where
-  pub drawable_more : (i : ℕ) (d : Drawn) → IsDrawable P old i d → IsDrawable P new i d
-  drawable_more i d h = record {
+  pub inferable_more : (i : ℕ) (d : Conclusion) → IsInferable P old i d → IsInferable P new i d
+  inferable_more i d h = record {
     row = h.row;
     found = h.found;
     view = h.view;
     lawful = h.lawful;
-    drawn = h.drawn;
+    inferred = h.inferred;
     base_register = h.base_register;
     base = h.base;
     read = h.read;
@@ -151,16 +151,16 @@ module _ {W : Type 0} (P : Subject W) (old new : List Fact) (more : (p r v : ℕ
   }
 
 -- two conclusions of one slot are on one byte at one point
-slot_same : {W : Type 0} (P : Subject W) → HasLaws (along P) → (log : List Fact) (i : ℕ) (d e : Drawn) (a b : ℕ) → IsDrawable P log i d → d.cell ≡ Byte a → IsDrawable P log i e → e.cell ≡ Byte b → d.slot ≡ e.slot → (d.when ≡ e.when) × (a ≡ b)
+slot_same : {W : Type 0} (P : Subject W) → HasLaws (along P) → (log : List Fact) (i : ℕ) (d e : Conclusion) (a b : ℕ) → IsInferable P log i d → d.cell ≡ Byte a → IsInferable P log i e → e.cell ≡ Byte b → d.slot ≡ e.slot → (d.when ≡ e.when) × (a ≡ b)
 slot_same P laws log i d e a b h on_a g on_b slot =
     let row : h.row ≡ g.row = same_row (sym h.found ∙ g.found) in
-    let drawn = subst (λ (x : StepRow). Contains (P.rules.draw x h.view) d) row h.drawn in
+    let inferred = subst (λ (x : StepRow). Contains (P.rules.infer x h.view) d) row h.inferred in
     let read = subst (λ (x : StepRow). first_read x.instr ≡ Some h.base_register) row h.read in
     let register : h.base_register ≡ g.base_register = same_some (sym read ∙ g.read) in
     let seen = subst (λ (r : ℕ). h.view.register Before r ≡ Some h.base) register h.seen in
     let known = subst (λ (r : ℕ). register_known (told log) i r ≡ Some h.base) register h.known in
     let base : h.base ≡ g.base = same_some (sym known ∙ g.known) in
-    laws.rules.slot_once g.row h.view g.view d e a b g.base_register h.lawful g.lawful drawn g.drawn on_a on_b g.read (seen ∙ ap Some base ∙ sym g.seen) slot
+    laws.rules.slot_once g.row h.view g.view d e a b g.base_register h.lawful g.lawful inferred g.inferred on_a on_b g.read (seen ∙ ap Some base ∙ sym g.seen) slot
 
 -- one byte of a row has one address
 own_same : {W : Type 0} (P : Subject W) (log : List Fact) (i j a b : ℕ) → IsOwnByte P log (own_at i j a) → IsOwnByte P log (own_at i j b) → a ≡ b
@@ -177,9 +177,9 @@ row_places : {W : Type 0} (P : Subject W) (i : ℕ) (row : StepRow) → P.given.
 row_places P i row found = ap (λ (x : Option StepRow). places_of P.rules x) found
 
 -- a slot of a row, and a byte of it
-drawn_slot : {W : Type 0} (P : Subject W) → HasLaws (along P) → (log : List Fact) (i : ℕ) (d : Drawn) (a : ℕ) → IsDrawable P log i d → d.cell ≡ Byte a → (i < P.given.legs.count) × (d.slot < places_at P i)
-drawn_slot P laws log i d a h on_a =
-    let below = laws.rules.slot_inside h.row h.view d a h.lawful h.drawn on_a in
+inferred_slot : {W : Type 0} (P : Subject W) → HasLaws (along P) → (log : List Fact) (i : ℕ) (d : Conclusion) (a : ℕ) → IsInferable P log i d → d.cell ≡ Byte a → (i < P.given.legs.count) × (d.slot < places_at P i)
+inferred_slot P laws log i d a h on_a =
+    let below = laws.rules.slot_inside h.row h.view d a h.lawful h.inferred on_a in
     let places = row_places P i h.row h.found in
     (laws.legs.inside i h.row h.found, omega (arith, below, places))
 
@@ -198,7 +198,7 @@ module _ {W : Type 0} (P : Subject W) (old new : Known) (more : (p : ℕ) (c : C
     value = h.value;
     slot = h.slot;
     cell = h.cell;
-    drawn = drawable_more P old.log new.log (λ p r v e. more p (Register r) v e) i h.conclusion h.drawn;
+    inferred = inferable_more P old.log new.log (λ p r v e. more p (Register r) v e) i h.conclusion h.inferred;
     byte = more (moment_of P.given.moments i h.conclusion.when) (Byte h.address) h.value h.byte;
   }
 
@@ -254,25 +254,25 @@ module _ {W : Type 0} (P : Subject W) (old new : Known) (more : (p : ℕ) (c : C
       }
 
 -- a slot that isn't marked is of a byte that is known
-slot_known : {W : Type 0} (P : Subject W) → HasLaws (along P) → (k : Known) → (i : ℕ) (d : Drawn) (a : ℕ) → IsDrawable P k.log i d → d.cell ≡ Byte a → IsSlotLearnt P k i d.slot → (v : ℕ) × (k.store.fact (moment_of P.given.moments i d.when) a ≡ Some v)
+slot_known : {W : Type 0} (P : Subject W) → HasLaws (along P) → (k : Known) → (i : ℕ) (d : Conclusion) (a : ℕ) → IsInferable P k.log i d → d.cell ≡ Byte a → IsSlotLearnt P k i d.slot → (v : ℕ) × (k.store.fact (moment_of P.given.moments i d.when) a ≡ Some v)
 slot_known P laws k i d a h on_a l =
-    let same = slot_same P laws k.log i l.conclusion d l.address a l.drawn l.cell h on_a l.slot in
+    let same = slot_same P laws k.log i l.conclusion d l.address a l.inferred l.cell h on_a l.slot in
     let point = subst (λ (w : When). k.store.fact (moment_of P.given.moments i w) l.address ≡ Some l.value) same.0 l.byte in
     (l.value, subst (λ (x : ℕ). k.store.fact (moment_of P.given.moments i d.when) x ≡ Some l.value) same.1 point)
 
 -- so where nothing is known of the byte, its slot is marked
-slot_marked : {W : Type 0} (P : Subject W) → HasLaws (along P) → (k : Known) → (r : HasRoom P k) → (p a : ℕ) → (place : IsDrawnAt P k.log p a) → k.store.fact p a ≡ None → r.unlearnt place.number place.conclusion.slot ≡ true
+slot_marked : {W : Type 0} (P : Subject W) → HasLaws (along P) → (k : Known) → (r : HasRoom P k) → (p a : ℕ) → (place : IsInferredAt P k.log p a) → k.store.fact p a ≡ None → r.unlearnt place.number place.conclusion.slot ≡ true
 slot_marked P laws k r p a place none =
     elim (cases_Bool (r.unlearnt place.number place.conclusion.slot)) [
       | inl is ↦ is
       | inr isnt ↦
-          let known = slot_known P laws k place.number place.conclusion a place.drawn place.cell (r.learnt place.number place.conclusion.slot isnt) in
+          let known = slot_known P laws k place.number place.conclusion a place.inferred place.cell (r.learnt place.number place.conclusion.slot isnt) in
           let here : k.store.fact p a ≡ Some known.0 = subst (λ (q : ℕ). k.store.fact q a ≡ Some known.0) (sym place.moment) known.1 in
           absurd (none_some (sym none ∙ here))
     ]
 
 -- a byte that rows let one conclude was learnt
-module _ {W : Type 0} (P : Subject W) (laws : HasLaws (along P)) (old new : Known) (more : (p : ℕ) (c : Cell) (v : ℕ) → knows old p c ≡ Some v → knows new p c ≡ Some v) (joins : Bool) (p a v : ℕ) (place : IsDrawnAt P old.log p a) (adds : AddsByte (known_change joins old new) (record { point = p; address = a; value = v }) true) (r : HasRoom P old) where
+module _ {W : Type 0} (P : Subject W) (laws : HasLaws (along P)) (old new : Known) (more : (p : ℕ) (c : Cell) (v : ℕ) → knows old p c ≡ Some v → knows new p c ≡ Some v) (joins : Bool) (p a v : ℕ) (place : IsInferredAt P old.log p a) (adds : AddsByte (known_change joins old new) (record { point = p; address = a; value = v }) true) (r : HasRoom P old) where
   abbrev i : ℕ
   i = place.number
 
@@ -281,7 +281,7 @@ module _ {W : Type 0} (P : Subject W) (laws : HasLaws (along P)) (old new : Know
 
   fewer : marked (places_at P) (unmark r.unlearnt i slot) (P.given.legs.count) < marked (places_at P) r.unlearnt (P.given.legs.count)
   fewer =
-      let inside = drawn_slot P laws old.log i place.conclusion a place.drawn place.cell in
+      let inside = inferred_slot P laws old.log i place.conclusion a place.inferred place.cell in
       unmark_fewer r.unlearnt i slot (places_at P) (P.given.legs.count) inside.0 inside.1 (slot_marked P laws old r p a place adds.store.none)
 
   here : IsSlotLearnt P new i slot
@@ -291,12 +291,12 @@ module _ {W : Type 0} (P : Subject W) (laws : HasLaws (along P)) (old new : Know
     value = v;
     slot = refl;
     cell = place.cell;
-    drawn = drawable_more P old.log new.log (λ q s w e. more q (Register s) w e) i place.conclusion place.drawn;
+    inferred = inferable_more P old.log new.log (λ q s w e. more q (Register s) w e) i place.conclusion place.inferred;
     byte = subst (λ (q : ℕ). new.store.fact q a ≡ Some v) place.moment adds.store.here;
   }
 
-  pub room_drawn : HasRoom P new
-  room_drawn =
+  pub room_inferred : HasRoom P new
+  room_inferred =
       let less = fewer in
       let read = unread_more P.given.moments.end old new more adds.store.tracked in
       let count : length new.store.tracked ≡ length old.store.tracked = ap length adds.store.tracked in
@@ -373,9 +373,9 @@ module _ {W : Type 0} (P : Subject W) (legs : AreLegs P.given.legs) (old : Known
         }
 
 -- there is room for a byte that rows let one conclude
-pub room_to_draw : {W : Type 0} (P : Subject W) → HasLaws (along P) → (k : Known) → HasRoom P k → (p a : ℕ) → IsDrawnAt P k.log p a → HasNoRoom k p a true → ⊥
-room_to_draw P laws k r p a place full =
-    let inside = drawn_slot P laws k.log place.number place.conclusion a place.drawn place.cell in
+pub room_to_infer : {W : Type 0} (P : Subject W) → HasLaws (along P) → (k : Known) → HasRoom P k → (p a : ℕ) → IsInferredAt P k.log p a → HasNoRoom k p a true → ⊥
+room_to_infer P laws k r p a place full =
+    let inside = inferred_slot P laws k.log place.number place.conclusion a place.inferred place.cell in
     let less = unmark_fewer r.unlearnt place.number place.conclusion.slot (places_at P) (P.given.legs.count) inside.0 inside.1 (slot_marked P laws k r p a place full.none) in
     let spare = r.spare in
     let log = r.log in

@@ -1,4 +1,5 @@
--- Whether all that may write a byte lies wholly before a moment, found by the list of the rows that may write.
+-- Whether all that may write a byte lies wholly before a moment, found by the list of the rows that
+-- may write.
 use Rattle.std.proofs.Common.{◌≡◌, ℕ, zero, suc, ◌+◌, ◌-◌, ◌<◌, ◌≤◌, ◌^◌, ◌⊎◌, Bool, true, false, not, ◌&&◌, ◌||◌, length, Option, Some, None, inl, inr, refl, sym, subst, ◌∙◌, arith, slice_get}
 use Rattle.std.specs.Option.{IsSome}
 use Rattle.std.proofs.lemmas.Bool.{cases_Bool, cases_eq, cases_lt, and_parts, and_from, false_from_ne_true, false≢true}
@@ -9,10 +10,10 @@ use Rattle.rept_reason.specs.Facts.{Knowledge, told}
 use Rattle.rept_span.specs.Ranges.{Legs}
 use Rattle.rept_view.specs.Seen.{Seen}
 use Rattle.rept_reach.specs.Reaching.{IsExtent}
-use Rattle.rept_reach.specs.declared.reaches.Window.{Window}
+use Rattle.rept_reach.specs.declared.reaches.NumberWindow.{NumberWindow}
 use Rattle.rept_writing.specs.Hits.{IsSplitAt, IsFreeSince}
 use Rattle.rept_writing.specs.declared.list.Writing.{Writing}
-use Rattle.rept_report.specs.declared.paths.Line.{Line}
+use Rattle.rept_report.specs.declared.paths.NumberChain.{NumberChain}
 use Rattle.rept_report.specs.Moments.{Moments, AreMoments}
 use Rattle.rept_report.specs.Timeline.{IsLine}
 use Rattle.rept_report.specs.Setting.{Setting}
@@ -22,7 +23,7 @@ use Rattle.rept_report.specs.Implied.{all_past, is_settled}
 use Rattle.rept_report.specs.Log.{oldest}
 use Rattle.rept_report.proofs.Registers.{may_write_same}
 use Rattle.rept_analysis.specs.State.{AnalysisState, all_known, along, timeline_of}
-use Rattle.rept_analysis.specs.Drawing.{IsSpared, IsSettled, IsHitBy, AreWritings, AreHitsPast, AreFormerPast, AreLaterPast, IsLateHit}
+use Rattle.rept_analysis.specs.Inferring.{IsSpared, IsSettled, IsHitBy, AreWritings, AreHitsPast, AreFormerPast, AreLaterPast, IsLateHit}
 use Rattle.rept_analysis.proofs.Along.{some_row, there_inside}
 use Rattle.rept_analysis.proofs.Answering.{filled_all}
 
@@ -62,28 +63,29 @@ module _ {W : Type 0} (S : Setting W) (K : Knowledge) (m a : ℕ) where
       first false true e h = absurd (false≢true e)
       first false false e h = absurd (false≢true h)
 
-  pub settled_from : (b : Bool) → b ≡ S.moments.dark_past m → ArePast S.legs.count → b ≡ is_settled S K (spot m a)
-  settled_from b is h = is ∙ sym (and_all (S.moments.dark_past m) (past_below S.legs.count) (past_all S.legs.count h))
+  pub settled_from : (b : Bool) → b ≡ S.moments.untraced_past m → ArePast S.legs.count → b ≡ is_settled S K (spot m a)
+  settled_from b is h = is ∙ sym (and_all (S.moments.untraced_past m) (past_below S.legs.count) (past_all S.legs.count h))
     where
       and_all : (b c : Bool) → c ≡ true → (b && c) ≡ b
       and_all true c e = e
       and_all false c e = refl
 
   pub unsettled : (i : ℕ) → i < S.legs.count → may_write S K i a ≡ true → S.moments.past i m ≡ false → false ≡ is_settled S K (spot m a)
-  unsettled i inside may open_ = sym (false_from_ne_true (is_settled S K (spot m a)) (λ e. false≢true (sym open_ ∙ all_are S.legs.count (and_parts (S.moments.dark_past m) (past_below S.legs.count) e).1 i inside may)))
+  unsettled i inside may open_ = sym (false_from_ne_true (is_settled S K (spot m a)) (λ e. false≢true (sym open_ ∙ all_are S.legs.count (and_parts (S.moments.untraced_past m) (past_below S.legs.count) e).1 i inside may)))
 
--- what falls at no number from one on, from which numbers lead one by one to the end, lies before that one
-module _ (legs : Legs) (moments : Moments) (laws : AreMoments legs moments) (m : ℕ) (line : Line) (is : IsLine moments m line) (whole : line.last ≡ moments.end) (i : ℕ) (window : Window) (extent : IsExtent moments i window) (low : window.to ≤ m) where
+-- what may act at no number from one on, from which numbers lead one by one to the end, lies before
+-- that one
+module _ (legs : Legs) (moments : Moments) (laws : AreMoments legs moments) (m : ℕ) (line : NumberChain) (is : IsLine moments m line) (whole : line.last ≡ moments.end) (i : ℕ) (window : NumberWindow) (extent : IsExtent moments i window) (low : window.to ≤ m) where
   past_from_end : (n k : ℕ) → n + k ≡ moments.end → m ≤ k → moments.past i moments.end ≡ true → moments.past i k ≡ true
   past_from_end zero k far from last = let here : moments.end ≡ k = omega (arith, far) in subst (λ (j : ℕ). moments.past i j ≡ true) here last
   past_from_end (suc n) k far from last =
       let first = is.from in
       let next = (is.joined k (omega (arith, first, from)) (omega (arith, far, whole))).next in
       let later = past_from_end n (k + 1) (omega (arith, far)) (omega (arith, from)) last in
-      moments_back next later (cases_Bool (moments.falls i k (k + 1)))
+      moments_back next later (cases_Bool (moments.may_act i k (k + 1)))
     where
-      moments_back : moments.next k (k + 1) ≡ true → moments.past i (k + 1) ≡ true → (moments.falls i k (k + 1) ≡ true) ⊎ (moments.falls i k (k + 1) ≡ false) → moments.past i k ≡ true
-      moments_back next later (inl falls) = let within = (extent k (k + 1) next falls).0 in absurd (omega (arith, within, low, from))
+      moments_back : moments.next k (k + 1) ≡ true → moments.past i (k + 1) ≡ true → (moments.may_act i k (k + 1) ≡ true) ⊎ (moments.may_act i k (k + 1) ≡ false) → moments.past i k ≡ true
+      moments_back next later (inl may_act) = let within = (extent k (k + 1) next may_act).0 in absurd (omega (arith, within, low, from))
       moments_back next later (inr spared) = laws.past_back i k (k + 1) next later spared
 
   pub past_on_line : m ≤ moments.end → (row : StepRow) → legs.row i ≡ Some row → moments.past i m ≡ true
@@ -91,7 +93,7 @@ module _ (legs : Legs) (moments : Moments) (laws : AreMoments legs moments) (m :
 
 -- the rows of the list by the numbers at which they stand
 module _ {W : Type 0} (s : AnalysisState W) (writings : AreWritings s) (m a : ℕ) where
-  pub over_past : (line : Line) (since : ℕ) → m ≤ s.path.given.moments.end → IsLine s.path.given.moments m line → line.last ≡ s.path.given.moments.end → IsFreeSince s.work.writing m a since → since ≤ m → AreFormerPast (spot m a) s
+  pub over_past : (line : NumberChain) (since : ℕ) → m ≤ s.path.given.moments.end → IsLine s.path.given.moments m line → line.last ≡ s.path.given.moments.end → IsFreeSince s.work.writing m a since → since ≤ m → AreFormerPast (spot m a) s
   over_past line since early is whole free low k w found before hits =
       let its = writings.barriers.each k w found in
       let row = some_row (s.path.given.legs.row w.row) its.there in
@@ -138,7 +140,7 @@ module _ {W : Type 0} (s : AnalysisState W) (settled : IsSettled s) (a : ℕ) (s
       ]
 
   -- all of them lie before the moment, those at lower numbers and the others
-  pub settled_by_list : (m : ℕ) (b : Bool) → AreLaterPast (spot m a) s → AreFormerPast (spot m a) s → b ≡ S.moments.dark_past m → b ≡ is_settled S K (spot m a)
+  pub settled_by_list : (m : ℕ) (b : Bool) → AreLaterPast (spot m a) s → AreFormerPast (spot m a) s → b ≡ S.moments.untraced_past m → b ≡ is_settled S K (spot m a)
   settled_by_list m b later former is = settled_from S K m a b is (λ i inside may.
       let h = listed_hit i may in
       let gone : S.moments.past h.writing.row m ≡ true =

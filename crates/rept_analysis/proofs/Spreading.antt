@@ -18,18 +18,18 @@ use Rattle.std.specs.declared.alloc.AllocError.{AllocError}
 use Rattle.rept_reason.specs.declared.fact.Fact.{Fact}
 use Rattle.rept_versions.specs.declared.facts.Carried.{Carried}
 use Rattle.rept_versions.specs.declared.facts.Carried.TheVariants.{Same, More, Stop}
-use Rattle.rept_versions.specs.declared.facts.Stretch.{Stretch}
+use Rattle.rept_versions.specs.declared.facts.ValueStretch.{ValueStretch}
 use Rattle.rept_versions.specs.Facts.{KnownValues, Store, change, Carry, Between, Spreads, CarriesOr as StoreCarries, Nexts}
 use Rattle.rept_log.proofs.Stores.{stays_same}
 use Rattle.rept_log.specs.Known.{Known, knows, known_change, AddsByte, SameLog}
 use Rattle.rept_analysis.specs.State.{AnalysisState, IsRoomy, all_known, Subject, along}
 use Rattle.rept_report.specs.Why.{fact_of}
-use Rattle.rept_analysis.specs.Drawing.{Knows, IsTracked, Grows, IsBrought, IsSpared, IsBridged, IsSparedBetween, StandsBefore, IsLedTo, IsLed, IsSpreadTo, IsCarriedFrom}
-use Rattle.rept_analysis.specs.Drawing.HasNews.{fact}
+use Rattle.rept_analysis.specs.Inferring.{Knows, IsTracked, Grows, IsBrought, IsSpared, IsBridged, IsSparedBetween, StandsBefore, IsLedTo, IsLed, IsSpreadTo, IsCarriedFrom}
+use Rattle.rept_analysis.specs.Inferring.HasNews.{fact}
 use Rattle.rept_analysis.specs.Told.{Sends}
 use Rattle.rept_analysis.specs.Kept.{IsKept}
 use Rattle.rept_analysis.proofs.Barriers.{writings_still, spared_still}
-use Rattle.rept_analysis.proofs.Drawn.{Grows_itself, Grows_trans}
+use Rattle.rept_analysis.proofs.Conclusion.{Grows_itself, Grows_trans}
 use Rattle.rept_analysis.proofs.Following.{brought_follows}
 use Rattle.rept_analysis.proofs.Passing.{passes_more}
 use Rattle.rept_analysis.proofs.Learning.{with_known, same_known, kept_same, known_words, new_byte}
@@ -53,7 +53,7 @@ kept_like s k k' last log facts tracked open_ roomy kept = record {
   finished = λ e. absurd (false≢true (sym open_ ∙ e));
   room = kept.room;
   rows = kept.rows;
-  drawn = passes_more (with_known s k) (with_known s k') refl (λ p c v e. sym (same p c) ∙ e) refl kept.drawn;
+  inferred = passes_more (with_known s k) (with_known s k') refl (λ p c v e. sym (same p c) ∙ e) refl kept.inferred;
   roomy = roomy;
 }
   where
@@ -69,7 +69,7 @@ spared_now s laws kept quiet i a small (inr now) = now quiet
 -- a byte is brought to where it is carried
 module _ {W : Type 0} (s : AnalysisState W) (laws : HasLaws (along s.path)) (kept : IsKept s) (x : Passage) (v : ℕ) (small : x.address < 2 ^ 32) (bridged : IsBridged x s) where
   carries : IsQuiet (along s.path) (all_known s) → Carries (along s.path) (all_known s) (passage x.address x.from x.to)
-  carries quiet = record { next = bridged.next; light = bridged.light; spared = λ i falls. spared_now s laws kept quiet i x.address small (bridged.spared i falls) }
+  carries quiet = record { next = bridged.next; light = bridged.light; spared = λ i may_act. spared_now s laws kept quiet i x.address small (bridged.spared i may_act) }
 
   pub brought_on : Knows x.from (Byte x.address) v s → IsBrought s (fact_of x.to (Byte x.address) v)
   brought_on h quiet = onward x.address x.from x.to refl refl (carries quiet) h
@@ -82,7 +82,7 @@ pub bridged_still : {W : Type 0} (s t : AnalysisState W) → HasLaws (along s.pa
 bridged_still s t laws kept g x small h = record {
   next = rw g.path h.next;
   light = rw g.path h.light;
-  spared = λ i falls. spared_still s t laws (known_words t kept) g.path g.older g.more i x.address small (h.spared i (subst (λ (P : Subject _). P.given.moments.falls i x.from x.to ≡ true) g.path falls));
+  spared = λ i may_act. spared_still s t laws (known_words t kept) g.path g.older g.more i x.address small (h.spared i (subst (λ (P : Subject _). P.given.moments.may_act i x.from x.to ≡ true) g.path may_act));
 }
 
 pub bridged_after : {W : Type 0} (s t : AnalysisState W) → HasLaws (along s.path) → IsKept t → Grows s t → (m a : ℕ) → a < 2 ^ 32 → IsBridged (passage a m (m + 1)) s → IsBridged (passage a m (m + 1)) t
@@ -424,7 +424,7 @@ segment_spread s a from to at v low high right left i le lt = record {
           | inr more ↦ right q (inl (more, high_q))
         ]
 
-pub next_value : {W : Type 0} (s : AnalysisState W) (a from at : ℕ) (stretch : Stretch) → Nexts s.known.store.fact a from (Some stretch) → at ≡ max stretch.first from → Knows at (Byte a) stretch.value s
+pub next_value : {W : Type 0} (s : AnalysisState W) (a from at : ℕ) (stretch : ValueStretch) → Nexts s.known.store.fact a from (Some stretch) → at ≡ max stretch.first from → Knows at (Byte a) stretch.value s
 next_value s a from at stretch h is =
     let reaches = h.reaches in
     let ordered = h.run.ordered in
@@ -434,7 +434,7 @@ pub next_at : (from to at first : ℕ) → from ≤ to → first ≤ to → at �
 next_at from to at first le reach is = (omega (arith, is), omega (arith, is, reach, le))
 
 -- one stretch has all points of a segment
-pub segment_covered : {W : Type 0} (s : AnalysisState W) (a from to : ℕ) (stretch : Stretch) → Nexts s.known.store.fact a from (Some stretch) → (stretch.first ≤ from) × (to ≤ stretch.last) → IsCarriedFrom a from to s
+pub segment_covered : {W : Type 0} (s : AnalysisState W) (a from to : ℕ) (stretch : ValueStretch) → Nexts s.known.store.fact a from (Some stretch) → (stretch.first ≤ from) × (to ≤ stretch.last) → IsCarriedFrom a from to s
 segment_covered s a from to stretch h covers i le lt =
     let low = covers.0 in
     let high = covers.1 in

@@ -22,7 +22,7 @@ use Rattle.rept_report.proofs.ViewLaws.{known_fact}
 use Rattle.rept_report.proofs.Monotony.{quiet_less}
 use Rattle.rept_report.proofs.Traces.{derived_below, least_conflict, clash_closure, front_closure, next_derivation}
 use Rattle.rept_analysis.specs.State.{AnalysisState, all_known, along}
-use Rattle.rept_analysis.specs.Drawing.{IsClash, IsSettled, IsRowDrawn}
+use Rattle.rept_analysis.specs.Inferring.{IsClash, IsSettled, IsRowInferred}
 use Rattle.rept_analysis.specs.Answers.{HasClosure, byte_answer}
 use Rattle.rept_analysis.specs.Kept.{register_answer, IsKept}
 use Rattle.rept_analysis.specs.Refined.{clash_kind}
@@ -142,7 +142,7 @@ module _ {W : Type 0} (s : AnalysisState W) (laws : HasLaws (along s.path)) (kep
     finished = λ e. absurd (false≢true (sym open_ ∙ e));
     room = kept.room;
     rows = kept.rows;
-    drawn = passes_more s (stopped_at limit kind) refl (λ p c v e. e) refl kept.drawn;
+    inferred = passes_more s (stopped_at limit kind) refl (λ p c v e. e) refl kept.inferred;
     roomy = kept.roomy;
   }
     where
@@ -169,18 +169,18 @@ module _ {W : Type 0} (s : AnalysisState W) (laws : HasLaws (along s.path)) (kep
     finished = λ e. absurd (false≢true (sym open_ ∙ e));
     room = kept.room;
     rows = kept.rows;
-    drawn = passes_more s (shown_to limit) refl (λ p c v e. e) refl kept.drawn;
+    inferred = passes_more s (shown_to limit) refl (λ p c v e. e) refl kept.inferred;
     roomy = kept.roomy;
   }
 
   abbrev finished_at : AnalysisState W
   finished_at = record { path = s.path; known = s.known; spans = s.spans; filled = s.filled; shown = length s.known.log; complete = true; conflict = s.conflict; work = s.work }
 
-  again : (i : ℕ) (row : StepRow) → IsRowDrawn row i s → IsRowDrawn row i finished_at
+  again : (i : ℕ) (row : StepRow) → IsRowInferred row i s → IsRowInferred row i finished_at
   again i row d = record {
     registers = λ r named in_file kept'. let k = d.registers r named in_file kept' in record { onward = k.onward; back = k.back };
     tracked = d.tracked;
-    drawn = d.drawn;
+    inferred = d.inferred;
   }
 
   -- one that has ended
@@ -198,12 +198,12 @@ module _ {W : Type 0} (s : AnalysisState W) (laws : HasLaws (along s.path)) (kep
     calm = λ u below. quiet_less (along s.path) laws (told (oldest u s.known.log)) (all_known s) (λ p r v e. oldest_less u s.known.log kept.once p (Register r) v e) settled.quiet;
     stopped = kept.stopped;
     finished = λ _. record {
-      settled = record { quiet = settled.quiet; fitted = settled.fitted; filled = settled.filled; drawn = record { last = settled.drawn.last; rows = λ i inside row found. again i row (settled.drawn.rows i inside row found); bytes = settled.drawn.bytes; carried = λ a m w at. let k = settled.drawn.carried a m w at in record { onward = k.onward; back = k.back }; singles = settled.drawn.singles }; writings = writings_still s finished_at refl refl refl (λ p c v e. e) refl (λ h. h) settled.writings; exact = settled.exact };
+      settled = record { quiet = settled.quiet; fitted = settled.fitted; filled = settled.filled; inferred = record { last = settled.inferred.last; rows = λ i inside row found. again i row (settled.inferred.rows i inside row found); bytes = settled.inferred.bytes; carried = λ a m w at. let k = settled.inferred.carried a m w at in record { onward = k.onward; back = k.back }; singles = settled.inferred.singles }; writings = writings_still s finished_at refl refl refl (λ p c v e. e) refl (λ h. h) settled.writings; exact = settled.exact };
       report = settled_report s laws kept settled;
       all = refl;
     };
     room = kept.room;
     rows = kept.rows;
-    drawn = passes_more s finished_at refl (λ p c v e. e) refl kept.drawn;
+    inferred = passes_more s finished_at refl (λ p c v e. e) refl kept.inferred;
     roomy = kept.roomy;
   }

@@ -6,10 +6,12 @@ use Rattle.rept_report.specs.Log.{oldest}
 use Rattle.rept_report.proofs.Search.{source}
 use Rattle.rept_analysis.specs.State.{AnalysisState, along}
 
--- the byte that is told at a point by the facts that are answered; at the last point also the dump's
+-- the byte that is told at a point by the facts that are answered; at the last point also the
+-- dump's
 abbrev pub byte_answer : {W : Type 0} → AnalysisState W → ℕ → ℕ → Option ℕ
 byte_answer s p a = source (along s.path) (oldest s.shown s.known.log) a p
 
--- all is learnt, or some fact is answered, or the rows alone leave no set empty and no turn wrong: where they do, the closure has no fact
+-- all is learnt, or some fact is answered, or the rows alone leave no set empty and no turn wrong:
+-- where they do, the closure has no fact
 abbrev pub HasClosure : {W : Type 0} → AnalysisState W → Type 0
 HasClosure s = s.complete ≡ false → s.shown ≡ 0 → IsQuiet (along s.path) (told [])

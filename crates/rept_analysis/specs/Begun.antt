@@ -8,7 +8,8 @@ use Rattle.rept_report.specs.Setting.{Setting}
 use Rattle.rept_report.specs.Log.{oldest}
 use Rattle.rept_analysis.specs.State.{AnalysisState, along}
 
--- the value of a register other than x0 at the last point of a thread, by the row that leads from the point, if one does
+-- the value of a register other than x0 at the last point of a thread, by the row that leads from
+-- the point, if one does
 abbrev pub value_at_end : Option StepRow → List ℕ → ℕ → Option ℕ
 value_at_end None values r = if r == 0 then None else slice_get values r
 value_at_end (Some row) values r = None

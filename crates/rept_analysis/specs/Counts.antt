@@ -1,5 +1,6 @@
--- How many rows a path has, of which kind, and how much is known along it. This project's own; what a store and an environment call
--- are is in the RISC-V unprivileged manual 20191213, chapters 2.6 and 2.8.
+-- How many rows a path has, of which kind, and how much is known along it. This project's own; what
+-- a store and an environment call are is in the RISC-V unprivileged manual 20191213, chapters 2.6
+-- and 2.8.
 use Rattle.std.specs.Prelude.{◌≡◌, ℕ, ◌+◌, Bool, true, false, not, Option, Some, None, is_some}
 use Rattle.rept_isa.specs.declared.instr.Instr.{Instr}
 use Rattle.rept_isa.specs.declared.instr.Instr.TheVariants.{Store}

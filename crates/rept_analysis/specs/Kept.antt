@@ -9,8 +9,8 @@ use Rattle.rept_report.specs.Closure.{ClosureHas, IsReport}
 use Rattle.rept_report.specs.Log.{oldest, Entry, facts_of, logged_of, IsTrace, OnceEach}
 use Rattle.rept_report.specs.Implied.{with_implied}
 use Rattle.rept_isa.specs.declared.row.StepRow.{StepRow}
-use Rattle.rept_view.specs.declared.drawn.When.{When}
-use Rattle.rept_view.specs.declared.drawn.Drawn.{Drawn}
+use Rattle.rept_view.specs.declared.inferred.When.{When}
+use Rattle.rept_view.specs.declared.inferred.Conclusion.{Conclusion}
 use Rattle.rept_view.specs.Seen.{Seen, IsLawful, seen_cell}
 use Rattle.rept_log.specs.Around.{around}
 use Rattle.rept_passes.specs.declared.pass.Pass.{Pass}
@@ -18,7 +18,7 @@ use Rattle.rept_passes.specs.declared.pass.Pass.TheVariants.{Never, With, Cut}
 use Rattle.rept_analysis.specs.Cells.{cells_known}
 use Rattle.rept_analysis.specs.Room.{HasRoom}
 use Rattle.rept_analysis.specs.State.{AnalysisState, IsRoomy, all_known, along}
-use Rattle.rept_analysis.specs.Drawing.{IsTracked, IsSettled, Knows, KnowsDrawn}
+use Rattle.rept_analysis.specs.Inferring.{IsTracked, IsSettled, Knows, KnowsInferred}
 
 -- whether an address is one of these
 abbrev pub is_among : List ℕ → ℕ → Bool
@@ -29,7 +29,8 @@ is_among (x ∷ xs) a = x == a || is_among xs a
 abbrev pub register_answer : {W : Type 0} → AnalysisState W → ℕ → ℕ → Option ℕ
 register_answer s p r = register_known (told (oldest s.shown s.known.log)) p r
 
--- all that an analysis says that has ended: what it knows, and the bytes of the dump that no row may write
+-- all that an analysis says that has ended: what it knows, and the bytes of the dump that no row
+-- may write
 abbrev pub answers : {W : Type 0} → AnalysisState W → Knowledge
 answers s = with_implied (along s.path) (all_known s) (is_among s.known.store.tracked)
 
@@ -45,19 +46,19 @@ pub record IsFinished {W : Type 0} (s : AnalysisState W) : Type 0 where
   pub report : IsReport (along s.path) (answers s)
   pub all : s.shown ≡ length s.known.log
 
--- The row's rules were drawn from something that was seen around the row, in which so many of its cells were known: what they let one
--- conclude from it is known, and so is all that was seen.
-pub record IsDrawnWith {W : Type 0} (row : StepRow) (i k : ℕ) (s : AnalysisState W) : Type 0 where
+-- The row's rules were applied from something that was seen around the row, in which so many of its
+-- cells were known: what they let one conclude from it is known, and so is all that was seen.
+pub record IsInferredWith {W : Type 0} (row : StepRow) (i k : ℕ) (s : AnalysisState W) : Type 0 where
   pub view : Seen
   pub lawful : IsLawful view
   pub count : cells_known s.path.rules row view ≡ k
-  pub learnt : (d : Drawn) → Contains (s.path.rules.draw row view) d → KnowsDrawn i d s
+  pub learnt : (d : Conclusion) → Contains (s.path.rules.infer row view) d → KnowsInferred i d s
   pub less : (w : When) (c : Cell) (v : ℕ) → seen_cell view w c ≡ Some v → seen_cell (around s.path.given.moments s.known i) w c ≡ Some v
 
--- what is kept of how far they were drawn is so
+-- what is kept of how far they were inferred is so
 abbrev pub IsPass : {W : Type 0} → StepRow → ℕ → Pass → AnalysisState W → Type 0
 IsPass row i Never s = Unit {0}
-IsPass row i (With k) s = IsDrawnWith row i k s
+IsPass row i (With k) s = IsInferredWith row i k s
 IsPass row i Cut s = Unit {0}
 
 pub record IsKept {W : Type 0} (s : AnalysisState W) : Type 0 where
@@ -74,6 +75,6 @@ pub record IsKept {W : Type 0} (s : AnalysisState W) : Type 0 where
   pub stopped : (kind : ConflictKind) → s.conflict ≡ Some kind → ClosureHas (along s.path) kind
   pub finished : s.complete ≡ true → IsFinished s
   pub room : s.path.given.moments.end < s.work.room
-  pub rows : length s.work.drawn ≡ s.path.given.legs.count
-  pub drawn : (i : ℕ) (row : StepRow) (pass : Pass) → s.path.given.legs.row i ≡ Some row → slice_get s.work.drawn i ≡ Some pass → IsPass row i pass s
+  pub rows : length s.work.inferred ≡ s.path.given.legs.count
+  pub inferred : (i : ℕ) (row : StepRow) (pass : Pass) → s.path.given.legs.row i ≡ Some row → slice_get s.work.inferred i ≡ Some pass → IsPass row i pass s
   pub roomy : IsRoomy s → HasRoom s.path s.known

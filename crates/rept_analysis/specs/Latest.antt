@@ -9,6 +9,7 @@ use Rattle.rept_latest.specs.Latest.{Writes}
 abbrev pub time_of : {W : Type 0} → Setting W → Timeline
 time_of S = record { legs = S.legs; moments = S.moments }
 
--- which rows may write the byte at an address, by what is known, and which write each byte that they may write
+-- which rows may write the byte at an address, by what is known, and which write each byte that
+-- they may write
 abbrev pub writes_by : {W : Type 0} → Setting W → Knowledge → Writes
 writes_by S K = record { may = may_write S K; sure = is_sure S K }

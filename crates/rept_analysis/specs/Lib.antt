@@ -4,7 +4,7 @@ pub mod Work
 pub mod Room
 pub mod Cells
 pub mod State
-pub mod Drawing
+pub mod Inferring
 pub mod Begun
 pub mod Kept
 pub mod Logged

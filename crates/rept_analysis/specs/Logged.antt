@@ -7,8 +7,8 @@ use Rattle.rept_report.specs.Setting.{Setting}
 use Rattle.rept_report.specs.Log.{Entry, logged_of}
 use Rattle.rept_report.specs.Implied.{HasEnded, known_at_end}
 
--- A log of what is known: facts, newest first, each of which follows from those before it. With the bytes that no log keeps they are all
--- that follows, and exactly what is known.
+-- A log of what is known: facts, newest first, each of which follows from those before it. With the
+-- bytes that no log keeps they are all that follows, and exactly what is known.
 pub record IsLogOf {W : Type 0} (S : Setting W) (K : Knowledge) (log : List Fact) : Type 0 where
   pub entries : List Entry
   pub tracked : ℕ → Bool

@@ -27,7 +27,8 @@ pub record AreSetsOf {W : Type 0} (S : Setting W) (facts : List Fact) (spans : V
   pub sized : spans.points ≡ S.legs.count + 1
   pub filled : IsFilled (way_of S) spans (told facts)
 
--- All that an analysis answers, and all that it holds but for how often rules were drawn, is as it was.
+-- All that an analysis answers, and all that it holds but for how often rules were applied, is as
+-- it was.
 pub record KeepsAll {W : Type 0} (old new : AnalysisState W) : Type 0 where
   pub path : new.path ≡ old.path
   pub known : new.known ≡ old.known

@@ -11,7 +11,7 @@ use Rattle.rept_analysis.specs.declared.stop.Stop.{Stop}
 use Rattle.rept_analysis.specs.declared.stop.Stop.TheVariants.{Conflict, OutOfMemory}
 use Rattle.rept_reason.specs.declared.fact.Fact.{Fact}
 use Rattle.rept_analysis.specs.State.{AnalysisState, along}
-use Rattle.rept_analysis.specs.Drawing.{Knows, IsClash}
+use Rattle.rept_analysis.specs.Inferring.{Knows, IsClash}
 use Rattle.rept_analysis.specs.Kept.{register_answer, IsFinished}
 
 -- each prefix of the log that is shorter than this leaves no set empty and no turn wrong
@@ -37,7 +37,8 @@ pub record IsClashOf {W : Type 0} (s : AnalysisState W) (kind : ConflictKind) : 
   pub clash : IsClash s fact known
   pub named : kind ≡ clash_kind fact.point fact.cell known fact.value
 
--- The oldest t facts show this conflict and no fewer show any, or t is all of them, and one that follows from them contradicts one of them.
+-- The oldest t facts show this conflict and no fewer show any, or t is all of them, and one that
+-- follows from them contradicts one of them.
 pub record ShowsTo {W : Type 0} (s : AnalysisState W) (t : ℕ) (kind : ConflictKind) : Type 0 where
   pub quiet : QuietBelow s t
   pub shows : Shows (along s.path) (told (oldest t s.known.log)) kind ⊎ ((t ≡ length s.known.log) × IsClashOf s kind)
@@ -51,7 +52,8 @@ pub record IsEnded {W : Type 0} (old new : AnalysisState W) : Type 0 where
   pub kept : KeepsAnswers old new
   pub more : KeepsKnown old new
 
--- the closure has a conflict, which is kept, and where none was known the facts that are answered show it
+-- the closure has a conflict, which is kept, and where none was known the facts that are answered
+-- show it
 pub record IsStopped {W : Type 0} (old new : AnalysisState W) (kind : ConflictKind) : Type 0 where
   pub path : new.path ≡ old.path
   pub recorded : new.conflict ≡ Some kind

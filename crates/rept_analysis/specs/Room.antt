@@ -1,6 +1,7 @@
--- That the room which an analysis took at first is enough for all bytes that it can learn, where its store joins what stands side by
--- side: each byte that rows let one conclude is learnt once, as is the byte of the dump at each tracked address, and what is carried
--- takes none. This project's own.
+-- That the room which an analysis took at first is enough for all bytes that it can learn, where
+-- its store joins what stands side by side: each byte that rows let one conclude is learnt once, as
+-- is the byte of the dump at each tracked address, and what is carried takes none. This project's
+-- own.
 use Rattle.std.specs.Prelude.{◌≡◌, ℕ, ◌+◌, ◌<◌, ◌≤◌, Bool, false, min, List, length, Option, Some, None, Contains, sum_by, is_none}
 use Rattle.rept_isa.specs.declared.row.StepRow.{StepRow}
 use Rattle.rept_isa.specs.Numbers.{plus, beside}
@@ -8,8 +9,8 @@ use Rattle.rept_isa.specs.Operands.{first_read}
 use Rattle.rept_reason.specs.declared.fact.Fact.{Fact}
 use Rattle.rept_reason.specs.declared.fact.Cell.TheVariants.{Byte}
 use Rattle.rept_reason.specs.Facts.{told, register_known}
-use Rattle.rept_view.specs.declared.drawn.When.TheVariants.{Before}
-use Rattle.rept_view.specs.declared.drawn.Drawn.{Drawn}
+use Rattle.rept_view.specs.declared.inferred.When.TheVariants.{Before}
+use Rattle.rept_view.specs.declared.inferred.Conclusion.{Conclusion}
 use Rattle.rept_view.specs.Seen.{Seen, IsLawful}
 use Rattle.rept_view.specs.Rules.{Rules, offset_of}
 use Rattle.rept_report.specs.Views.{moment_of}
@@ -38,13 +39,14 @@ marked width marks n = sum_to (λ i. count_true (marks i) (width i)) n
 abbrev pub unread : ℕ → Known → ℕ
 unread last k = sum_by (λ a. one_if (is_none (k.store.fact last a))) k.store.tracked
 
--- a conclusion that row i's rules let one draw, from something that was seen around the row, in which its base was what is known now
-pub record IsDrawable {W : Type 0} (P : Subject W) (log : List Fact) (i : ℕ) (d : Drawn) : Type 0 where
+-- a conclusion that row i's rules let one infer, from something that was seen around the row, in
+-- which its base was what is known now
+pub record IsInferable {W : Type 0} (P : Subject W) (log : List Fact) (i : ℕ) (d : Conclusion) : Type 0 where
   pub row : StepRow
   pub found : P.given.legs.row i ≡ Some row
   pub view : Seen
   pub lawful : IsLawful view
-  pub drawn : Contains (P.rules.draw row view) d
+  pub inferred : Contains (P.rules.infer row view) d
   pub base_register : ℕ
   pub base : ℕ
   pub read : first_read row.instr ≡ Some base_register
@@ -52,21 +54,21 @@ pub record IsDrawable {W : Type 0} (P : Subject W) (log : List Fact) (i : ℕ) (
   pub known : register_known (told log) i base_register ≡ Some base
 
 -- such a conclusion on this byte at this moment
-pub record IsDrawnAt {W : Type 0} (P : Subject W) (log : List Fact) (p a : ℕ) : Type 0 where
+pub record IsInferredAt {W : Type 0} (P : Subject W) (log : List Fact) (p a : ℕ) : Type 0 where
   pub number : ℕ
-  pub conclusion : Drawn
+  pub conclusion : Conclusion
   pub moment : p ≡ moment_of P.given.moments number conclusion.when
   pub cell : conclusion.cell ≡ Byte a
-  pub drawn : IsDrawable P log number conclusion
+  pub inferred : IsInferable P log number conclusion
 
 -- the byte of row i's slot j is known
 pub record IsSlotLearnt {W : Type 0} (P : Subject W) (k : Known) (i j : ℕ) : Type 0 where
-  pub conclusion : Drawn
+  pub conclusion : Conclusion
   pub address : ℕ
   pub value : ℕ
   pub slot : conclusion.slot ≡ j
   pub cell : conclusion.cell ≡ Byte address
-  pub drawn : IsDrawable P k.log i conclusion
+  pub inferred : IsInferable P k.log i conclusion
   pub byte : k.store.fact (moment_of P.given.moments i conclusion.when) address ≡ Some value
 
 -- a byte of a row: its number among those that the rules of the row look at, and its address
@@ -96,8 +98,8 @@ pub record IsByteTracked {W : Type 0} (P : Subject W) (k : Known) (i j : ℕ) : 
   pub own : IsOwnByte P k.log (own_at i j address)
   pub tracked : Contains k.store.tracked address
 
--- The room that is left is enough for each slot whose byte isn't known, for each byte of a row that isn't tracked, and for the byte of
--- the dump at each tracked address at which none is known.
+-- The room that is left is enough for each slot whose byte isn't known, for each byte of a row that
+-- isn't tracked, and for the byte of the dump at each tracked address at which none is known.
 pub record HasRoom {W : Type 0} (P : Subject W) (k : Known) : Type 0 where
   pub unlearnt : ℕ → ℕ → Bool
   pub untracked : ℕ → ℕ → Bool

@@ -18,8 +18,9 @@ use Rattle.rept_writing.specs.declared.list.Writing.{Writing}
 use Rattle.rept_passes.specs.declared.pass.Pass.{Pass}
 use Rattle.rept_analysis.specs.Work.{Work}
 
--- The rows and moments, and the last register values of each thread; the files of the program, and the segments of the core file; the facts that were learnt; the
--- sets of values that were filled last, and of how many facts in the log; the rules; how many facts in the log, from the oldest on,
+-- The rows and moments, and the last register values of each thread; the files of the program, and
+-- the segments of the core file; the facts that were learnt; the sets of values that were filled
+-- last, and of how many facts in the log; the rules; how many facts in the log, from the oldest on,
 -- are answered; whether all is learnt, and the conflict that was answered; and its work.
 pub record Whole (P L B W R : Type 0) : Type 0 where
   pub paths : P
@@ -35,7 +36,8 @@ pub record Whole (P L B W R : Type 0) : Type 0 where
   pub conflict : Option ConflictKind
   pub work : Work
 
--- what is given, and what it is read by: the kind of sets of values that is followed along the paths, and the rules of the rows
+-- what is given, and what it is read by: the kind of sets of values that is followed along the
+-- paths, and the rules of the rows
 pub record Subject (W : Type 0) : Type 0 where
   pub sets : Sets W
   pub moves : Moves W
@@ -61,7 +63,8 @@ pub record AnalysisState (W : Type 0) : Type 0 where
   pub conflict : Option ConflictKind
   pub work : Work
 
--- how rows and moments are read, and the values of registers x0 to x31 at the last point of each thread
+-- how rows and moments are read, and the values of registers x0 to x31 at the last point of each
+-- thread
 pub record Reader (P L : Type 0) : Type 0 where
   pub timeline : P → Timeline
   pub last : L → ℕ → List ℕ
@@ -108,22 +111,22 @@ with_work s w = record { path = s.path; known = s.known; spans = s.spans; filled
 
 -- the same with another list of rows that may write
 abbrev pub with_writing : {W : Type 0} → AnalysisState W → List Writing → AnalysisState W
-with_writing s list = with_work s (record { joins = s.work.joins; writing = list; room = s.work.room; draws = s.work.draws; drawn = s.work.drawn })
+with_writing s list = with_work s (record { joins = s.work.joins; writing = list; room = s.work.room; infers = s.work.infers; inferred = s.work.inferred })
 
--- the same, where rules were drawn so often
-abbrev pub with_draws : {W : Type 0} → AnalysisState W → ℕ → AnalysisState W
-with_draws s n = with_work s (record { joins = s.work.joins; writing = s.work.writing; room = s.work.room; draws = n; drawn = s.work.drawn })
+-- the same, where rules were applied so often
+abbrev pub with_infers : {W : Type 0} → AnalysisState W → ℕ → AnalysisState W
+with_infers s n = with_work s (record { joins = s.work.joins; writing = s.work.writing; room = s.work.room; infers = n; inferred = s.work.inferred })
 
--- the same, where they were drawn so far
-abbrev pub with_drawn : {W : Type 0} → AnalysisState W → List Pass → AnalysisState W
-with_drawn s passes = with_work s (record { joins = s.work.joins; writing = s.work.writing; room = s.work.room; draws = s.work.draws; drawn = passes })
+-- the same, where they were inferred so far
+abbrev pub with_inferred : {W : Type 0} → AnalysisState W → List Pass → AnalysisState W
+with_inferred s passes = with_work s (record { joins = s.work.joins; writing = s.work.writing; room = s.work.room; infers = s.work.infers; inferred = passes })
 
 -- the rows and moments
 abbrev pub timeline_of : {W : Type 0} → AnalysisState W → Timeline
 timeline_of s = record { legs = s.path.given.legs; moments = s.path.given.moments }
 
--- The room that was taken at first is enough: the store joins what stands side by side, and a value is carried to the next number alone,
--- so that it takes no place.
+-- The room that was taken at first is enough: the store joins what stands side by side, and a value
+-- is carried to the next number alone, so that it takes no place.
 abbrev pub IsRoomy : {W : Type 0} → AnalysisState W → Type 0
 IsRoomy s = (s.work.joins ≡ true) × IsLined (timeline_of s)
 

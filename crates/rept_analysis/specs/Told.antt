@@ -3,14 +3,14 @@ use Rattle.std.specs.Prelude.{◌≡◌, ◌≢◌, ℕ, Bool, true, false, Resu
 use Rattle.std.specs.declared.alloc.AllocError.{AllocError}
 use Rattle.rept_reason.specs.declared.fact.Fact.{Fact}
 use Rattle.rept_reason.specs.declared.fact.Cell.TheVariants.{Byte}
-use Rattle.rept_log.specs.declared.answer.Answer.{Answer}
-use Rattle.rept_log.specs.declared.answer.Answer.TheVariants.{Old, New, Clash}
+use Rattle.rept_log.specs.declared.answer.LearnOutcome.{LearnOutcome}
+use Rattle.rept_log.specs.declared.answer.LearnOutcome.TheVariants.{Old, New, Clash}
 use Rattle.rept_analysis.specs.State.{AnalysisState, IsRoomy}
 use Rattle.rept_versions.specs.declared.facts.Carried.{Carried}
 use Rattle.rept_versions.specs.declared.facts.Carried.TheVariants.{Same, More, Stop}
 use Rattle.rept_versions.specs.Facts.{Carry}
 use Rattle.rept_report.specs.Why.{fact_of}
-use Rattle.rept_analysis.specs.Drawing.{Knows, IsTracked, Grows, HasNews, IsClash, IsSpreadTo}
+use Rattle.rept_analysis.specs.Inferring.{Knows, IsTracked, Grows, HasNews, IsClash, IsSpreadTo}
 use Rattle.rept_analysis.specs.Begun.{IsLogWith}
 
 -- the fact is known now, and wasn't
@@ -21,14 +21,15 @@ pub record IsNewlyTold {W : Type 0} (old new : AnalysisState W) (f : Fact) : Typ
   pub still : new.work ≡ old.work
   pub log : IsLogWith f old.known.log new.known.log
 
--- what learning it did, by the answer: it was known, it was new, or another value of its cell was known
-abbrev pub ToldAs : {W : Type 0} → AnalysisState W → AnalysisState W → Fact → Answer → Type 0
+-- what learning it did, by the answer: it was known, it was new, or another value of its cell was
+-- known
+abbrev pub ToldAs : {W : Type 0} → AnalysisState W → AnalysisState W → Fact → LearnOutcome → Type 0
 ToldAs old new f Old = (new ≡ old) × Knows f.point f.cell f.value old
 ToldAs old new f New = IsNewlyTold old new f
 ToldAs old new f (Clash w) = (new ≡ old) × Knows f.point f.cell w old × (w ≢ f.value)
 
 -- the same of a fact on a byte, for which memory may run out
-abbrev pub ByteToldAs : {W : Type 0} → AnalysisState W → AnalysisState W → Fact → Result Answer AllocError → Type 0
+abbrev pub ByteToldAs : {W : Type 0} → AnalysisState W → AnalysisState W → Fact → Result LearnOutcome AllocError → Type 0
 ByteToldAs old new f (Ok answer) = ToldAs old new f answer
 ByteToldAs old new f (Err e) = (new ≡ old) × (IsRoomy new → ⊥)
 

@@ -1,7 +1,8 @@
 //! What follows from a path and the dump in which it ends, learnt step by step.
 //!
-//! A line such as `let _paths = &self.paths;` or `let _count = self.count();`, here and in the modules below, changes nothing: what always holds of a field (the
-//! invariant of its type), or what a call ensures, can be cited in a proof only where the code has read it.
+//! A line such as `let _paths = &self.paths;` or `let _count = self.count();`, here and in the
+//! modules below, changes nothing: what always holds of a field (the invariant of its type), or
+//! what a call ensures, can be cited in a proof only where the code has read it.
 
 ghost use Rattle.std.specs.Prelude.{◌≡◌, ◌+◌, ◌*◌, ◌<◌, ◌≤◌, ℕ, length, true, false, IsOk, IfOk, IfSome, IsSome, OnOk, Some, None, Ok, Err, slice_get};
 ghost use Rattle.rept_isa.specs.declared.row.StepRow.{StepRow};
@@ -32,9 +33,9 @@ mod answering;
 mod carrying;
 mod cells;
 mod counting;
-mod drawing;
 mod following;
 mod fronts;
+mod inferring;
 mod leaping;
 mod learning;
 mod likeness;
@@ -47,22 +48,22 @@ mod walling;
 mod why;
 mod writes;
 
-use crate::fresh::Fresh;
-use crate::recent::Recent;
+use crate::fresh::StepWorklist;
+use crate::recent::DirtyBytes;
 use crate::stop::Stop;
-use crate::tables::Tables;
-use crate::walls::Walls;
+use crate::tables::AnalysisTables;
+use crate::walls::BlockerCache;
 use rept_dump::Dump;
 use rept_isa::{Reg, StepRow};
 use rept_log::{FactLog, LastValues};
 use rept_partial::Flat;
-use rept_passes::Passes;
+use rept_passes::RuleProgress;
 use rept_reach::Reaches;
 use rept_report::{ConflictKind, Paths};
 use rept_span::{Spans, Transfer};
 use rept_versions::ByteFacts;
 use rept_view::{RowRules, When};
-use rept_writing::Writings;
+use rept_writing::StoreIndex;
 use std::alloc::{AllocError as OutOfMemory, Global};
 use std::marker::Model;
 
@@ -99,19 +100,20 @@ pub struct Analysis<
     /// the conflict that was found, if one was
     conflict: Option<ConflictKind>,
     /// the rows that may write, and what each may
-    writing: Writings,
-    /// how far the rules of each row were drawn
-    drawn: Passes,
-    /// whether a row was put in the list anew since the last store of unknown address that was looked at
+    writing: StoreIndex,
+    /// how far the rules of each row were applied
+    inferred: RuleProgress,
+    /// whether a row was put in the list anew since the last store of unknown address that was
+    /// looked at
     is_freed: bool,
     /// whether one was since the last pass over all rows began
     has_put: bool,
     /// the rows beside which something was learnt since they were looked at
-    fresh: Fresh,
+    fresh: StepWorklist,
     /// the bytes of which something was learnt lately
-    recent: Recent,
+    recent: DirtyBytes,
     /// the rows at which bytes stopped
-    walls: Walls,
+    walls: BlockerCache,
 }
 
 impl<'a, P: Reaches + Drop, L: LastValues + Drop, B: ByteFacts, W: Transfer, R: RowRules> Model
@@ -123,9 +125,9 @@ impl<'a, P: Reaches + Drop, L: LastValues + Drop, B: ByteFacts, W: Transfer, R: 
 
     ghost Value = { Whole P L B W R };
 
-    ghost view = { λ a. record { paths = a.paths; last = a.last; exe = exe_of a.dump; core = core_of a.dump; known = a.known; spans = a.spans; filled = a.filled; rules = a.rules; shown = a.shown; complete = a.complete; conflict = a.conflict; work = work_of B.JOINS (R.draws a.rules) a.writing a.drawn } };
+    ghost view = { λ a. record { paths = a.paths; last = a.last; exe = exe_of a.dump; core = core_of a.dump; known = a.known; spans = a.spans; filled = a.filled; rules = a.rules; shown = a.shown; complete = a.complete; conflict = a.conflict; work = work_of B.JOINS (R.infers a.rules) a.writing a.inferred } };
 
-    ghost invariant = { λ a. IsKept (state_of (reader P.timeline L.values) W.sets W.moves R.rules B.store (record { paths = a.paths; last = a.last; exe = exe_of a.dump; core = core_of a.dump; known = a.known; spans = a.spans; filled = a.filled; rules = a.rules; shown = a.shown; complete = a.complete; conflict = a.conflict; work = work_of B.JOINS (R.draws a.rules) a.writing a.drawn })) };
+    ghost invariant = { λ a. IsKept (state_of (reader P.timeline L.values) W.sets W.moves R.rules B.store (record { paths = a.paths; last = a.last; exe = exe_of a.dump; core = core_of a.dump; known = a.known; spans = a.spans; filled = a.filled; rules = a.rules; shown = a.shown; complete = a.complete; conflict = a.conflict; work = work_of B.JOINS (R.infers a.rules) a.writing a.inferred })) };
 }
 
 /// How many bytes the row that leads from a point, if one does, lets one conclude at most.
@@ -139,7 +141,7 @@ fn row_places<P: Paths, R: RowRules>(paths: &P, point: u32) -> u32
     }
 }
 
-/// So many bytes do the rows let one conclude at most.
+/// How many bytes the rows let one conclude at most.
 fn access_bytes<P: Paths, R: RowRules>(paths: &P) -> u32
     requires { (P.timeline paths.now).legs.count ≤ 66560 }
     ensures few { result ≤ 532480 }
@@ -160,8 +162,9 @@ impl<'a, P: Reaches + Drop, L: LastValues + Drop, B: ByteFacts, W: Transfer, R: 
     W,
     R,
 > {
-    /// An analysis of these rows and moments, of at most 66,560 points, whose threads end in these register values, and all of them in this dump, by
-    /// these rules. Nothing is known yet. `OutOfMemory` says that its room can't be had.
+    /// An analysis of these rows and moments, of at most 66,560 points, whose threads end in these
+    /// register values, and all of them in this dump, by these rules. Nothing is known yet.
+    /// `OutOfMemory` says that its room can't be had.
     pub fn prepare(
         alloc: Global,
         paths: P,
@@ -178,12 +181,12 @@ impl<'a, P: Reaches + Drop, L: LastValues + Drop, B: ByteFacts, W: Transfer, R: 
     {
         let bytes = access_bytes::<P, R>(&paths);
         let count = paths.last_point();
-        let tables = Tables::new(alloc, count, paths.end(), bytes)?;
-        let Tables {
+        let tables = AnalysisTables::new(alloc, count, paths.end(), bytes)?;
+        let AnalysisTables {
             known,
             spans,
             writing,
-            drawn,
+            inferred,
             fresh,
             recent,
             walls,
@@ -201,7 +204,7 @@ impl<'a, P: Reaches + Drop, L: LastValues + Drop, B: ByteFacts, W: Transfer, R: 
             complete: false,
             conflict: None,
             writing,
-            drawn,
+            inferred,
             is_freed: false,
             has_put: false,
             fresh,
@@ -272,7 +275,8 @@ impl<'a, P: Reaches + Drop, L: LastValues + Drop, B: ByteFacts, W: Transfer, R: 
         self.known.known(point, r)
     }
 
-    /// The first register from one on, other than x0, of which not the same is known at a point and at the one after it, if there is one.
+    /// The first register from one on, other than x0, of which not the same is known at a point and
+    /// at the one after it, if there is one.
     fn next_differing(&self, point: u32, least: u8) -> Option<Reg>
         requires point { point < (P.timeline self.now.paths).legs.count }
         requires named { 0 < least }
@@ -336,13 +340,15 @@ impl<'a, P: Reaches + Drop, L: LastValues + Drop, B: ByteFacts, W: Transfer, R: 
         self.spans.at(point, r)
     }
 
-    /// Learns all that follows from the path and the dump. Ok: what the analysis answers is then the report, exactly the facts of
-    /// the closure, which has no conflict; another call changes nothing. `Stop::Conflict`: the closure has this conflict, and
-    /// another call answers the same one; `reg` and `byte` then answer the oldest facts that show the conflict, of which no fewer show any.
-    /// `Stop::OutOfMemory`: memory ran out, all that was learnt is answered, and another call goes on from there; this never comes where the
-    /// store joins bytes that stand side by side and the moments are one line, since `prepare` took all memory. So it is then Ok exactly where the
-    /// closure has no conflict.
-    /// What was known is known still, and what was answered of registers is answered still.
+    /// Learns all that follows from the path and the dump. Ok: what the analysis answers is then
+    /// the report, exactly the facts of the closure, which has no conflict; another call changes
+    /// nothing. `Stop::Conflict`: the closure has this conflict, and another call answers the same
+    /// one; `reg` and `byte` then answer the oldest facts that show the conflict, of which no fewer
+    /// show any. `Stop::OutOfMemory`: memory ran out, all that was learnt is answered, and another
+    /// call goes on from there; this never comes where the store joins bytes that stand side by
+    /// side and the moments are one line, since `prepare` took all memory. So it is then Ok exactly
+    /// where the closure has no conflict. What was known is known still, and what was answered of
+    /// registers is answered still.
     pub fn refine(&mut self) -> Result<(), Stop>
         ensures path { (path_of (reader P.timeline L.values) W.sets W.moves R.rules self.new) ≡ (path_of (reader P.timeline L.values) W.sets W.moves R.rules self.old) }
         ensures kept { KeepsAnswers (state_of (reader P.timeline L.values) W.sets W.moves R.rules B.store self.old) (state_of (reader P.timeline L.values) W.sets W.moves R.rules B.store self.new) }
@@ -353,15 +359,18 @@ impl<'a, P: Reaches + Drop, L: LastValues + Drop, B: ByteFacts, W: Transfer, R: 
         ensures conflict { (kind : ConflictKind) → result ≡ Err (Stop.Conflict kind) → ClosureHas (setting_of (reader P.timeline L.values) W.sets W.moves R.rules self.old) kind }
         ensures recorded { (kind : ConflictKind) → result ≡ Err (Stop.Conflict kind) → self.new.conflict ≡ Some kind }
 
-        // How far it is answered after a stop: all facts of the log where memory ran out, and those that show the conflict.
+        // How far it is answered after a stop: all facts of the log where memory ran out, and those
+        // that show the conflict.
         ensures whole { result ≡ Err Stop.OutOfMemory → self.new.shown ≡ length self.new.known.log }
         ensures shown { self.old.conflict ≡ None → (kind : ConflictKind) → result ≡ Err (Stop.Conflict kind) → ShowsTo (state_of (reader P.timeline L.values) W.sets W.moves R.rules B.store self.new) self.new.shown kind }
 
-        // Where the last register values of all threads alone leave no set empty and no turn wrong, all of them are among the facts that are answered after a conflict.
+        // Where the last register values of all threads alone leave no set empty and no turn wrong,
+        // all of them are among the facts that are answered after a conflict.
         ensures begins { LearnsEndsFirst (state_of (reader P.timeline L.values) W.sets W.moves R.rules B.store self.old) → LearnsEndsFirst (state_of (reader P.timeline L.values) W.sets W.moves R.rules B.store self.new) }
         ensures ends { self.old.conflict ≡ None → LearnsEndsFirst (state_of (reader P.timeline L.values) W.sets W.moves R.rules B.store self.old) → IsQuiet (setting_of (reader P.timeline L.values) W.sets W.moves R.rules self.old) (ends_told (setting_of (reader P.timeline L.values) W.sets W.moves R.rules self.old)) → (kind : ConflictKind) → result ≡ Err (Stop.Conflict kind) → KnowsEnds (setting_of (reader P.timeline L.values) W.sets W.moves R.rules self.old) (told (oldest self.new.shown self.new.known.log)) }
 
-        // Where the store joins bytes and the moments are one line, no memory is taken: it is Ok exactly where the closure has no conflict.
+        // Where the store joins bytes and the moments are one line, no memory is taken: it is Ok
+        // exactly where the closure has no conflict.
         ensures joins { B.JOINS ≡ true → IsLined (P.timeline self.old.paths) → result ≡ Err Stop.OutOfMemory → ⊥ }
         ensures exact { B.JOINS ≡ true → IsLined (P.timeline self.old.paths) → IsConsistent (setting_of (reader P.timeline L.values) W.sets W.moves R.rules self.old) → IsOk result }
         ensures refused { B.JOINS ≡ true → IsLined (P.timeline self.old.paths) → (kind : ConflictKind) → ClosureHas (setting_of (reader P.timeline L.values) W.sets W.moves R.rules self.old) kind → (named : ConflictKind) × (result ≡ Err (Stop.Conflict named)) }
@@ -370,8 +379,9 @@ impl<'a, P: Reaches + Drop, L: LastValues + Drop, B: ByteFacts, W: Transfer, R: 
         ensures sound { OnOk result (IsSound (setting_of (reader P.timeline L.values) W.sets W.moves R.rules self.new) (answers (state_of (reader P.timeline L.values) W.sets W.moves R.rules B.store self.new))) }
         ensures impossible { (kind : ConflictKind) → result ≡ Err (Stop.Conflict kind) → HasNoExecution (setting_of (reader P.timeline L.values) W.sets W.moves R.rules self.old) }
 
-        // It draws the rules of each row at most 12 times: once at first, and once for each of the row's cells that becomes known.
-        ensures draws { R.draws self.new.rules ≤ R.draws self.old.rules + 12 * (P.timeline self.old.paths).legs.count }
+        // It applies the rules of each row at most 12 times: once at first, and once for each of
+        // the row's cells that becomes known.
+        ensures infers { R.infers self.new.rules ≤ R.infers self.old.rules + 12 * (P.timeline self.old.paths).legs.count }
 
         // A second call answers as the first did.
         ensures again { (kind : ConflictKind) → self.old.conflict ≡ Some kind → (result ≡ Err (Stop.Conflict kind)) × ((state_of (reader P.timeline L.values) W.sets W.moves R.rules B.store self.new) ≡ (state_of (reader P.timeline L.values) W.sets W.moves R.rules B.store self.old)) }
@@ -383,8 +393,9 @@ impl<'a, P: Reaches + Drop, L: LastValues + Drop, B: ByteFacts, W: Transfer, R: 
         outcome
     }
 
-    /// What is known of a register at a point. x0 is 0. Each known value stands in the closure, also before `refine` and after it
-    /// answered a stop; after it answered Ok, `Unknown` comes exactly where the closure has no value.
+    /// What is known of a register at a point. x0 is 0. Each known value stands in the closure,
+    /// also before `refine` and after it answered a stop; after it answered Ok, `Unknown` comes
+    /// exactly where the closure has no value.
     pub fn reg(&self, point: u32, r: Reg) -> Flat
         requires point { point ≤ (P.timeline self.now.paths).legs.count }
         ensures value { result ≡ flat (register_answer (state_of (reader P.timeline L.values) W.sets W.moves R.rules B.store self.now) point r) }
@@ -403,9 +414,10 @@ impl<'a, P: Reaches + Drop, L: LastValues + Drop, B: ByteFacts, W: Transfer, R: 
         self.known.known_below(self.shown, point, r)
     }
 
-    /// How often rules were drawn is so of the rules that are kept, and whether bytes that stand side by side are joined is so of the store.
+    /// How often rules were applied is so of the rules that are kept, and whether bytes that stand
+    /// side by side are joined is so of the store.
     fn counted(&self)
-        ensures draws { self.now.work.draws ≡ R.draws self.now.rules }
+        ensures infers { self.now.work.infers ≡ R.infers self.now.rules }
         ensures joins { self.now.work.joins ≡ B.JOINS }
     {
         let _paths = &self.paths;

@@ -4,7 +4,8 @@ ghost use Rattle.std.specs.Prelude.{◌≤◌};
 
 use std::alloc::{AllocError as OutOfMemory, Global};
 
-/// From where on a row looks at bytes, and how many times something had been learnt of bytes when it was looked at last.
+/// From where on a row looks at bytes, and how many times something had been learnt of bytes when
+/// it was looked at last.
 #[derive(Clone, Copy)]
 struct Look {
     start: Option<u32>,
@@ -28,25 +29,27 @@ fn bit_of(number: u32) -> u64 {
     1u64.wrapping_shl(number)
 }
 
-/// Of each row, by the number of the moment before it, whether something that it looks at was learnt since it was looked at last, and whether bytes may tell something more of it, each by a bit,
-/// so that a pass finds the next row of which one of them holds without a look at those between; from where on it looks at bytes, and when that was. It only saves work: no clause says what
-/// it keeps.
+/// Of each row, by the number of the moment before it, whether something that it looks at was
+/// learnt since it was looked at last, and whether bytes may tell something more of it, each by a
+/// bit, so that a pass finds the next row of which one of them holds without a look at those
+/// between; from where on it looks at bytes, and when that was. It only saves work: no clause says
+/// what it keeps.
 #[derive(Drop)]
-pub struct Fresh {
+pub struct StepWorklist {
     marked: Vec<u64>,
     open: Vec<u64>,
     words: u32,
     looks: Vec<Look>,
 }
 
-impl Fresh {
+impl StepWorklist {
     /// No row was looked at yet, of those before moments up to a number.
-    pub fn new(alloc: Global, end: u32) -> Result<Fresh, OutOfMemory> {
+    pub fn new(alloc: Global, end: u32) -> Result<StepWorklist, OutOfMemory> {
         let words = end / 64 + 1;
         let marked = vec![in alloc; u64::MAX; words as usize]?;
         let open = vec![in alloc; u64::MAX; words as usize]?;
         let looks = vec![in alloc; NEVER; end as usize + 1]?;
-        Ok(Fresh {
+        Ok(StepWorklist {
             marked,
             open,
             words,
@@ -59,7 +62,8 @@ impl Fresh {
         word_of(self.marked.as_slice(), number) & bit_of(number) != 0
     }
 
-    /// Whether bytes tell nothing more of a row: it looks at none, or all that it looks at is known and was drawn.
+    /// Whether bytes tell nothing more of a row: it looks at none, or all that it looks at is known
+    /// and was inferred.
     pub fn is_plain(&self, number: u32) -> bool {
         word_of(self.open.as_slice(), number) & bit_of(number) == 0
     }
@@ -131,7 +135,8 @@ impl Fresh {
         u32::MAX
     }
 
-    /// The number after the last one below one before which a row may tell something; 0 where there is none.
+    /// The number after the last one below one before which a row may tell something; 0 where there
+    /// is none.
     pub fn end_below(&self, end: u32) -> u32
         ensures { result ≤ end }
     {
@@ -193,8 +198,8 @@ impl Fresh {
         }
     }
 
-    /// Keeps that a row was looked at when something had been learnt of bytes so many times, and whether that told something new: then it is to be looked at
-    /// again.
+    /// Keeps that a row was looked at when something had been learnt of bytes so many times, and
+    /// whether that told something new: then it is to be looked at again.
     pub fn note(&mut self, number: u32, has_news: bool, time: u32) {
         self.note_time(number, time);
         if has_news {

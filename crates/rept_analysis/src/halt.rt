@@ -4,7 +4,7 @@ use rept_reason::Cell;
 
 /// Why a conclusion wasn't learnt.
 #[derive(Clone, Copy)]
-pub enum Halt {
+pub enum LearnError {
     /// Another value is known.
     Clash {
         /// the point

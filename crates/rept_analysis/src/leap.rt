@@ -1,8 +1,9 @@
 //! How far a byte's value goes at once.
 
-/// A byte, the numbers of moments from the first to the last of which its value is known, and one to which it goes from them.
+/// A byte, the numbers of moments from the first to the last of which its value is known, and one
+/// to which it goes from them.
 #[derive(Clone, Copy)]
-pub struct Leap {
+pub struct ByteLeap {
     /// the address
     pub address: u32,
     /// the first number

@@ -5,7 +5,7 @@
 pub struct Link {
     /// whether a value was new
     pub has_news: bool,
-    /// the index, in the list of the rows that may write, of one that kept it from being carried. It is tried first at the next number: no clause
-    /// rests on it.
+    /// the index, in the list of the rows that may write, of one that kept it from being carried.
+    /// It is tried first at the next number: no clause rests on it.
     pub blocker: Option<usize>,
 }

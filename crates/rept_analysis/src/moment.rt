@@ -1,4 +1,5 @@
-//! What the facts at places below a limit, and the sets filled from them, tell of registers around a row.
+//! What the facts at places below a limit, and the sets filled from them, tell of registers around
+//! a row.
 
 ghost use Rattle.std.specs.Prelude.{◌≡◌, ◌+◌, ◌<◌, ◌≤◌, ◌^◌, ℕ, Some};
 ghost use Rattle.rept_reason.specs.declared.fact.Cell.TheVariants.{Register};
@@ -14,9 +15,10 @@ use rept_span::{Spans, Transfer};
 use rept_versions::ByteFacts;
 use rept_view::{RowView, When};
 
-/// What the facts at places below a limit tell of registers around a row, with sets of values. Of bytes it says nothing.
+/// What the facts at places below a limit tell of registers around a row, with sets of values. Of
+/// bytes it says nothing.
 #[derive(Drop)]
-pub struct Moment<'k, B: ByteFacts, W: Transfer> {
+pub struct RegisterView<'k, B: ByteFacts, W: Transfer> {
     /// the facts
     pub facts: &'k FactLog<B>,
     /// the sets
@@ -31,7 +33,7 @@ pub struct Moment<'k, B: ByteFacts, W: Transfer> {
     ghost words: { (p r v : ℕ) → told (oldest limit facts.now.log) p (Register r) ≡ Some v → v < 2 ^ 32 },
 }
 
-impl<'k, B: ByteFacts, W: Transfer> RowView for Moment<'k, B, W> {
+impl<'k, B: ByteFacts, W: Transfer> RowView for RegisterView<'k, B, W> {
     ghost use Rattle.rept_analysis.specs.Moments.{moment, moment_lawful};
 
     ghost seen = { λ v. moment W.sets (oldest v.limit v.facts.now.log) v.spans.now v.row };

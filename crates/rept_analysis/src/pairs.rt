@@ -15,7 +15,8 @@ impl Pairs {
         Pairs { list: [None; 256] }
     }
 
-    /// Whether a value of the other byte goes with one of the first, as far as was seen: where none was seen beside it yet, this one is from now on.
+    /// Whether a value of the other byte goes with one of the first, as far as was seen: where none
+    /// was seen beside it yet, this one is from now on.
     fn goes_with(&mut self, value: u8, other: u8) -> bool
         ensures kept { (v w : ℕ) → slice_index_or self.old.list v None ≡ Some w → slice_index_or self.new.list v None ≡ Some w }
         ensures yes { result ≡ true → slice_index_or self.new.list value None ≡ Some other }
@@ -29,7 +30,8 @@ impl Pairs {
         }
     }
 
-    /// Whether what is known of the other byte goes with what is known of the first: nothing with nothing, and a value with a value.
+    /// Whether what is known of the other byte goes with what is known of the first: nothing with
+    /// nothing, and a value with a value.
     pub fn fits(&mut self, first: Option<u8>, other: Option<u8>) -> bool
         ensures kept { (x y : Option ℕ) → GoWith self.old x y → GoWith self.new x y }
         ensures yes { result ≡ true → GoWith self.new first other }

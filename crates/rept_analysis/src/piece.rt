@@ -1,6 +1,7 @@
 //! A piece of a strip over which a byte is carried.
 
-/// Numbers one after the other over which a byte is carried, and numbers before or after them from which it isn't known whether it is carried on.
+/// Numbers one after the other over which a byte is carried, and numbers before or after them from
+/// which it isn't known whether it is carried on.
 #[derive(Clone, Copy)]
 pub struct Piece {
     /// The first number.

@@ -2,23 +2,24 @@
 
 use std::alloc::{AllocError as OutOfMemory, Global};
 
-/// So many marks there are: bytes whose addresses differ by a multiple of it share one.
+/// How many marks there are. Bytes whose addresses differ by a multiple of it share one.
 const MARKS: usize = 262_144;
 
-/// When something was learnt of each of the tracked bytes last: how many times something had been learnt of any by then. It only saves work: no clause says what it keeps.
+/// When something was learnt of each of the tracked bytes last: how many times something had been
+/// learnt of any by then. It only saves work: no clause says what it keeps.
 #[derive(Drop)]
-pub struct Recent {
+pub struct DirtyBytes {
     marks: Vec<u32>,
     now: u32,
     begun: u32,
     since: u32,
 }
 
-impl Recent {
+impl DirtyBytes {
     /// Nothing was learnt yet.
-    pub fn new(alloc: Global) -> Result<Recent, OutOfMemory> {
+    pub fn new(alloc: Global) -> Result<DirtyBytes, OutOfMemory> {
         let marks = vec![in alloc; 0; MARKS]?;
-        Ok(Recent {
+        Ok(DirtyBytes {
             marks,
             now: 1,
             begun: 1,
@@ -47,7 +48,8 @@ impl Recent {
         mark < marks.len() && marks[mark] > time
     }
 
-    /// So of one of so many bytes from an address on.
+    /// Whether something was learnt of one of some bytes from an address on, since so many times
+    /// something had been learnt of any.
     pub fn has_any_since(&self, start: u32, count: u32, time: u32) -> bool {
         for k in 0..count {
             if self.has_since(start.wrapping_add(k), time) {
@@ -57,7 +59,8 @@ impl Recent {
         false
     }
 
-    /// Whether something was learnt of a byte in the pass over the tracked bytes before this one, or since.
+    /// Whether something was learnt of a byte in the pass over the tracked bytes before this one,
+    /// or since.
     pub fn has(&self, a: u32) -> bool {
         self.has_since(a, self.since)
     }

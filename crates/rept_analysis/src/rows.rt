@@ -8,7 +8,8 @@ use rept_isa::Instr;
 use rept_isa::number::plus;
 use rept_view::offset_of;
 
-/// Whether it is a store or an atomic instruction, which may write the bytes that it names. It only saves work: no clause rests on it.
+/// Whether it is a store or an atomic instruction, which may write the bytes that it names. It only
+/// saves work: no clause rests on it.
 pub fn is_store(instr: &Instr) -> bool {
     matches!(*instr, Instr::Store { .. } | Instr::Amo { .. })
 }

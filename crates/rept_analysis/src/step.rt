@@ -1,10 +1,10 @@
 //! A step on which the bytes of a word go together.
 
-use rept_reach::Window;
+use rept_reach::NumberWindow;
 
 /// What told something new of the first byte of a word, so that the others go the same way.
 #[derive(Clone, Copy)]
-pub enum Step {
+pub enum WordStep {
     /// down from a number
     Down {
         /// the number
@@ -15,7 +15,7 @@ pub enum Step {
         /// the number
         first: u32,
         /// the window
-        known: Window,
+        known: NumberWindow,
     },
     /// on through the strip around a number
     Later {

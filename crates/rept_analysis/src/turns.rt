@@ -8,7 +8,8 @@ use rept_isa::{BranchOp, Instr, StepRow, Turn, turn};
 use rept_machine::arithmetic::branch_holds;
 use rept_partial::Flat;
 
-/// Whether the row went another way than the registers in the places of rs1 and rs2 say, as far as they are known.
+/// Whether the row went another way than the registers in the places of rs1 and rs2 say, as far as
+/// they are known.
 pub fn is_wrong_turn(row: &StepRow, first: Flat, second: Flat) -> bool
     ensures { result ≡ is_wrong_turn row.now first second }
 {

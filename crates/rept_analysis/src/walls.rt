@@ -2,22 +2,23 @@
 
 use std::alloc::{AllocError as OutOfMemory, Global};
 
-/// At which row of the list of those that may write a byte stopped last at each number, and at which it stopped last of all; and the number from which one came back last. It only saves
-/// work: no clause says what it keeps.
+/// At which row of the list of those that may write a byte stopped last at each number, and at
+/// which it stopped last of all; and the number from which one came back last. It only saves work:
+/// no clause says what it keeps.
 #[derive(Drop)]
-pub struct Walls {
+pub struct BlockerCache {
     list: Vec<Option<usize>>,
     stops: Vec<Option<usize>>,
     last: Option<usize>,
     open: Option<u32>,
 }
 
-impl Walls {
+impl BlockerCache {
     /// None yet, for so many numbers.
-    pub fn new(alloc: Global, count: usize) -> Result<Walls, OutOfMemory> {
+    pub fn new(alloc: Global, count: usize) -> Result<BlockerCache, OutOfMemory> {
         let list = vec![in alloc; None; count]?;
         let stops = vec![in alloc; None; count]?;
-        Ok(Walls {
+        Ok(BlockerCache {
             list,
             stops,
             last: None,
@@ -60,7 +61,8 @@ impl Walls {
         }
     }
 
-    /// The index of the row that last kept a byte from going on from a number to one that is next to it.
+    /// The index of the row that last kept a byte from going on from a number to one that is next
+    /// to it.
     pub fn stop(&self, number: u32) -> Option<usize> {
         let stops = self.stops.as_slice();
         let number = number as usize;

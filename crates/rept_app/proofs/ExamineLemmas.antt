@@ -22,22 +22,22 @@ use Rattle.rept_opening.specs.TraceRun.{IsRunOf, HasNoRunOf}
 use Rattle.rept_opening.specs.True.{IsExcluded}
 use Rattle.rept_opening.specs.declared.refusal.Refusal.{Refusal}
 use Rattle.rept_opening.specs.declared.refusal.Refusal.TheVariants as refusal
-use Rattle.rept_opening.specs.declared.status.Status.{Status}
-use Rattle.rept_opening.specs.declared.status.Status.TheVariants as ends
+use Rattle.rept_opening.specs.declared.status.ExitStatus.{ExitStatus}
+use Rattle.rept_opening.specs.declared.status.ExitStatus.TheVariants as ends
 
 -- how a call ends that tells why there is no run
-abbrev pub WalkTold : Status → Type 0
+abbrev pub WalkTold : ExitStatus → Type 0
 WalkTold status = (status ≡ ends.Trace) ⊎ Stopped status
 
-pub stopped_run : (status : Status) → Stopped status → IsRunStatus status
+pub stopped_run : (status : ExitStatus) → Stopped status → IsRunStatus status
 stopped_run status h = inr (inr (inr (inr h)))
 
-pub all_walks : (status : Status) → WalkTold status → IsWalkStatus status
+pub all_walks : (status : ExitStatus) → WalkTold status → IsWalkStatus status
 all_walks status (inl h) = inl h
 all_walks status (inr h) = inr (stopped_run status h)
 
 -- a run that is told has another status than a trace that has none
-no_trace : (status : Status) → IsRunStatus status → status ≡ ends.Trace → ⊥
+no_trace : (status : ExitStatus) → IsRunStatus status → status ≡ ends.Trace → ⊥
 no_trace status (inl h) e = cc
 no_trace status (inr (inl h)) e = cc
 no_trace status (inr (inr (inl h))) e = cc
@@ -46,7 +46,7 @@ no_trace status (inr (inr (inr (inr (inl h))))) e = cc
 no_trace status (inr (inr (inr (inr (inr h))))) e = cc
 
 -- the status of a trace without a run
-trace_told : (f : PathFault) (status : Status) → (f ≡ fault.OutOfMemory → ⊥) → Yields (status_of (refusal.Path f)) status → Yields ends.Trace status
+trace_told : (f : PathFault) (status : ExitStatus) → (f ≡ fault.OutOfMemory → ⊥) → Yields (status_of (refusal.Path f)) status → Yields ends.Trace status
 trace_told (fault.NoStart k) status never h = h
 trace_told (fault.NotCode a) status never h = h
 trace_told (fault.NotRv32im a w) status never h = h
@@ -103,7 +103,7 @@ not_input (fault.UnknownThread k context) e = cc
 not_input (fault.OtherThread k context) e = cc
 not_input fault.OutOfMemory e = cc
 
-module _ (t : CrashTrace) (status : Status) where
+module _ (t : CrashTrace) (status : ExitStatus) where
   pub told_walked : (source sink : PortMove Port) → PortsEnd source sink status → WalkTold status → WalkYields t status → IsWalked t source sink status
   told_walked source sink ports so yields = record {
     ports = ports;
@@ -166,7 +166,7 @@ module _ (t : CrashTrace) (status : Status) where
       ends_so = inr s.ends_so;
     }
 
-module _ (t : CrashTrace) (reading : Reading) (text : List ℕ) (status : Status) where
+module _ (t : CrashTrace) (reading : Reading) (text : List ℕ) (status : ExitStatus) where
   as_memory : (f : PathFault) → f ≡ fault.OutOfMemory → SaysRefusal (refusal.Path f) text status → SaysRefusal refusal.OutOfMemory text status
   as_memory f e h = plain (subst (λ (g : PathFault). SaysRefusal (refusal.Path g) text status) e h)
     where
@@ -188,7 +188,7 @@ pub trace_excludes : (t : CrashTrace) (run : Run) → ((others : Run) → IsRunO
 trace_excludes t run only none others is = subst (λ (p : Run). IsExcluded (run_in t p)) (only others is) none
 
 -- where a session may have been held over a run, so it may over its trace and its files
-pub study_holds : {P : Type 0} (t : CrashTrace) (run : Run) (status : Status) → IsRunOf t.crash t.trace t.manner.from run → P ⊎ StudyHolds (run_in t run) status → P ⊎ WalkHolds t status
+pub study_holds : {P : Type 0} (t : CrashTrace) (run : Run) (status : ExitStatus) → IsRunOf t.crash t.trace t.manner.from run → P ⊎ StudyHolds (run_in t run) status → P ⊎ WalkHolds t status
 study_holds t run status is (inl p) = inl p
 study_holds t run status is (inr (consistent, so)) = inr ((run, is, consistent), so)
 
@@ -196,12 +196,12 @@ study_holds t run status is (inr (consistent, so)) = inr ((run, is, consistent),
 pub reads_here : (bytes : CrashBytes) (notes : List (List ℕ)) → None ≡ program_fault bytes.program → None ≡ core_image_fault bytes.core → CoreSays bytes (Ok notes) → ReadsNotes bytes notes
 reads_here bytes notes e k says = record { program_accepted = sym e; core_accepted = sym k; noted = says }
 
-pub walk_holds : {P : Type 0} (bytes : CrashBytes) (notes : List (List ℕ)) (status : Status) → ReadsNotes bytes notes → P ⊎ WalkHolds (trace_in bytes notes) status → P ⊎ FilesHold bytes status
+pub walk_holds : {P : Type 0} (bytes : CrashBytes) (notes : List (List ℕ)) (status : ExitStatus) → ReadsNotes bytes notes → P ⊎ WalkHolds (trace_in bytes notes) status → P ⊎ FilesHold bytes status
 walk_holds bytes notes status read (inl p) = inl p
 walk_holds bytes notes status read (inr ((run, is, consistent), so)) = inr ((notes, run, read, is, consistent), so)
 
 -- the files of the examination
-module _ (bytes : CrashBytes) (status : Status) where
+module _ (bytes : CrashBytes) (status : ExitStatus) where
   abbrev AfterExe : Option ElfFault → Type 0
   AfterExe o = MatchOption o (MatchOption (core_image_fault bytes.core) ((said : Result (List (List ℕ)) CoreFault) → CoreSays bytes said → NoteYields bytes said status) (λ _. Yields ends.Core status)) (λ _. Yields ends.Executable status)
 
@@ -250,7 +250,7 @@ module _ (bytes : CrashBytes) (status : Status) where
   walked_examined notes yields source sink w = record { ports = w.ports; yields = yields; ends_so = inr (inr w.ends_so) }
 
 -- what is written of them
-module _ (bytes : CrashBytes) (reading : Reading) (text : List ℕ) (status : Status) where
+module _ (bytes : CrashBytes) (reading : Reading) (text : List ℕ) (status : ExitStatus) where
   abbrev TextExe : Option ElfFault → Type 0
   TextExe o = MatchOption o (MatchOption (core_image_fault bytes.core) (NotesTold bytes reading.input text status) (λ fault. SaysRefusal (refusal.CoreImage fault) text status)) (λ fault. SaysRefusal (refusal.Executable fault) text status)
 
@@ -303,12 +303,12 @@ refused_status many exe core r why = at (executable_fault exe) (core_image_fault
     at None None (f, says, only, e) = inr (ap status_of e)
 
 -- such a status is neither that of a fault of a port nor that of a conflict
-pub not_refused : (status other : Status) → (ends.Executable ≡ other → ⊥) → (ends.Core ≡ other → ⊥) → (status ≡ ends.Executable) ⊎ (status ≡ ends.Core) → status ≡ other → ⊥
+pub not_refused : (status other : ExitStatus) → (ends.Executable ≡ other → ⊥) → (ends.Core ≡ other → ⊥) → (status ≡ ends.Executable) ⊎ (status ≡ ends.Core) → status ≡ other → ⊥
 not_refused status other a b (inl h) e = a (sym h ∙ e)
 not_refused status other a b (inr h) e = b (sym h ∙ e)
 
 -- how a call ends that tells a refusal of the files
-pub as_refused : (r : Refusal) (status : Status) → (status_of r ≡ ends.Executable) ⊎ (status_of r ≡ ends.Core) → Yields (status_of r) status → (status ≡ ends.Executable) ⊎ (status ≡ ends.Core) ⊎ Stopped status
+pub as_refused : (r : Refusal) (status : ExitStatus) → (status_of r ≡ ends.Executable) ⊎ (status_of r ≡ ends.Core) → Yields (status_of r) status → (status ≡ ends.Executable) ⊎ (status ≡ ends.Core) ⊎ Stopped status
 as_refused r status (inl h) (inl so) = inl (so ∙ h)
 as_refused r status (inr h) (inl so) = inr (inl (so ∙ h))
 as_refused r status which (inr so) = inr (inr so)

@@ -13,15 +13,15 @@ use Rattle.rept_app.specs.Held.{IsHeldSession}
 use Rattle.rept_opening.specs.Lines.{line_of}
 use Rattle.rept_opening.specs.declared.refusal.Refusal.{Refusal}
 use Rattle.rept_opening.specs.declared.refusal.Refusal.TheVariants as refusal
-use Rattle.rept_opening.specs.declared.status.Status.{Status}
-use Rattle.rept_opening.specs.declared.status.Status.TheVariants as ends
+use Rattle.rept_opening.specs.declared.status.ExitStatus.{ExitStatus}
+use Rattle.rept_opening.specs.declared.status.ExitStatus.TheVariants as ends
 use Rattle.rept_app.proofs.DeliveredLemmas.{delivers_after, prefix_of_longer}
 
 abbrev pub reading_here : List ℕ → Port → Reading
 reading_here bytes source = record { input = bytes; left = source.bytes }
 
 -- the line that ends a session, with its status
-abbrev pub Line : Refusal → Status → List ℕ → Status → Type 0
+abbrev pub Line : Refusal → ExitStatus → List ℕ → ExitStatus → Type 0
 Line r status whole end = (whole ≡ line_of r) × (end ≡ status)
 
 -- a count that rose where the session ended so stands where it ended otherwise
@@ -50,7 +50,7 @@ module _ (t : SessionTold) (reading : Reading) (old mid : Port) where
   failed (inr (e, (whole, first, front))) fault =
       inr (refl, fault, (whole ++ line_of refusal.OutOfMemory, ends.OutOfMemory, inr (whole, first, refl), prefix_of_longer old.bytes mid.bytes whole (line_of refusal.OutOfMemory) front))
 
-  module _ (calm : mid.faults ≡ old.faults) (new : Port) (result : Status) where
+  module _ (calm : mid.faults ≡ old.faults) (new : Port) (result : ExitStatus) where
     pub cut_off : Serves t reading (move old mid) served.ReadFault → Delivers (Line refusal.InputFault ends.InputFault) (move mid new) result → Delivers (IsHeldSession t reading) (move old new) result
     cut_off (inl (front, w, a)) d =
         delivers_after (Line refusal.InputFault ends.InputFault) (IsHeldSession t reading) old mid new front result calm a
@@ -70,11 +70,11 @@ module _ (t : SessionTold) (reading : Reading) (old mid : Port) where
     ran_out (inr (e, rest)) d = let no : ⊥ = cc in absurd no
 
 -- how a line ends a call, after which its status is told
-line_told : (r : Refusal) (status result : Status) (out : PortMove Port) → Delivers (Line r status) out result → (result ≡ status) ⊎ (result ≡ ends.OutputFault)
+line_told : (r : Refusal) (status result : ExitStatus) (out : PortMove Port) → Delivers (Line r status) out result → (result ≡ status) ⊎ (result ≡ ends.OutputFault)
 line_told r status result out (inl (text, goes, appended, calm)) = inl goes.1
 line_told r status result out (inr (e, fault, rest)) = inr e
 
-line_yields : (r : Refusal) (status result : Status) (out : PortMove Port) → Delivers (Line r status) out result → Yields status result
+line_yields : (r : Refusal) (status result : ExitStatus) (out : PortMove Port) → Delivers (Line r status) out result → Yields status result
 line_yields r status result out d = stops (line_told r status result out d)
   where
     stops : (result ≡ status) ⊎ (result ≡ ends.OutputFault) → Yields status result
@@ -82,7 +82,7 @@ line_yields r status result out d = stops (line_told r status result out d)
     stops (inr e) = inr (inl e)
 
 -- the causes of a call that ends with such a line
-pub line_causes : (r : Refusal) (status : Status) (source : PortMove Port) (old mid new : Port) (result : Status) → (status ≡ ends.OutputFault → ⊥) → (Yields status result → EndsSession result) → (result ≡ ends.InputFault → OneFault source.before.faults source.after.faults)
+pub line_causes : (r : Refusal) (status : ExitStatus) (source : PortMove Port) (old mid new : Port) (result : ExitStatus) → (status ≡ ends.OutputFault → ⊥) → (Yields status result → EndsSession result) → (result ≡ ends.InputFault → OneFault source.before.faults source.after.faults)
     → FaultEnds source.before.faults source.after.faults (TellsInputFault result) → mid.faults ≡ old.faults → Delivers (Line r status) (move mid new) result → IsCaused source (move old new) result
 line_causes r status source old mid new result not_output so input input_ends calm d = record {
   ports = record { input = input; input_ends = input_ends; output = fails d; output_ends = count d };
@@ -126,7 +126,7 @@ failed_causes source sink c = record {
   answered = inr (inr (inr (inl refl)));
 }
 
-pub read_causes : (source : PortMove Port) (old mid new : Port) (result : Status) → IsServed source (move old mid) served.ReadFault → Delivers (Line refusal.InputFault ends.InputFault) (move mid new) result → IsCaused source (move old new) result
+pub read_causes : (source : PortMove Port) (old mid new : Port) (result : ExitStatus) → IsServed source (move old mid) served.ReadFault → Delivers (Line refusal.InputFault ends.InputFault) (move mid new) result → IsCaused source (move old new) result
 read_causes source old mid new result c d =
     let fault = fault_in source (move old mid) c in
     line_causes refusal.InputFault ends.InputFault source old mid new result (λ (e : ends.InputFault ≡ ends.OutputFault). cc) so (λ _. fault) (inr (fault, line_told refusal.InputFault ends.InputFault result (move mid new) d))
@@ -136,7 +136,7 @@ read_causes source old mid new result c d =
     so (inl e) = inr (inl e)
     so (inr s) = inr (inr (inr s))
 
-pub other_causes : (r : Refusal) (status : Status) (source : PortMove Port) (old mid new : Port) (result : Status) → (status ≡ ends.OutputFault → ⊥) → (status ≡ ends.InputFault → ⊥) → EndsSession status → source.after.faults ≡ source.before.faults → mid.faults ≡ old.faults
+pub other_causes : (r : Refusal) (status : ExitStatus) (source : PortMove Port) (old mid new : Port) (result : ExitStatus) → (status ≡ ends.OutputFault → ⊥) → (status ≡ ends.InputFault → ⊥) → EndsSession status → source.after.faults ≡ source.before.faults → mid.faults ≡ old.faults
     → Delivers (Line r status) (move mid new) result → IsCaused source (move old new) result
 other_causes r status source old mid new result not_output not_input ends_so still calm d =
     line_causes r status source old mid new result not_output so (λ e. absurd (never (line_yields r status result (move mid new) d) e)) (inl still) calm d

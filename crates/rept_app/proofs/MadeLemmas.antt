@@ -47,8 +47,8 @@ use Rattle.rept_app.specs.Told.{NotesTold, WalkedTrace, OpensMade, made_bytes, s
 use Rattle.rept_opening.specs.TraceRun.{IsRunOf}
 use Rattle.rept_opening.specs.True.{IsExecuted}
 use Rattle.rept_opening.specs.declared.refusal.Refusal.TheVariants as refusal
-use Rattle.rept_opening.specs.declared.status.Status.{Status}
-use Rattle.rept_opening.specs.declared.status.Status.TheVariants as ends
+use Rattle.rept_opening.specs.declared.status.ExitStatus.{ExitStatus}
+use Rattle.rept_opening.specs.declared.status.ExitStatus.TheVariants as ends
 use Rattle.rept_opening.proofs.RunLemmas.{one_stream_file, path_told}
 use Rattle.rept_opening.proofs.TrueLemmas.{TrueOf, opened_whole}
 use Rattle.rept_opening.proofs.DeliveredLemmas.{delivers_as}
@@ -125,13 +125,13 @@ module _ (seed steps : ℕ) (made : Made) (m : IsMade seed steps made) where
   consistent_made : ((kind : ConflictKind) → ClosureHas (path_setting (path_of (means_of domain.Ranges) crash_made m.rows)) kind → HasNoExecutionOfPath (path_of (means_of domain.Ranges) crash_made m.rows)) → IsConsistent (setting (means_of domain.Ranges) crash_made (course_of run_made))
   consistent_made none kind has = none kind has states_made runs_made
 
-  abbrev AfterCore : Status → Option ElfFault → Type 0
+  abbrev AfterCore : ExitStatus → Option ElfFault → Type 0
   AfterCore status o = MatchOption o ((said : Result (List (List ℕ)) CoreFault) → CoreSays (made_bytes made) said → NoteYields (made_bytes made) said status) (λ _. Yields ends.Core status)
 
-  abbrev AfterExe : Status → Option ElfFault → Type 0
+  abbrev AfterExe : ExitStatus → Option ElfFault → Type 0
   AfterExe status o = MatchOption o (AfterCore status (core_image_fault made.core)) (λ _. Yields ends.Executable status)
 
-  pub session_made : ((kind : ConflictKind) → ClosureHas (path_setting (path_of (means_of domain.Ranges) crash_made m.rows)) kind → HasNoExecutionOfPath (path_of (means_of domain.Ranges) crash_made m.rows)) → (status : Status) → FilesEnd (made_bytes made) status → EndsSession status
+  pub session_made : ((kind : ConflictKind) → ClosureHas (path_setting (path_of (means_of domain.Ranges) crash_made m.rows)) kind → HasNoExecutionOfPath (path_of (means_of domain.Ranges) crash_made m.rows)) → (status : ExitStatus) → FilesEnd (made_bytes made) status → EndsSession status
   session_made none status h =
       let notes : (said : Result (List (List ℕ)) CoreFault) → CoreSays (made_bytes made) said → NoteYields (made_bytes made) said status =
       subst (AfterCore status) m.core_read (subst (AfterExe status) m.exe_read h) in
@@ -145,7 +145,7 @@ made_holds seed steps true_of made m =
     (o, opens, executed_made seed steps made m, λ known report. true_of (crash_made seed steps made m) (run_made seed steps made m) known (opened_whole o opens.read opens.told) report)
 
 -- what is written, by what is written of the files
-pub sums : (seed steps : ℕ) (made : Made) → IsMade seed steps made → (left : Option (List ℕ)) (text : List ℕ) (status : Status) → Examines (made_bytes made) (record { input = summary_line; left = left }) text status → Sums seed steps text status
+pub sums : (seed steps : ℕ) (made : Made) → IsMade seed steps made → (left : Option (List ℕ)) (text : List ℕ) (status : ExitStatus) → Examines (made_bytes made) (record { input = summary_line; left = left }) text status → Sums seed steps text status
 sums seed steps made m left text status (inl h) = inl (made, m, h)
 sums seed steps made m left text status (inr (inl h)) = inr (inl h)
 sums seed steps made m left text status (inr (inr (notes, read, (run, a, is, account, cut)))) =
@@ -196,7 +196,7 @@ never_failed : OneFault 0 0 → ⊥
 never_failed h = let rose : 1 ≤ 0 = h.rose in omega arith
 
 -- how the call ends, from how the session may end
-pub yields_made : (bytes : CrashBytes) (left : Option (List ℕ)) (out : PortMove Port) (status : Status) → EndsSession status → (status ≡ ends.InputFault → OneFault 0 0)
+pub yields_made : (bytes : CrashBytes) (left : Option (List ℕ)) (out : PortMove Port) (status : ExitStatus) → EndsSession status → (status ≡ ends.InputFault → OneFault 0 0)
     → Delivers (Examines bytes (record { input = summary_line; left = left })) out status → Yields ends.Ok status
 yields_made bytes left out status so input (inr (e, fault, rest)) = inr (inl e)
 yields_made bytes left out status (inl e) input (inl d) = inl e
@@ -206,7 +206,7 @@ yields_made bytes left out status (inr (inr (inl e))) input (inl (text, goes, ap
 yields_made bytes left out status (inr (inr (inr s))) input (inl d) = inr s
 
 -- a call that ends so reads nothing of the input of the program
-pub ports_made : (source : Port) (inner out : PortMove Port) (status : Status) → Yields ends.Ok status → PortsEnd inner out status → PortsEnd (move source source) out status
+pub ports_made : (source : Port) (inner out : PortMove Port) (status : ExitStatus) → Yields ends.Ok status → PortsEnd inner out status → PortsEnd (move source source) out status
 ports_made source inner out status so p = record { input = λ e. absurd (never so e); input_ends = inl refl; output = p.output; output_ends = p.output_ends }
   where
     never : Yields ends.Ok status → status ≡ ends.InputFault → ⊥
@@ -220,7 +220,7 @@ at_bytes P {exe} {exe'} {core} {core'} {trace} {trace'} {input} {input'} e k t i
     subst (λ x. P exe' core' trace' x) i (subst (λ x. P exe' core' x input) t (subst (λ x. P exe' x trace input) k (subst (λ x. P x core trace input) e h)))
 
 -- where there was no memory for the files
-module _ (out : PortMove Port) (result : Status) (d : Delivers (SaysRefusal refusal.OutOfMemory) out result) where
+module _ (out : PortMove Port) (result : ExitStatus) (d : Delivers (SaysRefusal refusal.OutOfMemory) out result) where
   as_told : Delivers (SaysOrNoMemory refusal.OutOfMemory) out result
   as_told = delivers_as (SaysRefusal refusal.OutOfMemory) (SaysOrNoMemory refusal.OutOfMemory) out result (λ text status h. inl h) d
 

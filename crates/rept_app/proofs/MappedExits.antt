@@ -20,25 +20,25 @@ use Rattle.rept_opening.specs.declared.listed.ListStop.TheVariants as stops
 use Rattle.rept_opening.specs.declared.listed.ListedFiles.{ListedFiles}
 use Rattle.rept_opening.specs.declared.refusal.Refusal.{Refusal}
 use Rattle.rept_opening.specs.declared.refusal.Refusal.TheVariants as refusal
-use Rattle.rept_opening.specs.declared.status.Status.{Status}
-use Rattle.rept_opening.specs.declared.status.Status.TheVariants as ends
+use Rattle.rept_opening.specs.declared.status.ExitStatus.{ExitStatus}
+use Rattle.rept_opening.specs.declared.status.ExitStatus.TheVariants as ends
 use Rattle.rept_opening.proofs.DeliveredLemmas.{delivers_as}
 use Rattle.rept_app.proofs.DeliveredLemmas.{ends_told, not_yielded, told_ports}
 use Rattle.rept_app.proofs.MadeLemmas.{memory_ports}
 use Rattle.rept_app.proofs.MappedLemmas.{Ended, calm_move, core_ends, core_not_loading, ended_move, examined_so, files_excluded, files_held, files_written, idle_move, image_written, image_yields, list_ends, list_written, list_yields, memory_stopped, name_ports, name_told, name_written, named_so, named_yields, never_loading, stopped_move, stopped_so, stopped_yields, where_both, where_files}
 
 -- so many loads of the names of a list
-pub are_asked : (core desc : List ℕ) (asked : PortMove ℕ) (status : Status) (count : ℕ) → ListSays core (Ok desc) → count ≤ length (asked_names desc) → asked.after ≡ loads_after count asked.before
+pub are_asked : (core desc : List ℕ) (asked : PortMove ℕ) (status : ExitStatus) (count : ℕ) → ListSays core (Ok desc) → count ≤ length (asked_names desc) → asked.after ≡ loads_after count asked.before
     → (count ≡ length (asked_names desc)) ⊎ (status ≡ ends.LoadFault) ⊎ Stopped status → NamesLoaded core asked status
 are_asked core desc asked status count listed within loads all = inr (desc, listed, record { count = count; within = within; loads = loads; all = all })
 
 -- all files of the list were asked for
-pub loaded_all : (core : List ℕ) (shelf : PortMove Shelved) (l : ListedFiles) (status : Status) → AreLoaded core shelf l → NamesLoaded core (move shelf.before.loads shelf.after.loads) status
-loaded_all core shelf l status is =
-    are_asked core (desc_of l.maps) (move shelf.before.loads shelf.after.loads) status (length (asked_names (desc_of l.maps))) is.listed (omega arith) is.loads (inl refl)
+pub loaded_all : (core : List ℕ) (file_store : PortMove Shelved) (l : ListedFiles) (status : ExitStatus) → AreLoaded core file_store l → NamesLoaded core (move file_store.before.loads file_store.after.loads) status
+loaded_all core file_store l status is =
+    are_asked core (desc_of l.maps) (move file_store.before.loads file_store.after.loads) status (length (asked_names (desc_of l.maps))) is.listed (omega arith) is.loads (inl refl)
 
 -- there was no memory
-module _ (c : CoreBytes) (old new : Shelved) (source : Port) (out : PortMove Port) (status : Status) (d : Delivers (SaysRefusal refusal.OutOfMemory) out status) where
+module _ (c : CoreBytes) (old new : Shelved) (source : Port) (out : PortMove Port) (status : ExitStatus) (d : Delivers (SaysRefusal refusal.OutOfMemory) out status) where
   pub memory_written : (left : Option (List ℕ)) → IfSome old.files (λ told. IfSome source.bytes (λ input. Delivers (ExaminesMapped (mapped_call (mapped_crash told c) (move old.loads new.loads) (record { input = input; left = left }))) out status))
   memory_written left = where_both old.files source.bytes _ (λ told input.
       delivers_as (SaysRefusal refusal.OutOfMemory) (ExaminesMapped (mapped_call (mapped_crash told c) (move old.loads new.loads) (record { input = input; left = left }))) out status (λ text s says. inr (inl says)) d)
@@ -49,7 +49,7 @@ module _ (c : CoreBytes) (old new : Shelved) (source : Port) (out : PortMove Por
       let s = memory_stopped out status d in
       record {
         ports = memory_ports out status d source;
-        shelf = stopped_move old new status files later once s;
+        file_store = stopped_move old new status files later once s;
         loads = loads s;
         ends_so = stopped_so status s;
         yields = stopped_yields old.files c status s;
@@ -63,7 +63,7 @@ module _ (c : CoreBytes) (old new : Shelved) (source : Port) (out : PortMove Por
       never (inr h) = let bad : ends.OutOfMemory ≡ ends.Inconsistent = sym h ∙ e in let no : ⊥ = cc in absurd no
 
 -- the load of a name failed
-module _ (c : CoreBytes) (old new : Shelved) (source : Port) (out : PortMove Port) (status : Status) (name : List ℕ) (d : Delivers (TellsName name) out status) where
+module _ (c : CoreBytes) (old new : Shelved) (source : Port) (out : PortMove Port) (status : ExitStatus) (name : List ℕ) (d : Delivers (TellsName name) out status) where
   pub name_impossible : {P : Type 0} → status ≡ ends.Inconsistent → P
   name_impossible {P} e = never (name_told name out status d)
     where
@@ -85,14 +85,14 @@ module _ (c : CoreBytes) (old new : Shelved) (source : Port) (out : PortMove Por
         let within = stop.within in
         record {
           ports = name_ports name source out status d;
-          shelf = ended_move old new status files later once so (λ _. stop.rose);
+          file_store = ended_move old new status files later once so (λ _. stop.rose);
           loads = are_asked c.core stop.desc (move old.loads new.loads) status (suc stop.place) stop.listed (omega (arith, within)) stop.loads (inr so);
           ends_so = named_so status so;
           yields = named_yields old.files c status so;
         }
 
 -- the core file or its list is refused, or there was no memory for it
-module _ (c : CoreBytes) (old new : Shelved) (source : Port) (out : PortMove Port) (status : Status) (r : Refusal) (why : HasNoFiles c.core (move old new) (stops.Refused r)) (d : Delivers (SaysOrNoMemory r) out status) where
+module _ (c : CoreBytes) (old new : Shelved) (source : Port) (out : PortMove Port) (status : ExitStatus) (r : Refusal) (why : HasNoFiles c.core (move old new) (stops.Refused r)) (d : Delivers (SaysOrNoMemory r) out status) where
   -- what is written of a refusal is that of the same one
   told_as : (other : Refusal) → r ≡ other → Delivers (SaysOrNoMemory other) out status
   told_as other is = subst (λ (x : Refusal). Delivers (SaysOrNoMemory x) out status) is d
@@ -100,11 +100,11 @@ module _ (c : CoreBytes) (old new : Shelved) (source : Port) (out : PortMove Por
   no_memory : r ≡ refusal.OutOfMemory → Delivers (SaysRefusal refusal.OutOfMemory) out status
   no_memory is = delivers_as (SaysOrNoMemory refusal.OutOfMemory) (SaysRefusal refusal.OutOfMemory) out status (λ text s told. alike text s told) (told_as refusal.OutOfMemory is)
     where
-      alike : (text : List ℕ) (s : Status) → SaysOrNoMemory refusal.OutOfMemory text s → SaysRefusal refusal.OutOfMemory text s
+      alike : (text : List ℕ) (s : ExitStatus) → SaysOrNoMemory refusal.OutOfMemory text s → SaysRefusal refusal.OutOfMemory text s
       alike text s (inl says) = says
       alike text s (inr says) = says
 
-  refused_written : (call : MappedCall) → call.crash.bytes ≡ c → (text : List ℕ) (s : Status) → SaysOrNoMemory r text s → ExaminesMapped call text s
+  refused_written : (call : MappedCall) → call.crash.bytes ≡ c → (text : List ℕ) (s : ExitStatus) → SaysOrNoMemory r text s → ExaminesMapped call text s
   refused_written call same text s told = by why
     where
       said_as : (other : Refusal) → r ≡ other → SaysOrNoMemory other text s
@@ -127,15 +127,15 @@ module _ (c : CoreBytes) (old new : Shelved) (source : Port) (out : PortMove Por
       let call : MappedCall = mapped_call (mapped_crash told c) (move old.loads new.loads) (record { input = input; left = left }) in
       delivers_as (SaysOrNoMemory r) (ExaminesMapped call) out status (λ text s told. refused_written call refl text s told) d)
 
-  -- a refusal of the core file or its list, after which the shelf is as it was
+  -- a refusal of the core file or its list, after which the file store is as it was
   core_causes : (f : Refusal) → r ≡ f → (status_of f ≡ ends.Core) → (Yields ends.Core status → Ended old.files c status) → new ≡ old → IsExaminedMapped c (port_moves (move old new) (move source source) out) status
   core_causes f is core yields idle =
       let its = told_as f is in
-      let so = subst (λ (e : Status). Yields e status) core (ends_told f out status its) in
+      let so = subst (λ (e : ExitStatus). Yields e status) core (ends_told f out status its) in
       subst (λ (s : Shelved). IsExaminedMapped c (port_moves (move old s) (move source source) out) status) (sym idle)
       (record {
         ports = told_ports f source out status (λ e. not_input (sym core ∙ e)) (λ e. not_output (sym core ∙ e)) its;
-        shelf = idle_move old status (core_not_loading status so);
+        file_store = idle_move old status (core_not_loading status so);
         loads = inl (refl, so);
         ends_so = core_ends status so;
         yields = yields so;
@@ -162,7 +162,7 @@ module _ (c : CoreBytes) (old new : Shelved) (source : Port) (out : PortMove Por
       never : (f : Refusal) → status_of f ≡ ends.Core → r ≡ f → P
       never f core is =
           absurd (not_yielded ends.Core ends.Inconsistent status (λ (same : ends.Core ≡ ends.Inconsistent). cc) (λ (same : ends.Inconsistent ≡ ends.OutputFault). cc) (λ (same : ends.Inconsistent ≡ ends.OutOfMemory). cc)
-          (subst (λ (s : Status). Yields s status) core (ends_told f out status (told_as f is))) e)
+          (subst (λ (s : ExitStatus). Yields s status) core (ends_told f out status (told_as f is))) e)
 
       by : HasNoFiles c.core (move old new) (stops.Refused r) → P
       by (inl (inl (fault, refused, is), idle)) = never (refusal.CoreImage fault) refl is
@@ -170,7 +170,7 @@ module _ (c : CoreBytes) (old new : Shelved) (source : Port) (out : PortMove Por
       by (inr (is, cut)) = memory_impossible c old new source out status (no_memory is) e
 
 -- all that are there were loaded, and the files are examined
-module _ (c : CoreBytes) (old new : Shelved) (source out : PortMove Port) (status : Status) (desc : List ℕ) (ms : List Mapping) (program : IfSome old.files (λ files. ms ≡ mapped_files files desc)) (accepted : core_image_fault c.core ≡ None) (listed : ListSays c.core (Ok desc)) where
+module _ (c : CoreBytes) (old new : Shelved) (source out : PortMove Port) (status : ExitStatus) (desc : List ℕ) (ms : List Mapping) (program : IfSome old.files (λ files. ms ≡ mapped_files files desc)) (accepted : core_image_fault c.core ≡ None) (listed : ListSays c.core (Ok desc)) where
   program_at : (files : Files) → old.files ≡ Some files → ms ≡ mapped_files files desc
   program_at files told = let P : Option Files → Type 0 = λ o. IfSome o (λ fs. ms ≡ mapped_files fs desc) in subst P told program
 
@@ -195,7 +195,7 @@ module _ (c : CoreBytes) (old new : Shelved) (source out : PortMove Port) (statu
         → IsExamined (parts_bytes ms c) source out status → IsExaminedMapped c (port_moves (move old new) source out) status
     files_causes never files later calm loads is = record {
       ports = is.ports;
-      shelf = calm_move old new status files later calm (never_loading status is.ends_so);
+      file_store = calm_move old new status files later calm (never_loading status is.ends_so);
       loads = are_asked c.core desc (move old.loads new.loads) status (length (asked_names desc)) listed (omega arith) loads (inl refl);
       ends_so = examined_so status never is.ends_so;
       yields = files_end is.yields;

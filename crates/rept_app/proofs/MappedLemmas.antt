@@ -17,13 +17,13 @@ use Rattle.rept_app.specs.Mapped.{NamesMove}
 use Rattle.rept_app.specs.MappedEnds.{ExaminesMapped, ListEnds, MappedCall, MappedEnd, MappedExcludes, MappedHolds}
 use Rattle.rept_app.specs.Told.{Examined}
 use Rattle.rept_opening.specs.declared.refusal.Refusal.TheVariants as refusal
-use Rattle.rept_opening.specs.declared.status.Status.{Status}
-use Rattle.rept_opening.specs.declared.status.Status.TheVariants as ends
+use Rattle.rept_opening.specs.declared.status.ExitStatus.{ExitStatus}
+use Rattle.rept_opening.specs.declared.status.ExitStatus.TheVariants as ends
 use Rattle.rept_app.proofs.ExamineLemmas.{all_walks, stopped_end}
 use Rattle.rept_app.proofs.Counted.{counted}
 
 -- a call that stopped ends so whatever the core file lists
-pub mapped_stopped : (m : MappedCrash) (status : Status) → Stopped status → MappedEnd m status
+pub mapped_stopped : (m : MappedCrash) (status : ExitStatus) → Stopped status → MappedEnd m status
 mapped_stopped m status s = at (core_image_fault m.bytes.core)
   where
     list : (said : Result (List ℕ) MapFault) → ListEnds m said status
@@ -35,7 +35,7 @@ mapped_stopped m status s = at (core_image_fault m.bytes.core)
     at None = λ said says. list said
 
 -- a trace that is walked isn't ended by its executable
-pub not_executable : (status : Status) → IsWalkStatus status → status ≡ ends.Executable → ⊥
+pub not_executable : (status : ExitStatus) → IsWalkStatus status → status ≡ ends.Executable → ⊥
 not_executable status (inl h) e = cc
 not_executable status (inr (inl h)) e = cc
 not_executable status (inr (inr (inl h))) e = cc
@@ -44,7 +44,7 @@ not_executable status (inr (inr (inr (inr (inl h))))) e = cc
 not_executable status (inr (inr (inr (inr (inr (inl h)))))) e = cc
 not_executable status (inr (inr (inr (inr (inr (inr h)))))) e = cc
 
-not_load_fault : (status : Status) → IsWalkStatus status → status ≡ ends.LoadFault → ⊥
+not_load_fault : (status : ExitStatus) → IsWalkStatus status → status ≡ ends.LoadFault → ⊥
 not_load_fault status (inl h) e = cc
 not_load_fault status (inr (inl h)) e = cc
 not_load_fault status (inr (inr (inl h))) e = cc
@@ -53,21 +53,21 @@ not_load_fault status (inr (inr (inr (inr (inl h))))) e = cc
 not_load_fault status (inr (inr (inr (inr (inr (inl h)))))) e = cc
 not_load_fault status (inr (inr (inr (inr (inr (inr h)))))) e = cc
 
-stopped_fails : (status : Status) → Stopped status → status ≡ ends.LoadFault → ⊥
+stopped_fails : (status : ExitStatus) → Stopped status → status ≡ ends.LoadFault → ⊥
 stopped_fails status s e = not_load_fault status (all_walks status (inr s)) e
 
 -- where there was no memory
-pub memory_stopped : (out : PortMove Port) (status : Status) → Delivers (SaysRefusal refusal.OutOfMemory) out status → Stopped status
+pub memory_stopped : (out : PortMove Port) (status : ExitStatus) → Delivers (SaysRefusal refusal.OutOfMemory) out status → Stopped status
 memory_stopped out status (inl (text, says, written, calm)) = inr says.ending
 memory_stopped out status (inr (e, fault, whole)) = inl e
 
 -- the line of a name
-pub name_told : (name : List ℕ) (out : PortMove Port) (status : Status) → Delivers (TellsName name) out status → (status ≡ ends.LoadFault) ⊎ Stopped status
+pub name_told : (name : List ℕ) (out : PortMove Port) (status : ExitStatus) → Delivers (TellsName name) out status → (status ≡ ends.LoadFault) ⊎ Stopped status
 name_told name out status (inl (text, inl h, written, calm)) = inl h.1
 name_told name out status (inl (text, inr says, written, calm)) = inr (inr says.ending)
 name_told name out status (inr (e, fault, whole)) = inr (inl e)
 
-pub name_ports : (name : List ℕ) (source : Port) (out : PortMove Port) (status : Status) → Delivers (TellsName name) out status → PortsEnd (move source source) out status
+pub name_ports : (name : List ℕ) (source : Port) (out : PortMove Port) (status : ExitStatus) → Delivers (TellsName name) out status → PortsEnd (move source source) out status
 name_ports name source out status d = record {
   input = λ e. absurd (unread (name_told name out status d) e);
   input_ends = inl refl;
@@ -89,8 +89,8 @@ name_ports name source out status d = record {
     count (inl h) = inl h.3
     count (inr h) = inr (h.1, h.0)
 
--- what loads of names did to a shelf
-module _ (old new : Shelved) (status : Status) where
+-- what loads of names did to a file store
+module _ (old new : Shelved) (status : ExitStatus) where
   told_move : (o : Option Files) → old.faults ≤ new.faults → IfSome o (λ _. new.faults ≤ old.faults + 1) → (status ≡ ends.LoadFault) ⊎ Stopped status
       → IfSome o (λ _. FaultEnds old.faults new.faults ((status ≡ ends.LoadFault) ⊎ Stopped status))
   told_move None later once so = tt
@@ -110,7 +110,7 @@ module _ (old new : Shelved) (status : Status) where
   pub calm_move : new.files ≡ old.files → old.faults ≤ new.faults → IfSome old.files (λ _. new.faults ≡ old.faults) → (status ≡ ends.LoadFault → ⊥) → NamesMove (move old new) status
   calm_move files later calm never = record { files = files; later = later; told = calm_told ((status ≡ ends.LoadFault) ⊎ Stopped status) old.files calm; failed = λ e. absurd (never e) }
 
-pub idle_move : (old : Shelved) (status : Status) → (status ≡ ends.LoadFault → ⊥) → NamesMove (move old old) status
+pub idle_move : (old : Shelved) (status : ExitStatus) → (status ≡ ends.LoadFault → ⊥) → NamesMove (move old old) status
 idle_move old status never = calm_move old old status refl (omega arith) (same old.files) never
   where
     same : (o : Option Files) → IfSome o (λ _. old.faults ≡ old.faults)
@@ -118,23 +118,23 @@ idle_move old status never = calm_move old old status refl (omega arith) (same o
     same (Some files) = refl
 
 -- a refusal of the core file or its list
-pub core_not_loading : (status : Status) → Yields ends.Core status → status ≡ ends.LoadFault → ⊥
+pub core_not_loading : (status : ExitStatus) → Yields ends.Core status → status ≡ ends.LoadFault → ⊥
 core_not_loading status (inl h) e = cc
 core_not_loading status (inr s) e = stopped_fails status s e
 
-pub core_ends : (status : Status) → Yields ends.Core status → (status ≡ ends.LoadFault) ⊎ (status ≡ ends.Core) ⊎ IsWalkStatus status
+pub core_ends : (status : ExitStatus) → Yields ends.Core status → (status ≡ ends.LoadFault) ⊎ (status ≡ ends.Core) ⊎ IsWalkStatus status
 core_ends status (inl h) = inr (inl h)
 core_ends status (inr s) = inr (inr (all_walks status (inr s)))
 
-pub stopped_so : (status : Status) → Stopped status → (status ≡ ends.LoadFault) ⊎ (status ≡ ends.Core) ⊎ IsWalkStatus status
+pub stopped_so : (status : ExitStatus) → Stopped status → (status ≡ ends.LoadFault) ⊎ (status ≡ ends.Core) ⊎ IsWalkStatus status
 stopped_so status s = inr (inr (all_walks status (inr s)))
 
-pub named_so : (status : Status) → (status ≡ ends.LoadFault) ⊎ Stopped status → (status ≡ ends.LoadFault) ⊎ (status ≡ ends.Core) ⊎ IsWalkStatus status
+pub named_so : (status : ExitStatus) → (status ≡ ends.LoadFault) ⊎ Stopped status → (status ≡ ends.LoadFault) ⊎ (status ≡ ends.Core) ⊎ IsWalkStatus status
 named_so status (inl h) = inl h
 named_so status (inr s) = stopped_so status s
 
--- the files, where the shelf tells them, and a core file
-module _ (o : Option Files) (c : CoreBytes) (status : Status) where
+-- the files, where the file store tells them, and a core file
+module _ (o : Option Files) (c : CoreBytes) (status : ExitStatus) where
   abbrev pub Ended : Type 0
   Ended = IfSome o (λ files. MappedEnd (mapped_crash files c) status ⊎ (status ≡ ends.LoadFault))
 
@@ -142,14 +142,14 @@ pub where_files : (o : Option Files) (P : Files → Type 0) → ((files : Files)
 where_files None P h = tt
 where_files (Some files) P h = h files refl
 
-pub stopped_yields : (o : Option Files) (c : CoreBytes) (status : Status) → Stopped status → Ended o c status
+pub stopped_yields : (o : Option Files) (c : CoreBytes) (status : ExitStatus) → Stopped status → Ended o c status
 stopped_yields o c status s = where_files o (λ files. MappedEnd (mapped_crash files c) status ⊎ (status ≡ ends.LoadFault)) (λ files is. inl (mapped_stopped (mapped_crash files c) status s))
 
-pub named_yields : (o : Option Files) (c : CoreBytes) (status : Status) → (status ≡ ends.LoadFault) ⊎ Stopped status → Ended o c status
+pub named_yields : (o : Option Files) (c : CoreBytes) (status : ExitStatus) → (status ≡ ends.LoadFault) ⊎ Stopped status → Ended o c status
 named_yields o c status (inl e) = where_files o (λ files. MappedEnd (mapped_crash files c) status ⊎ (status ≡ ends.LoadFault)) (λ files is. inr e)
 named_yields o c status (inr s) = stopped_yields o c status s
 
-pub image_yields : (o : Option Files) (c : CoreBytes) (status : Status) (f : ElfFault) → Some f ≡ core_image_fault c.core → Yields ends.Core status → Ended o c status
+pub image_yields : (o : Option Files) (c : CoreBytes) (status : ExitStatus) (f : ElfFault) → Some f ≡ core_image_fault c.core → Yields ends.Core status → Ended o c status
 image_yields o c status f e so = where_files o (λ files. MappedEnd (mapped_crash files c) status ⊎ (status ≡ ends.LoadFault)) (λ files is. inl (at files))
   where
     at : (files : Files) → MappedEnd (mapped_crash files c) status
@@ -159,16 +159,16 @@ image_yields o c status f e so = where_files o (λ files. MappedEnd (mapped_cras
 
 -- how an accepted core file ends the call, by what its list says
 module _ (m : MappedCrash) (accepted : core_image_fault m.bytes.core ≡ None) (here : Result (List ℕ) MapFault) (only : (said : Result (List ℕ) MapFault) → ListSays m.bytes.core said → said ≡ here) where
-  pub list_ends : (status : Status) → ListEnds m here status → MappedEnd m status
+  pub list_ends : (status : ExitStatus) → ListEnds m here status → MappedEnd m status
   list_ends status yields =
       let P : Option ElfFault → Type 0 = λ w. MatchOption w ((said : Result (List ℕ) MapFault) → ListSays m.bytes.core said → ListEnds m said status) (λ _. Yields ends.Core status) in
       subst P (sym accepted) (λ said says. subst (λ (s : Result (List ℕ) MapFault). ListEnds m s status) (sym (only said says)) yields)
 
-pub list_yields : (o : Option Files) (c : CoreBytes) (status : Status) (f : MapFault) → core_image_fault c.core ≡ None → ((said : Result (List ℕ) MapFault) → ListSays c.core said → said ≡ Err f) → Yields ends.Core status → Ended o c status
+pub list_yields : (o : Option Files) (c : CoreBytes) (status : ExitStatus) (f : MapFault) → core_image_fault c.core ≡ None → ((said : Result (List ℕ) MapFault) → ListSays c.core said → said ≡ Err f) → Yields ends.Core status → Ended o c status
 list_yields o c status f accepted only so = where_files o (λ files. MappedEnd (mapped_crash files c) status ⊎ (status ≡ ends.LoadFault)) (λ files is. inl (list_ends (mapped_crash files c) accepted (Err f) only status so))
 
 -- what is written
-module _ (c : MappedCall) (text : List ℕ) (status : Status) where
+module _ (c : MappedCall) (text : List ℕ) (status : ExitStatus) where
   abbrev Whole : Option ElfFault → Type 0
   Whole o = MatchOption o
       ((said : Result (List ℕ) MapFault) × ListSays c.crash.bytes.core said × MatchResult said (λ desc. Examined (mapped_bytes c.crash desc) c.reading.input text status) (λ fault. SaysRefusal (refusal.Maps fault) text status))
@@ -198,7 +198,7 @@ said_list desc = Ok desc
 
 -- a session may have been held, and no execution ends in the crash
 module _ (m : MappedCrash) (accepted : core_image_fault m.bytes.core ≡ None) (desc : List ℕ) where
-  pub files_held : (status : Status) → ListSays m.bytes.core (Ok desc) → FilesHold (mapped_bytes m desc) status → MappedHolds m status
+  pub files_held : (status : ExitStatus) → ListSays m.bytes.core (Ok desc) → FilesHold (mapped_bytes m desc) status → MappedHolds m status
   files_held status listed h = (mapped_bytes m desc, record { accepted = accepted; desc = desc; listed = listed; same = refl }, h)
 
   same_desc : (other : List ℕ) → said_list other ≡ said_list desc → other ≡ desc
@@ -210,16 +210,16 @@ module _ (m : MappedCrash) (accepted : core_image_fault m.bytes.core ≡ None) (
       subst FilesExclude (sym same) none
 
 -- how an examination ends, as one of mapped files
-pub examined_so : (status : Status) → (status ≡ ends.Executable → ⊥) → (status ≡ ends.Executable) ⊎ (status ≡ ends.Core) ⊎ IsWalkStatus status → (status ≡ ends.LoadFault) ⊎ (status ≡ ends.Core) ⊎ IsWalkStatus status
+pub examined_so : (status : ExitStatus) → (status ≡ ends.Executable → ⊥) → (status ≡ ends.Executable) ⊎ (status ≡ ends.Core) ⊎ IsWalkStatus status → (status ≡ ends.LoadFault) ⊎ (status ≡ ends.Core) ⊎ IsWalkStatus status
 examined_so status never (inl h) = absurd (never h)
 examined_so status never (inr h) = inr h
 
-pub never_loading : (status : Status) → (status ≡ ends.Executable) ⊎ (status ≡ ends.Core) ⊎ IsWalkStatus status → status ≡ ends.LoadFault → ⊥
+pub never_loading : (status : ExitStatus) → (status ≡ ends.Executable) ⊎ (status ≡ ends.Core) ⊎ IsWalkStatus status → status ≡ ends.LoadFault → ⊥
 never_loading status (inl h) e = cc
 never_loading status (inr (inl h)) e = cc
 never_loading status (inr (inr h)) e = not_load_fault status h e
 
-pub not_walked_so : (status other : Status) → (ends.LoadFault ≡ other → ⊥) → (ends.Core ≡ other → ⊥) → (IsWalkStatus other → ⊥) → (status ≡ ends.LoadFault) ⊎ (status ≡ ends.Core) ⊎ IsWalkStatus status → status ≡ other → ⊥
+pub not_walked_so : (status other : ExitStatus) → (ends.LoadFault ≡ other → ⊥) → (ends.Core ≡ other → ⊥) → (IsWalkStatus other → ⊥) → (status ≡ ends.LoadFault) ⊎ (status ≡ ends.Core) ⊎ IsWalkStatus status → status ≡ other → ⊥
 not_walked_so status other a b d (inl h) e = a (sym h ∙ e)
 not_walked_so status other a b d (inr (inl h)) e = b (sym h ∙ e)
 not_walked_so status other a b d (inr (inr h)) e = d (subst IsWalkStatus e h)

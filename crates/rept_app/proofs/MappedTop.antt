@@ -14,22 +14,22 @@ use Rattle.rept_app.specs.MappedEnds.{ExaminesMapped, IsExaminedMapped, MappedEn
 use Rattle.rept_app.specs.Claims.{ComeToReport, NoExecution}
 use Rattle.rept_app.specs.Told.{CallInput, call_input, ToldOf, CallWrites}
 use Rattle.rept_opening.specs.Opened.{IsCrashOf}
-use Rattle.rept_app.specs.Top.{AskedEnds, EndsAt, EndsByFiles, LacksFile, LoadEnds, LoadsOf, ShelfCauses, TopCauses}
+use Rattle.rept_app.specs.Top.{AskedEnds, EndsAt, EndsByFiles, LacksFile, LoadEnds, LoadsOf, FileStoreCauses, TopCauses}
 use Rattle.rept_words.specs.Words.{Meaning}
 use Rattle.rept_words.specs.Words.Meaning.{Open, Maps, Made}
-use Rattle.rept_opening.specs.declared.load.Asked.{Asked}
-use Rattle.rept_opening.specs.declared.load.Asked.TheVariants as asked
+use Rattle.rept_opening.specs.declared.load.LoadedRequest.{LoadedRequest}
+use Rattle.rept_opening.specs.declared.load.LoadedRequest.TheVariants as asked
 use Rattle.rept_opening.specs.declared.load.CoreFiles.{CoreFiles}
 use Rattle.rept_opening.specs.declared.refusal.FileKind.TheVariants as file
 use Rattle.rept_opening.specs.declared.refusal.Refusal.{Refusal}
-use Rattle.rept_opening.specs.declared.status.Status.{Status}
-use Rattle.rept_opening.specs.declared.status.Status.TheVariants as ends
+use Rattle.rept_opening.specs.declared.status.ExitStatus.{ExitStatus}
+use Rattle.rept_opening.specs.declared.status.ExitStatus.TheVariants as ends
 use Rattle.rept_app.proofs.MappedLemmas.{not_walked_so}
 use Rattle.rept_opening.proofs.LoadingLemmas.{ok_at}
 use Rattle.rept_app.proofs.TopLemmas.{opening}
 
 -- both files were loaded
-pub both_at : (r : Result Asked Refusal) (a : Asked) (l : CoreFiles) (m : Option Meaning) (old new : Shelved) → r ≡ Ok a → a ≡ asked.Maps l → IfOk r (λ x. IsAsked x m (move old new)) → LoadsBoth m l.core.items (move old new)
+pub both_at : (r : Result LoadedRequest Refusal) (a : LoadedRequest) (l : CoreFiles) (m : Option Meaning) (old new : Shelved) → r ≡ Ok a → a ≡ asked.Maps l → IfOk r (λ x. IsAsked x m (move old new)) → LoadsBoth m l.core.items (move old new)
 both_at r a l m old new e same h = (ok_at r a (asked.Maps l) (λ x. IsAsked x m (move old new)) e same h).0
 
 pub both_loads : (m : Option Meaning) (core : List ℕ) (old mid : Shelved) → LoadsBoth m core (move old mid) → mid.loads ≡ core_loads_to file.Trace old.loads
@@ -49,7 +49,7 @@ both_mean {P} m core old mid h e =
     let none : LoadsBoth None core (move old mid) = subst (λ (x : Option Meaning). LoadsBoth x core (move old mid)) e h in
     absurd none
 
-pub both_asks : (m : Option Meaning) (core : List ℕ) (old mid : Shelved) (status : Status) → LoadsBoth m core (move old mid) → AskedEnds m status
+pub both_asks : (m : Option Meaning) (core : List ℕ) (old mid : Shelved) (status : ExitStatus) → LoadsBoth m core (move old mid) → AskedEnds m status
 both_asks None core old mid status h = tt
 both_asks (Some (Made seed steps)) core old mid status h = absurd h
 both_asks (Some (Maps names from)) core old mid status h = tt
@@ -84,7 +84,7 @@ no_walk_usage (inr (inr (inr (inr (inr (inl h)))))) = cc
 no_walk_usage (inr (inr (inr (inr (inr (inr h)))))) = cc
 
 -- the ports
-module _ (old mid new : Shelved) (c : CoreBytes) (source sink : PortMove Port) (status : Status) (files : mid.files ≡ old.files) (calm : mid.faults ≡ old.faults) (is : IsExaminedMapped c (port_moves (move mid new) source sink) status) where
+module _ (old mid new : Shelved) (c : CoreBytes) (source sink : PortMove Port) (status : ExitStatus) (files : mid.files ≡ old.files) (calm : mid.faults ≡ old.faults) (is : IsExaminedMapped c (port_moves (move mid new) source sink) status) where
   rose : Rose mid.faults new.faults → Rose old.faults new.faults
   rose h = subst (λ n. Rose n new.faults) calm h
 
@@ -99,17 +99,17 @@ module _ (old mid new : Shelved) (c : CoreBytes) (source sink : PortMove Port) (
   pub mapped_causes : TopCauses (move old new) source sink status
   mapped_causes = record {
     ports = is.ports;
-    load = λ e. rose (is.shelf.failed e);
+    load = λ e. rose (is.file_store.failed e);
     untold = any old.files;
-    later = subst (λ n. n ≤ new.faults) calm is.shelf.later;
-    files = is.shelf.files ∙ files;
+    later = subst (λ n. n ≤ new.faults) calm is.file_store.later;
+    files = is.file_store.files ∙ files;
   }
 
   abbrev Counts : Type 0
   Counts = FaultEnds old.faults new.faults ((status ≡ ends.LoadFault) ⊎ Stopped status)
 
   one_fault : Counts → status ≡ ends.LoadFault → OneFault old.faults new.faults
-  one_fault (inl same) e = record { rose = rose (is.shelf.failed e); later = omega (arith, same); once = omega (arith, same) }
+  one_fault (inl same) e = record { rose = rose (is.file_store.failed e); later = omega (arith, same); once = omega (arith, same) }
   one_fault (inr (one, so)) e = one
 
   load_ends : (o : Option Files) → Counts → FaultEnds old.faults new.faults (LoadEnds o status)
@@ -125,12 +125,12 @@ module _ (old mid new : Shelved) (c : CoreBytes) (source sink : PortMove Port) (
   counts_here =
       let P : ℕ → Type 0 = λ n. IfSome mid.files (λ _. FaultEnds n new.faults ((status ≡ ends.LoadFault) ⊎ Stopped status)) in
       let Q : Option Files → Type 0 = λ o. IfSome o (λ _. Counts) in
-      subst Q files (subst P calm is.shelf.told)
+      subst Q files (subst P calm is.file_store.told)
 
-  by_counts : Counts → ShelfCauses (move old new) status
+  by_counts : Counts → FileStoreCauses (move old new) status
   by_counts h = record { load = one_fault h; load_ends = load_ends old.files h }
 
-  pub mapped_once : (m : Option Meaning) → LoadsBoth m c.core (move old mid) → FaultsEnd m old.files → ShelfCauses (move old new) status
+  pub mapped_once : (m : Option Meaning) → LoadsBoth m c.core (move old mid) → FaultsEnd m old.files → FileStoreCauses (move old new) status
   mapped_once None h ends_all = absurd h
   mapped_once (Some (Made seed steps)) h ends_all = absurd h
   mapped_once (Some (Open d names from)) h ends_all = absurd h
@@ -146,7 +146,7 @@ module _ (old mid new : Shelved) (c : CoreBytes) (source sink : PortMove Port) (
   pub mapped_usage : {P : Type 0} → status ≡ ends.Usage → P
   mapped_usage e = absurd (not_walked_so status ends.Usage (λ (k : ends.LoadFault ≡ ends.Usage). cc) (λ (k : ends.Core ≡ ends.Usage). cc) no_walk_usage is.ends_so e)
 
--- what is said where the shelf told its files before, is said where it tells them later
+-- what is said where the file store told its files before, is said where it tells them later
 pub as_before : (o o' : Option Files) (P : Files → Type 0) → o' ≡ o → IfSome o' P → IfSome o P
 as_before o o' P e h = let Q : Option Files → Type 0 = λ w. IfSome w P in subst Q e h
 
@@ -155,28 +155,28 @@ module _ (words : List (List ℕ)) (files : Files) (c : CoreBytes) (at : loading
   opens_as : (bytes : CrashBytes) → IsMappedAs (mapped_crash files c) bytes → IsCrashOf files (loading words files) bytes
   opens_as bytes is = subst (λ (l : Loading). IsCrashOf files l bytes) (sym at) is
 
-  pub mapped_ends : (status : Status) → MappedEnd (mapped_crash files c) status ⊎ (status ≡ ends.LoadFault) → EndsByFiles words files status
+  pub mapped_ends : (status : ExitStatus) → MappedEnd (mapped_crash files c) status ⊎ (status ≡ ends.LoadFault) → EndsByFiles words files status
   mapped_ends status h = subst (λ (l : Loading). EndsAt files l status) (sym at) h
 
-  pub mapped_holds : (status : Status) → MappedHolds (mapped_crash files c) status → ComeToReport words files
+  pub mapped_holds : (status : ExitStatus) → MappedHolds (mapped_crash files c) status → ComeToReport words files
   mapped_holds status (bytes, is, ((notes, run, read, traced, consistent), so)) = (opening bytes notes run, record { loaded = opens_as bytes is; read = read; told = traced }, consistent)
 
   pub mapped_excludes : MappedExcludes (mapped_crash files c) → NoExecution words files
   mapped_excludes none o opens = none o.bytes (subst (λ (l : Loading). IsCrashOf files l o.bytes) at opens.loaded) o.notes opens.read o.run opens.told
 
-  module _ (shelf : PortMove Shelved) (asked_before : ℕ) (reading : Reading) (text : List ℕ) (status : Status) (loads : asked_before ≡ core_loads_to file.Trace shelf.before.loads) where
+  module _ (file_store : PortMove Shelved) (asked_before : ℕ) (reading : Reading) (text : List ℕ) (status : ExitStatus) (loads : asked_before ≡ core_loads_to file.Trace file_store.before.loads) where
     abbrev Here : CallInput
-    Here = call_input words files shelf reading
+    Here = call_input words files file_store reading
 
-    pub mapped_writes : ExaminesMapped (mapped_call (mapped_crash files c) (move asked_before shelf.after.loads) reading) text status → CallWrites Here text status
+    pub mapped_writes : ExaminesMapped (mapped_call (mapped_crash files c) (move asked_before file_store.after.loads) reading) text status → CallWrites Here text status
     mapped_writes (inl told) = inl (subst (λ (l : Loading). ToldOf Here l text status) (sym at) told)
     mapped_writes (inr (inl says)) = inr (inr (inl says))
-    mapped_writes (inr (inr (inl fails))) = inr (inl (inr (inr (c, at, subst (λ n. NameFails (mapped_crash files c) (move n shelf.after.loads) text status) loads fails))))
+    mapped_writes (inr (inr (inl fails))) = inr (inl (inr (inr (c, at, subst (λ n. NameFails (mapped_crash files c) (move n file_store.after.loads) text status) loads fails))))
     mapped_writes (inr (inr (inr (bytes, notes, is, read, (run, a, traced, account, cut))))) =
         inr (inr (inr (inl (opening bytes notes run, a, record { loaded = opens_as bytes is; read = read; told = traced }, account, cut))))
 
 -- a session may have been held where the files are told
-pub mapped_stays : {P : Type 0} (o o' : Option Files) (H K : Files → Type 0) (status : Status) → o' ≡ o → ((files : Files) → o ≡ Some files → K files → H files) → P ⊎ (EndsSession status × IfSome o' K) → P ⊎ (EndsSession status × IfSome o H)
+pub mapped_stays : {P : Type 0} (o o' : Option Files) (H K : Files → Type 0) (status : ExitStatus) → o' ≡ o → ((files : Files) → o ≡ Some files → K files → H files) → P ⊎ (EndsSession status × IfSome o' K) → P ⊎ (EndsSession status × IfSome o H)
 mapped_stays o o' H K status e h (inl p) = inl p
 mapped_stays o o' H K status e h (inr (so, k)) = inr (so, each o (as_before o o' K e k) h)
   where

@@ -1,4 +1,5 @@
--- The promise of the whole program, from what is written, what the files say, and what is true of every report.
+-- The promise of the whole program, from what is written, what the files say, and what is true of
+-- every report.
 use Rattle.std.proofs.Common.{◌≡◌, ◌⊎◌, ℕ, List, [], length, Bool, true, false, Option, None, Some, MatchOption, Result, Ok, Err, MatchResult, inl, inr, refl, sym, subst, ◌∙◌, cond, nat_lt}
 use Rattle.std.specs.Io.KnownBytes.{Appends}
 use Rattle.rept_ports.specs.Port.{Port, PortMove}
@@ -24,9 +25,9 @@ use Rattle.rept_opening.specs.declared.refusal.FileKind.{FileKind}
 use Rattle.rept_opening.specs.declared.refusal.FileKind.TheVariants as file
 use Rattle.rept_opening.specs.declared.refusal.Refusal.{Refusal}
 use Rattle.rept_opening.specs.declared.refusal.Refusal.TheVariants as refusal
-use Rattle.rept_opening.specs.declared.status.Status.{Status}
-use Rattle.rept_opening.specs.declared.status.Status.TheVariants as ends
-use Rattle.rept_opening.specs.declared.load.Manner.{Manner}
+use Rattle.rept_opening.specs.declared.status.ExitStatus.{ExitStatus}
+use Rattle.rept_opening.specs.declared.status.ExitStatus.TheVariants as ends
+use Rattle.rept_opening.specs.declared.load.OpenOptions.{OpenOptions}
 use Rattle.rept_app.proofs.Failing.{load_ending}
 use Rattle.rept_opening.proofs.RunLemmas.{IsWhole}
 use Rattle.rept_opening.proofs.TrueLemmas.{ReportsAreTrue, opened_whole}
@@ -89,13 +90,13 @@ one_file : (kind : FileKind) (o : Option (List ℕ)) (next : List ℕ → Loadin
 one_file kind None next h = λ (e : ends.NoFile ≡ ends.Inconsistent). cc
 one_file kind (Some bytes) next h = either (nat_lt (limit_of kind) (length bytes)) (Refused (refusal.TooLarge kind)) (next bytes) (λ (e : ends.TooLarge ≡ ends.Inconsistent). cc) (h bytes)
 
-all_files : (files : Files) (names : Names) (manner : Manner) → IsNoConflict (fetched_all files names manner)
+all_files : (files : Files) (names : Names) (manner : OpenOptions) → IsNoConflict (fetched_all files names manner)
 all_files files names manner =
     one_file file.Exe (files names.exe) (λ exe. fetched file.Core (files names.core) (λ core. fetched file.Trace (files names.trace) (λ trace. Loaded (crash_bytes exe core trace manner))))
     (λ exe. one_file file.Core (files names.core) (λ core. fetched file.Trace (files names.trace) (λ trace. Loaded (crash_bytes exe core trace manner)))
     (λ core. one_file file.Trace (files names.trace) (λ trace. Loaded (crash_bytes exe core trace manner)) (λ trace. tt)))
 
-two_files : (files : Files) (names : CoreNames) (manner : Manner) → IsNoConflict (fetched_core files names manner)
+two_files : (files : Files) (names : CoreNames) (manner : OpenOptions) → IsNoConflict (fetched_core files names manner)
 two_files files names manner =
     one_file file.Core (files names.core) (λ core. fetched file.Trace (files names.trace) (λ trace. LoadedCore (core_bytes core trace manner)))
     (λ core. one_file file.Trace (files names.trace) (λ trace. LoadedCore (core_bytes core trace manner)) (λ trace. tt))
@@ -107,15 +108,15 @@ no_conflict files (Some (Maps names from)) = two_files files names (manner_of do
 no_conflict files (Some (Open d names from)) = all_files files names (manner_of d from)
 
 -- the trace of these files tells a run, and it is analysed
-pub record Analyses (bytes : CrashBytes) (lines text : List ℕ) (status : Status) : Type 0 where
+pub record Analyses (bytes : CrashBytes) (lines text : List ℕ) (status : ExitStatus) : Type 0 where
   pub opening : Opening
   pub same : opening.bytes ≡ bytes
   pub read : ReadsNotes opening.bytes opening.notes
   pub told : IsRunOf (crash_at opening) opening.bytes.trace opening.bytes.manner.from opening.run
   pub analysed : Analysed (run_at opening) lines text status
 
-module _ (lines text : List ℕ) (status : Status) (promised : (status ≡ ends.Ok) ⊎ (status ≡ ends.Inconsistent)) where
-  never : {P : Type 0} (other : Status) → (other ≡ ends.Ok → ⊥) → (other ≡ ends.Inconsistent → ⊥) → status ≡ other → P
+module _ (lines text : List ℕ) (status : ExitStatus) (promised : (status ≡ ends.Ok) ⊎ (status ≡ ends.Inconsistent)) where
+  never : {P : Type 0} (other : ExitStatus) → (other ≡ ends.Ok → ⊥) → (other ≡ ends.Inconsistent → ⊥) → status ≡ other → P
   never {P = P} other not_ok consistent e = by_status promised
     where
       by_status : (status ≡ ends.Ok) ⊎ (status ≡ ends.Inconsistent) → P
@@ -154,11 +155,12 @@ module _ (lines text : List ℕ) (status : Status) (promised : (status ≡ ends.
     pub examined : Examined bytes lines text status → Analyses bytes lines text status
     examined h = exe_read (program_fault bytes.program) refl h
 
--- What was written is that of a run which is analysed: that of the files of the words, or of a made crash.
-abbrev pub IsOf : CallInput → List ℕ → Status → Type 0
+-- What was written is that of a run which is analysed: that of the files of the words, or of a made
+-- crash.
+abbrev pub IsOf : CallInput → List ℕ → ExitStatus → Type 0
 IsOf g text status = (o : Opening) × (lines : List ℕ) × IsOpened g o lines × Analysed (run_at o) lines text status
 
-module _ (g : CallInput) (text : List ℕ) (status : Status) (promised : (status ≡ ends.Ok) ⊎ (status ≡ ends.Inconsistent)) where
+module _ (g : CallInput) (text : List ℕ) (status : ExitStatus) (promised : (status ≡ ends.Ok) ⊎ (status ≡ ends.Inconsistent)) where
   refused : (r : Refusal) → loading g.words g.files ≡ Refused r → status ≡ status_of r → IsOf g text status
   refused r e ending = by_status promised
     where
@@ -256,7 +258,7 @@ module _ (true_of : ReportsAreTrue) (g : CallInput) (out : PortMove Port) where
   conflict_delivered files none (inl (text, goes, written, calm)) = impossible_by files none text (whole_conflict g text goes)
   conflict_delivered files none (inr (e, fault, rest)) = let bad : ends.Inconsistent ≡ ends.OutputFault = e in let no : ⊥ = cc in absurd no
 
-  pub promised : (status : Status) → Delivers (CallWrites g) out status → EndsByFiles g.words g.files status → (status ≡ ends.Inconsistent → NoExecution g.words g.files) → Promise g out status
+  pub promised : (status : ExitStatus) → Delivers (CallWrites g) out status → EndsByFiles g.words g.files status → (status ≡ ends.Inconsistent → NoExecution g.words g.files) → Promise g out status
   promised status delivers files none = record {
     answered = λ e. ok_delivered (subst (Delivers (CallWrites g) out) e delivers);
     impossible = λ e. conflict_delivered (subst (EndsByFiles g.words g.files) e files) (none e) (subst (Delivers (CallWrites g) out) e delivers);

@@ -21,16 +21,16 @@ use Rattle.rept_opening.specs.Opened.{crash_run, contradiction_in}
 use Rattle.rept_opening.specs.True.{IsExcluded}
 use Rattle.rept_opening.specs.declared.refusal.Refusal.{Refusal}
 use Rattle.rept_opening.specs.declared.refusal.Refusal.TheVariants as refusal
-use Rattle.rept_opening.specs.declared.status.Status.{Status}
-use Rattle.rept_opening.specs.declared.status.Status.TheVariants as ends
+use Rattle.rept_opening.specs.declared.status.ExitStatus.{ExitStatus}
+use Rattle.rept_opening.specs.declared.status.ExitStatus.TheVariants as ends
 use Rattle.rept_app.proofs.DeliveredLemmas.{ends_told, not_yielded, told_ports}
 
 module _ {W : Type 0} (m : Means W) (crash : Crash) (run : Run) (reading : Reading) where
-  pub no_memory_studies : (text : List ℕ) (status : Status) → SaysOrNoMemory refusal.OutOfMemory text status → Studies (crash_run m crash run) reading text status
+  pub no_memory_studies : (text : List ℕ) (status : ExitStatus) → SaysOrNoMemory refusal.OutOfMemory text status → Studies (crash_run m crash run) reading text status
   no_memory_studies text status (inl h) = inr (inr h)
   no_memory_studies text status (inr h) = inr (inr h)
 
-  pub conflict_studies : (kind : ConflictKind) (c : Contradiction) → c ≡ contradiction_on (course_of run) kind → ClosureHas (setting m crash (course_of run)) kind → (text : List ℕ) (status : Status) → SaysOrNoMemory (refusal.Inconsistent c) text status → Studies (crash_run m crash run) reading text status
+  pub conflict_studies : (kind : ConflictKind) (c : Contradiction) → c ≡ contradiction_on (course_of run) kind → ClosureHas (setting m crash (course_of run)) kind → (text : List ℕ) (status : ExitStatus) → SaysOrNoMemory (refusal.Inconsistent c) text status → Studies (crash_run m crash run) reading text status
   conflict_studies kind c same has text status told = by (subst (λ (x : Contradiction). SaysOrNoMemory (refusal.Inconsistent x) text status) same told)
     where
       by : SaysOrNoMemory (refusal.Inconsistent (contradiction_in (crash_run m crash run) kind)) text status → Studies (crash_run m crash run) reading text status
@@ -38,7 +38,7 @@ module _ {W : Type 0} (m : Means W) (crash : Crash) (run : Run) (reading : Readi
       by (inr h) = inr (inr h)
 
 -- where the closure is consistent, a session is held
-pub held_causes : {W : Type 0} (m : Means W) (crash : Crash) (run : Run) (source sink : PortMove Port) (status : Status) → IsConsistent (setting m crash (course_of run)) → IsCaused source sink status → IsStudied (crash_run m crash run) source sink status
+pub held_causes : {W : Type 0} (m : Means W) (crash : Crash) (run : Run) (source sink : PortMove Port) (status : ExitStatus) → IsConsistent (setting m crash (course_of run)) → IsCaused source sink status → IsStudied (crash_run m crash run) source sink status
 held_causes m crash run source sink status consistent c = record {
   ports = c.ports;
   conflict = λ kind has. absurd (consistent kind has);
@@ -47,7 +47,7 @@ held_causes m crash run source sink status consistent c = record {
 }
 
 -- where it has a conflict, one is told
-pub told_causes : {W : Type 0} (m : Means W) (crash : Crash) (run : Run) (source sink : PortMove Port) (status : Status) (kind : ConflictKind) → ClosureHas (setting m crash (course_of run)) kind → PortsEnd source sink status → Yields ends.Inconsistent status → IsStudied (crash_run m crash run) source sink status
+pub told_causes : {W : Type 0} (m : Means W) (crash : Crash) (run : Run) (source sink : PortMove Port) (status : ExitStatus) (kind : ConflictKind) → ClosureHas (setting m crash (course_of run)) kind → PortsEnd source sink status → Yields ends.Inconsistent status → IsStudied (crash_run m crash run) source sink status
 told_causes m crash run source sink status kind has ports so = record {
   ports = ports;
   conflict = λ _ _. so;
@@ -60,7 +60,7 @@ told_causes m crash run source sink status kind has ports so = record {
     to_all (inr h) = inr (inr (inr (inr h)))
 
 -- where there was no memory for the analysis
-pub memory_causes : {W : Type 0} (m : Means W) (crash : Crash) (run : Run) (source sink : PortMove Port) (status : Status) → PortsEnd source sink status → Yields ends.OutOfMemory status → IsStudied (crash_run m crash run) source sink status
+pub memory_causes : {W : Type 0} (m : Means W) (crash : Crash) (run : Run) (source sink : PortMove Port) (status : ExitStatus) → PortsEnd source sink status → Yields ends.OutOfMemory status → IsStudied (crash_run m crash run) source sink status
 memory_causes m crash run source sink status ports so = record {
   ports = ports;
   conflict = λ _ _. inr (stops so);
@@ -74,14 +74,14 @@ memory_causes m crash run source sink status ports so = record {
 
 -- where there is no report
 module _ {W : Type 0} (m : Means W) (crash : Crash) (run : Run) (r : Refusal) (why : HasNoReport (crash_run m crash run) r) where
-  pub refused_studies : (reading : Reading) (text : List ℕ) (status : Status) → SaysOrNoMemory r text status → Studies (crash_run m crash run) reading text status
+  pub refused_studies : (reading : Reading) (text : List ℕ) (status : ExitStatus) → SaysOrNoMemory r text status → Studies (crash_run m crash run) reading text status
   refused_studies reading text status told = by why
     where
       by : HasNoReport (crash_run m crash run) r → Studies (crash_run m crash run) reading text status
       by (inl (kind, has, none, is)) = conflict_studies m crash run reading kind (contradiction_on (course_of run) kind) refl has text status (subst (λ (x : Refusal). SaysOrNoMemory x text status) is told)
       by (inr is) = no_memory_studies m crash run reading text status (subst (λ (x : Refusal). SaysOrNoMemory x text status) is told)
 
-  pub refused_causes : (source : Port) (out : PortMove Port) (status : Status) → Delivers (SaysOrNoMemory r) out status → IsStudied (crash_run m crash run) (move source source) out status
+  pub refused_causes : (source : Port) (out : PortMove Port) (status : ExitStatus) → Delivers (SaysOrNoMemory r) out status → IsStudied (crash_run m crash run) (move source source) out status
   refused_causes source out status told = by why
     where
       by : HasNoReport (crash_run m crash run) r → IsStudied (crash_run m crash run) (move source source) out status
@@ -95,7 +95,7 @@ module _ {W : Type 0} (m : Means W) (crash : Crash) (run : Run) (r : Refusal) (w
           memory_causes m crash run (move source source) out status
           (told_ports refusal.OutOfMemory source out status (λ (same : ends.OutOfMemory ≡ ends.InputFault). cc) (λ (same : ends.OutOfMemory ≡ ends.OutputFault). cc) its) (ends_told refusal.OutOfMemory out status its)
 
-  pub refused_excludes : (out : PortMove Port) (status : Status) → Delivers (SaysOrNoMemory r) out status → status ≡ ends.Inconsistent → IsExcluded (crash_run m crash run)
+  pub refused_excludes : (out : PortMove Port) (status : ExitStatus) → Delivers (SaysOrNoMemory r) out status → status ≡ ends.Inconsistent → IsExcluded (crash_run m crash run)
   refused_excludes out status told e = by why
     where
       by : HasNoReport (crash_run m crash run) r → IsExcluded (crash_run m crash run)
@@ -105,7 +105,7 @@ module _ {W : Type 0} (m : Means W) (crash : Crash) (run : Run) (r : Refusal) (w
           (ends_told refusal.OutOfMemory out status (subst (λ (x : Refusal). Delivers (SaysOrNoMemory x) out status) is told)) e)
 
 -- a session doesn't end as a conflict does
-pub not_inconsistent : (status : Status) → EndsSession status → status ≡ ends.Inconsistent → ⊥
+pub not_inconsistent : (status : ExitStatus) → EndsSession status → status ≡ ends.Inconsistent → ⊥
 not_inconsistent status (inl h) e = cc
 not_inconsistent status (inr (inl h)) e = cc
 not_inconsistent status (inr (inr (inl h))) e = cc
@@ -113,5 +113,5 @@ not_inconsistent status (inr (inr (inr (inl h)))) e = cc
 not_inconsistent status (inr (inr (inr (inr h)))) e = cc
 
 -- what was delivered to an output that was as before
-pub delivers_from : (Goes : List ℕ → Status → Type 0) (old mid new : Port) (result : Status) → mid ≡ old → Delivers Goes (move mid new) result → Delivers Goes (move old new) result
+pub delivers_from : (Goes : List ℕ → ExitStatus → Type 0) (old mid new : Port) (result : ExitStatus) → mid ≡ old → Delivers Goes (move mid new) result → Delivers Goes (move old new) result
 delivers_from Goes old mid new result same h = subst (λ (x : Port). Delivers Goes (move x new) result) same h

@@ -19,20 +19,20 @@ use Rattle.rept_app.specs.MadeRun.{Sums}
 use Rattle.rept_app.specs.Claims.{ComeToReport, MadeHolds, AskedHolds, NoExecution}
 use Rattle.rept_app.specs.Told.{CallInput, call_input, ToldOf, summary_line, CallWrites}
 use Rattle.rept_opening.specs.Opened.{IsCrashOf, Opening, route_at}
-use Rattle.rept_app.specs.Top.{TopCauses, ShelfCauses, LacksFile, LoadEnds, LoadsOf, EndsAt, EndsByFiles, AskedEnds, NoneFails, Completes}
+use Rattle.rept_app.specs.Top.{TopCauses, FileStoreCauses, LacksFile, LoadEnds, LoadsOf, EndsAt, EndsByFiles, AskedEnds, NoneFails, Completes}
 use Rattle.rept_words.specs.Words.{Meaning, meaning_of}
 use Rattle.rept_words.specs.Words.Meaning.{Open, Maps, Made}
 use Rattle.rept_words.specs.declared.request.Domain.TheVariants as domain
-use Rattle.rept_opening.specs.declared.load.Manner.{Manner}
-use Rattle.rept_opening.specs.declared.load.Asked.{Asked}
-use Rattle.rept_opening.specs.declared.load.Asked.TheVariants as asked
+use Rattle.rept_opening.specs.declared.load.OpenOptions.{OpenOptions}
+use Rattle.rept_opening.specs.declared.load.LoadedRequest.{LoadedRequest}
+use Rattle.rept_opening.specs.declared.load.LoadedRequest.TheVariants as asked
 use Rattle.rept_opening.specs.declared.load.CrashFiles.{CrashFiles}
 use Rattle.rept_opening.specs.declared.refusal.FileKind.{FileKind}
 use Rattle.rept_opening.specs.declared.refusal.FileKind.TheVariants as file
 use Rattle.rept_opening.specs.declared.refusal.Refusal.{Refusal}
 use Rattle.rept_opening.specs.declared.refusal.Refusal.TheVariants as refusal
-use Rattle.rept_opening.specs.declared.status.Status.{Status}
-use Rattle.rept_opening.specs.declared.status.Status.TheVariants as ends
+use Rattle.rept_opening.specs.declared.status.ExitStatus.{ExitStatus}
+use Rattle.rept_opening.specs.declared.status.ExitStatus.TheVariants as ends
 use Rattle.rept_app.proofs.ExamineLemmas.{stopped_end}
 use Rattle.rept_app.proofs.Counted.{counted}
 use Rattle.rept_app.proofs.Failing.{load_ending}
@@ -43,23 +43,23 @@ abbrev pub opening : CrashBytes → List (List ℕ) → Run → Opening
 opening bytes notes run = record { bytes = bytes; notes = notes; run = run }
 
 module _ (words : List (List ℕ)) (files : Files) where
-  abbrev Ends : Status → Loading → Type 0
+  abbrev Ends : ExitStatus → Loading → Type 0
   Ends status l = EndsAt files l status
 
   -- a call that stopped, or that couldn't load a file
-  stopped_at : (status : Status) → Stopped status → (l : Loading) → Ends status l
+  stopped_at : (status : ExitStatus) → Stopped status → (l : Loading) → Ends status l
   stopped_at status h (Refused r) = inr (inr h)
   stopped_at status h (Loaded bytes) = inl (stopped_end bytes status h)
   stopped_at status h (LoadedCore bytes) = inl (mapped_stopped (mapped_crash files bytes) status h)
   stopped_at status h (MadeRun seed steps) = inr h
 
-  unloaded_at : (status : Status) → status ≡ ends.LoadFault → (l : Loading) → LoadsFiles l → Ends status l
+  unloaded_at : (status : ExitStatus) → status ≡ ends.LoadFault → (l : Loading) → LoadsFiles l → Ends status l
   unloaded_at status h (Refused r) some = inr (inl h)
   unloaded_at status h (Loaded bytes) some = inr h
   unloaded_at status h (LoadedCore bytes) some = inr h
   unloaded_at status h (MadeRun seed steps) some = absurd some
 
-  interrupted : (status : Status) → Yields ends.LoadFault status → (l : Loading) → LoadsFiles l → Ends status l
+  interrupted : (status : ExitStatus) → Yields ends.LoadFault status → (l : Loading) → LoadsFiles l → Ends status l
   interrupted status (inl h) l some = unloaded_at status h l some
   interrupted status (inr h) l some = stopped_at status h l
 
@@ -67,27 +67,27 @@ module _ (words : List (List ℕ)) (files : Files) where
   named_loads old new kind (inl ((d, names, from, named, before), loads)) = subst LoadsFiles (sym (ap (loading_by files) named)) (all_fetched files names (manner_of d from))
   named_loads old new kind (inr ((names, from, named, before), loads)) = subst LoadsFiles (sym (ap (loading_by files) named)) (core_fetched files names (manner_of domain.Ranges from))
 
-  by_refusal : (r s : Refusal) (status : Status) → r ≡ s → Yields (status_of r) status → Yields (status_of s) status
+  by_refusal : (r s : Refusal) (status : ExitStatus) → r ≡ s → Yields (status_of r) status → Yields (status_of s) status
   by_refusal r s status e h = subst (λ (x : Refusal). Yields (status_of x) status) e h
 
-  memory_stops : (status : Status) → Yields ends.OutOfMemory status → Stopped status
+  memory_stops : (status : ExitStatus) → Yields ends.OutOfMemory status → Stopped status
   memory_stops status (inl h) = inr h
   memory_stops status (inr h) = h
 
   -- where no files were loaded
-  pub refused_ends : (old new : Shelved) (r : Refusal) (status : Status) → Stops words files old new r → Yields (status_of r) status → EndsByFiles words files status
+  pub refused_ends : (old new : Shelved) (r : Refusal) (status : ExitStatus) → Stops words files old new r → Yields (status_of r) status → EndsByFiles words files status
   refused_ends old new r status (inl (kind, e, came)) so = interrupted status (by_refusal r (refusal.LoadFault kind) status e so) (loading words files) (named_loads old new kind came)
   refused_ends old new r status (inr (inl e)) so = stopped_at status (memory_stops status (by_refusal r refusal.OutOfMemory status e so)) (loading words files)
   refused_ends old new r status (inr (inr h)) (inl e) = subst (Ends status) (sym h) (inl e)
   refused_ends old new r status (inr (inr h)) (inr s) = stopped_at status s (loading words files)
 
   -- of a made run
-  pub made_ends : (seed steps : ℕ) (status : Status) → loading words files ≡ MadeRun seed steps → Yields ends.Ok status → EndsByFiles words files status
+  pub made_ends : (seed steps : ℕ) (status : ExitStatus) → loading words files ≡ MadeRun seed steps → Yields ends.Ok status → EndsByFiles words files status
   made_ends seed steps status at so = subst (Ends status) (sym at) so
 
-  module _ (shelf : PortMove Shelved) (source : PortMove Port) (input text : List ℕ) (status : Status) where
+  module _ (file_store : PortMove Shelved) (source : PortMove Port) (input text : List ℕ) (status : ExitStatus) where
     abbrev Here : CallInput
-    Here = call_input words files shelf (record { input = input; left = source.after.bytes })
+    Here = call_input words files file_store (record { input = input; left = source.after.bytes })
 
     abbrev Whole : Loading → Type 0
     Whole l = ToldOf Here l text status
@@ -95,7 +95,7 @@ module _ (words : List (List ℕ)) (files : Files) where
     says_so : (r s : Refusal) → r ≡ s → SaysRefusal r text status → SaysRefusal s text status
     says_so r s e h = subst (λ (x : Refusal). SaysRefusal x text status) e h
 
-    pub refused_writes : (r : Refusal) → Stops words files shelf.before shelf.after r → SaysOrNoMemory r text status → CallWrites Here text status
+    pub refused_writes : (r : Refusal) → Stops words files file_store.before file_store.after r → SaysOrNoMemory r text status → CallWrites Here text status
     refused_writes r h (inr s) = inr (inr (inl s))
     refused_writes r (inl (kind, e, inl (comes, loads))) (inl s) = inr (inl (inl (kind, comes, loads, says_so r (refusal.LoadFault kind) e s)))
     refused_writes r (inl (kind, e, inr (comes, loads))) (inl s) = inr (inl (inr (inl (kind, comes, loads, says_so r (refusal.LoadFault kind) e s))))
@@ -114,10 +114,10 @@ module _ (words : List (List ℕ)) (files : Files) where
     made_writes seed steps at named (inr (inr cut)) = inr (inr (inr (inr (seed, steps, named, cut))))
 
   module _ (bytes : CrashBytes) (at : loading words files ≡ Loaded bytes) where
-    pub files_hold : (status : Status) → FilesHold bytes status → ComeToReport words files
+    pub files_hold : (status : ExitStatus) → FilesHold bytes status → ComeToReport words files
     files_hold status ((notes, run, read, is, consistent), so) = (opening bytes notes run, record { loaded = subst (λ (l : Loading). IsCrashOf files l bytes) (sym at) refl; read = read; told = is }, consistent)
 
-    pub examined_ends : (source sink : PortMove Port) (status : Status) → IsExamined bytes source sink status → EndsByFiles words files status
+    pub examined_ends : (source sink : PortMove Port) (status : ExitStatus) → IsExamined bytes source sink status → EndsByFiles words files status
     examined_ends source sink status c = subst (Ends status) (sym at) (inl c.yields)
 
     same_files : (other : CrashBytes) → IsCrashOf files (loading words files) other → bytes ≡ other
@@ -127,7 +127,7 @@ module _ (words : List (List ℕ)) (files : Files) where
     examined_excludes none o opens = subst (λ (b : CrashBytes). FilesExclude b) (same_files o.bytes opens.loaded) none o.notes opens.read o.run opens.told
 
 -- a session that was cut short ends with one of two statuses
-cut_ends : (t : SessionTold) (reading : Reading) (text : List ℕ) (status : Status) → CutOff t reading text status → (status ≡ ends.InputFault) ⊎ (status ≡ ends.OutOfMemory)
+cut_ends : (t : SessionTold) (reading : Reading) (text : List ℕ) (status : ExitStatus) → CutOff t reading text status → (status ≡ ends.InputFault) ⊎ (status ≡ ends.OutOfMemory)
 cut_ends t reading text ends.InputFault h = inl refl
 cut_ends t reading text ends.OutOfMemory h = inr refl
 cut_ends t reading text ends.Ok h = absurd h
@@ -143,46 +143,46 @@ cut_ends t reading text ends.OutputFault h = absurd h
 cut_ends t reading text ends.TooMuchInput h = absurd h
 
 -- what is written where no count rose
-pub completed : (g : CallInput) (shelf : PortMove Shelved) (source sink : PortMove Port) (status : Status) → TopCauses shelf source sink status → Delivers (CallWrites g) sink status → NoneFails shelf source sink → Completes g sink status
-completed g shelf source sink status c (inr h) calm_ports = absurd (calm_ports.written h.1.rose)
-completed g shelf source sink status c (inl (text, inl h, appended, calm)) calm_ports = inr (text, h, appended)
-completed g shelf source sink status c (inl (text, inr (inl failed), appended, calm)) calm_ports = absurd (calm_ports.loaded (c.load (load_ending g text status failed)))
-completed g shelf source sink status c (inl (text, inr (inr (inl says)), appended, calm)) calm_ports = inl says.ending
-completed g shelf source sink status c (inl (text, inr (inr (inr (inl (o, a, opens, account, cut)))), appended, calm)) calm_ports =
+pub completed : (g : CallInput) (file_store : PortMove Shelved) (source sink : PortMove Port) (status : ExitStatus) → TopCauses file_store source sink status → Delivers (CallWrites g) sink status → NoneFails file_store source sink → Completes g sink status
+completed g file_store source sink status c (inr h) calm_ports = absurd (calm_ports.written h.1.rose)
+completed g file_store source sink status c (inl (text, inl h, appended, calm)) calm_ports = inr (text, h, appended)
+completed g file_store source sink status c (inl (text, inr (inl failed), appended, calm)) calm_ports = absurd (calm_ports.loaded (c.load (load_ending g text status failed)))
+completed g file_store source sink status c (inl (text, inr (inr (inl says)), appended, calm)) calm_ports = inl says.ending
+completed g file_store source sink status c (inl (text, inr (inr (inr (inl (o, a, opens, account, cut)))), appended, calm)) calm_ports =
     elim (cut_ends (told_on (route_at o) a) g.reading text status cut) [ inl e ↦ absurd (calm_ports.read (c.ports.input e).rose) | inr e ↦ inl e ]
-completed g shelf source sink status c (inl (text, inr (inr (inr (inr (seed, steps, named, (made, is, o, opens, a, account, left, cut))))), appended, calm)) calm_ports =
+completed g file_store source sink status c (inl (text, inr (inr (inr (inr (seed, steps, named, (made, is, o, opens, a, account, left, cut))))), appended, calm)) calm_ports =
     elim (cut_ends (told_on (route_at o) a) (record { input = summary_line; left = left }) text status cut) [ inl e ↦ absurd (calm_ports.read (c.ports.input e).rose) | inr e ↦ inl e ]
 
--- what is said of a call of which one fault of the shelf at most was counted
-pub record AllCauses (shelf : PortMove Shelved) (source sink : PortMove Port) (status : Status) : Type 0 where
+-- what is said of a call of which one fault of the file store at most was counted
+pub record AllCauses (file_store : PortMove Shelved) (source sink : PortMove Port) (status : ExitStatus) : Type 0 where
   pub ports : PortsEnd source sink status
-  pub load : status ≡ ends.LoadFault → OneFault shelf.before.faults shelf.after.faults
-  pub untold : MatchOption shelf.before.files (LacksFile status → OneFault shelf.before.faults shelf.after.faults) (λ _. Unit {0})
-  pub load_ends : FaultEnds shelf.before.faults shelf.after.faults (LoadEnds shelf.before.files status)
-  pub files : shelf.after.files ≡ shelf.before.files
+  pub load : status ≡ ends.LoadFault → OneFault file_store.before.faults file_store.after.faults
+  pub untold : MatchOption file_store.before.files (LacksFile status → OneFault file_store.before.faults file_store.after.faults) (λ _. Unit {0})
+  pub load_ends : FaultEnds file_store.before.faults file_store.after.faults (LoadEnds file_store.before.files status)
+  pub files : file_store.after.files ≡ file_store.before.files
 
 not_less : {P : Type 0} (before now : ℕ) → FaultEnds before now P → before ≤ now
 not_less before now (inl same) = omega (arith, same)
 not_less before now (inr (fault, so)) = fault.later
 
-pub causes_of : (shelf : PortMove Shelved) (source sink : PortMove Port) (status : Status) → AllCauses shelf source sink status → TopCauses shelf source sink status
-causes_of shelf source sink status c = record {
+pub causes_of : (file_store : PortMove Shelved) (source sink : PortMove Port) (status : ExitStatus) → AllCauses file_store source sink status → TopCauses file_store source sink status
+causes_of file_store source sink status c = record {
   ports = c.ports;
   load = λ e. (c.load e).rose;
   untold = c.untold;
-  later = not_less shelf.before.faults shelf.after.faults c.load_ends;
+  later = not_less file_store.before.faults file_store.after.faults c.load_ends;
   files = c.files;
 }
 
-pub once_of : (shelf : PortMove Shelved) (source sink : PortMove Port) (status : Status) → AllCauses shelf source sink status → ShelfCauses shelf status
-once_of shelf source sink status c = record { load = c.load; load_ends = c.load_ends }
+pub once_of : (file_store : PortMove Shelved) (source sink : PortMove Port) (status : ExitStatus) → AllCauses file_store source sink status → FileStoreCauses file_store status
+once_of file_store source sink status c = record { load = c.load; load_ends = c.load_ends }
 
 -- how a call ends whose files aren't loaded
-module _ (old new : Shelved) (source : Port) (sink : PortMove Port) (status : Status) (files : new.files ≡ old.files) (later : old.faults ≤ new.faults) (once : new.faults ≤ old.faults + 1) (ports : PortsEnd (move source source) sink status) where
+module _ (old new : Shelved) (source : Port) (sink : PortMove Port) (status : ExitStatus) (files : new.files ≡ old.files) (later : old.faults ≤ new.faults) (once : new.faults ≤ old.faults + 1) (ports : PortsEnd (move source source) sink status) where
   one : Rose old.faults new.faults → OneFault old.faults new.faults
   one rose = record { rose = rose; later = later; once = once }
 
-  not_stopped : (other : Status) → (other ≡ ends.OutputFault → ⊥) → (other ≡ ends.OutOfMemory → ⊥) → Stopped status → status ≡ other → ⊥
+  not_stopped : (other : ExitStatus) → (other ≡ ends.OutputFault → ⊥) → (other ≡ ends.OutOfMemory → ⊥) → Stopped status → status ≡ other → ⊥
   not_stopped other a b (inl h) e = a (sym e ∙ h)
   not_stopped other a b (inr h) e = b (sym e ∙ h)
 
@@ -207,7 +207,7 @@ module _ (old new : Shelved) (source : Port) (sink : PortMove Port) (status : St
   either_way so = elim (counted old.faults new.faults later once) [ inl h ↦ inl h | inr h ↦ inr (h, so) ]
 
   -- words that name no files
-  pub idle_causes : (expected : Status) → (expected ≡ ends.LoadFault → ⊥) → (expected ≡ ends.NoFile → ⊥) → (expected ≡ ends.TooLarge → ⊥) → new.faults ≡ old.faults → Yields expected status → AllCauses (move old new) (move source source) sink status
+  pub idle_causes : (expected : ExitStatus) → (expected ≡ ends.LoadFault → ⊥) → (expected ≡ ends.NoFile → ⊥) → (expected ≡ ends.TooLarge → ⊥) → new.faults ≡ old.faults → Yields expected status → AllCauses (move old new) (move source source) sink status
   idle_causes expected a b c calm (inr s) = stopped_causes s (inl calm)
   idle_causes expected a b c calm (inl e) = record {
     ports = ports;
@@ -311,7 +311,7 @@ module _ (old new : Shelved) (source : Port) (sink : PortMove Port) (status : St
   refused_loads m r (inr h) so = meaning_loads m r h so
 
 -- a status with which no call ends that loads no files
-pub record IsOther (other : Status) : Type 0 where
+pub record IsOther (other : ExitStatus) : Type 0 where
   pub usage : ends.Usage ≡ other → ⊥
   pub failed : ends.LoadFault ≡ other → ⊥
   pub missing : ends.NoFile ≡ other → ⊥
@@ -327,31 +327,31 @@ output_only = record { usage = λ e. cc; failed = λ e. cc; missing = λ e. cc; 
 pub conflict_only : IsOther ends.Inconsistent
 conflict_only = record { usage = λ e. cc; failed = λ e. cc; missing = λ e. cc; large = λ e. cc; memory = λ e. cc }
 
-file_status : (old new : Shelved) (name : List ℕ) (kind : FileKind) (r : Refusal) (other : Status) → IsOther other → Why old new name kind r → status_of r ≡ other → ⊥
+file_status : (old new : Shelved) (name : List ℕ) (kind : FileKind) (r : Refusal) (other : ExitStatus) → IsOther other → Why old new name kind r → status_of r ≡ other → ⊥
 file_status old new name kind r other is (inl h) e = is.failed (ap status_of (sym h.0) ∙ e)
 file_status old new name kind r other is (inr (inl h)) e = is.missing (ap status_of (sym h.0) ∙ e)
 file_status old new name kind r other is (inr (inr (inl h))) e = is.large (ap status_of (sym h.0) ∙ e)
 file_status old new name kind r other is (inr (inr (inr h))) e = is.memory (ap status_of (sym h) ∙ e)
 
-meaning_status : (old new : Shelved) (m : Option Meaning) (r : Refusal) (other : Status) → IsOther other → MeaningStops m (move old new) r → status_of r ≡ other → ⊥
+meaning_status : (old new : Shelved) (m : Option Meaning) (r : Refusal) (other : ExitStatus) → IsOther other → MeaningStops m (move old new) r → status_of r ≡ other → ⊥
 meaning_status old new None r other is h e = is.usage (ap status_of (sym h.0) ∙ e)
 meaning_status old new (Some (Made seed steps)) r other is h e = absurd h
 meaning_status old new (Some (Maps names from)) r other is (kind, s) e = file_status old new (core_name_of names kind) kind r other is (why old new (core_name_of names kind) kind r s.why) e
 meaning_status old new (Some (Open d names from)) r other is (kind, s) e = file_status old new (name_of names kind) kind r other is (why old new (name_of names kind) kind r s.why) e
 
-pub no_status : (old new : Shelved) (m : Option Meaning) (r : Refusal) (other : Status) → IsOther other → LoadingStops m (move old new) r → status_of r ≡ other → ⊥
+pub no_status : (old new : Shelved) (m : Option Meaning) (r : Refusal) (other : ExitStatus) → IsOther other → LoadingStops m (move old new) r → status_of r ≡ other → ⊥
 no_status old new m r other is (inl h) e = is.memory (ap status_of (sym h.0) ∙ e)
 no_status old new m r other is (inr h) e = meaning_status old new m r other is h e
 
 -- all files were loaded
-pub all_loads : (old new : Shelved) (m : Option Meaning) (status : Status) → LoadsAll m (move old new) → LoadsOf m (move old new) status
+pub all_loads : (old new : Shelved) (m : Option Meaning) (status : ExitStatus) → LoadsAll m (move old new) → LoadsOf m (move old new) status
 all_loads old new None status h = absurd h
 all_loads old new (Some (Made seed steps)) status h = absurd h
 all_loads old new (Some (Maps names from)) status h = absurd h
 all_loads old new (Some (Open d names from)) status h = inl (record { last = file.Trace; before = h.before; loads = h.loads; all = inl refl })
 
 -- the causes of a call whose files were loaded
-pub examined_causes : (old new : Shelved) (bytes : CrashBytes) (source sink : PortMove Port) (status : Status) → new.files ≡ old.files → new.faults ≡ old.faults → IsExamined bytes source sink status → AllCauses (move old new) source sink status
+pub examined_causes : (old new : Shelved) (bytes : CrashBytes) (source sink : PortMove Port) (status : ExitStatus) → new.files ≡ old.files → new.faults ≡ old.faults → IsExamined bytes source sink status → AllCauses (move old new) source sink status
 examined_causes old new bytes source sink status files calm c = record {
   ports = c.ports;
   load = λ e. absurd (not_loading (inl e) c.ends_so);
@@ -407,12 +407,12 @@ of_both o p Q files input e e' h =
     let h₁ : IfSome p (Q files) = subst (λ (x : Option Files). IfSome x (λ fs. IfSome p (Q fs))) e h in
     subst (λ (x : Option (List ℕ)). IfSome x (Q files)) e' h₁
 
-pub loaded_at : (l : Loading) (exe exe' core core' trace trace' : List ℕ) (manner : Manner) → l ≡ Loaded (crash_bytes exe core trace manner) → exe' ≡ exe → core' ≡ core → trace' ≡ trace → l ≡ Loaded (crash_bytes exe' core' trace' manner)
+pub loaded_at : (l : Loading) (exe exe' core core' trace trace' : List ℕ) (manner : OpenOptions) → l ≡ Loaded (crash_bytes exe core trace manner) → exe' ≡ exe → core' ≡ core → trace' ≡ trace → l ≡ Loaded (crash_bytes exe' core' trace' manner)
 loaded_at l exe exe' core core' trace trace' manner h e c t =
     h ∙ ap (λ x. Loaded (crash_bytes x core trace manner)) (sym e) ∙ ap (λ x. Loaded (crash_bytes exe' x trace manner)) (sym c) ∙ ap (λ x. Loaded (crash_bytes exe' core' x manner)) (sym t)
 
 -- a session may have been held where the files are told
-pub holds_where : {P : Type 0} (o : Option Files) (H : Files → Type 0) (bytes : CrashBytes) (status : Status) → ((files : Files) → o ≡ Some files → FilesHold bytes status → H files) → P ⊎ FilesHold bytes status → P ⊎ (EndsSession status × IfSome o H)
+pub holds_where : {P : Type 0} (o : Option Files) (H : Files → Type 0) (bytes : CrashBytes) (status : ExitStatus) → ((files : Files) → o ≡ Some files → FilesHold bytes status → H files) → P ⊎ FilesHold bytes status → P ⊎ (EndsSession status × IfSome o H)
 holds_where o H bytes status h (inl p) = inl p
 holds_where o H bytes status h (inr f) = inr (f.1, where_some o H (λ files at. h files at f))
   where
@@ -427,7 +427,7 @@ asked_holds (Some (Maps names from)) h = tt
 asked_holds (Some (Open d names from)) h = tt
 asked_holds (Some (Made seed steps)) h = h seed steps
 
-pub loaded_asks : (m : Option Meaning) (old new : Shelved) (status : Status) → LoadsAll m (move old new) → AskedEnds m status
+pub loaded_asks : (m : Option Meaning) (old new : Shelved) (status : ExitStatus) → LoadsAll m (move old new) → AskedEnds m status
 loaded_asks None old new status h = tt
 loaded_asks (Some (Maps names from)) old new status h = tt
 loaded_asks (Some (Open d names from)) old new status h = tt
@@ -439,14 +439,14 @@ loads_named (Some (Maps names from)) old new h none = absurd none
 loads_named (Some (Open d names from)) old new h none = absurd none
 loads_named (Some (Made seed steps)) old new h none = absurd h
 
-memory_ends : (r : Refusal) (status : Status) → r ≡ refusal.OutOfMemory → Yields (status_of r) status → Yields ends.Ok status
+memory_ends : (r : Refusal) (status : ExitStatus) → r ≡ refusal.OutOfMemory → Yields (status_of r) status → Yields ends.Ok status
 memory_ends r status e so = stop (subst (λ (x : Refusal). Yields (status_of x) status) e so)
   where
     stop : Yields ends.OutOfMemory status → Yields ends.Ok status
     stop (inl h) = inr (inr h)
     stop (inr h) = inr h
 
-pub refused_asks : (m : Option Meaning) (old new : Shelved) (r : Refusal) (status : Status) → LoadingStops m (move old new) r → Yields (status_of r) status → AskedEnds m status
+pub refused_asks : (m : Option Meaning) (old new : Shelved) (r : Refusal) (status : ExitStatus) → LoadingStops m (move old new) r → Yields (status_of r) status → AskedEnds m status
 refused_asks None old new r status h so = tt
 refused_asks (Some (Maps names from)) old new r status h so = tt
 refused_asks (Some (Open d names from)) old new r status h so = tt
@@ -455,17 +455,17 @@ refused_asks (Some (Made seed steps)) old new r status (inr h) so = absurd h
 
 -- of words that ask for a made run
 module _ (m : Option Meaning) (seed steps : ℕ) (named : m ≡ Some (Made seed steps)) where
-  pub made_asks : (status : Status) → Yields ends.Ok status → AskedEnds m status
+  pub made_asks : (status : ExitStatus) → Yields ends.Ok status → AskedEnds m status
   made_asks status so = subst (λ (x : Option Meaning). AskedEnds x status) (sym named) so
 
-  pub made_loads : (shelf : PortMove Shelved) (status : Status) → LoadsOf m shelf status
-  made_loads shelf status = subst (λ (x : Option Meaning). LoadsOf x shelf status) (sym named) tt
+  pub made_loads : (file_store : PortMove Shelved) (status : ExitStatus) → LoadsOf m file_store status
+  made_loads file_store status = subst (λ (x : Option Meaning). LoadsOf x file_store status) (sym named) tt
 
   pub made_means : {P : Type 0} → m ≡ None → P
   made_means none = let bad : Some (Made seed steps) ≡ None = sym named ∙ none in let no : ⊥ = cc in absurd no
 
 -- a call that ends well, or stops, ends with no other status
-pub no_other : {P : Type 0} (other status : Status) → (ends.Ok ≡ other → ⊥) → (ends.OutputFault ≡ other → ⊥) → (ends.OutOfMemory ≡ other → ⊥) → Yields ends.Ok status → status ≡ other → P
+pub no_other : {P : Type 0} (other status : ExitStatus) → (ends.Ok ≡ other → ⊥) → (ends.OutputFault ≡ other → ⊥) → (ends.OutOfMemory ≡ other → ⊥) → Yields ends.Ok status → status ≡ other → P
 no_other other status a b c (inl h) e = absurd (a (sym h ∙ e))
 no_other other status a b c (inr (inl h)) e = absurd (b (sym h ∙ e))
 no_other other status a b c (inr (inr h)) e = absurd (c (sym h ∙ e))
@@ -473,7 +473,7 @@ no_other other status a b c (inr (inr h)) e = absurd (c (sym h ∙ e))
 pub done_at : {T E : Type 0} {P : Type 0} (r : Result T E) (a : T) → r ≡ Ok a → OnOk r P → P
 done_at {T} {E} {P} r a e h = subst (λ (x : Result T E). OnOk x P) e h
 
-module _ (r : Result Asked Refusal) (a : Asked) where
+module _ (r : Result LoadedRequest Refusal) (a : LoadedRequest) where
   pub all_at : (l : CrashFiles) (m : Option Meaning) (old new : Shelved) → r ≡ Ok a → a ≡ asked.Files l → IfOk r (λ x. IsAsked x m (move old new)) → LoadsAll m (move old new)
   all_at l m old new e same h = (ok_at r a (asked.Files l) (λ x. IsAsked x m (move old new)) e same h).0
 

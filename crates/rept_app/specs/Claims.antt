@@ -1,4 +1,5 @@
--- What holds of the report of the files that words name, where a conflict is told, and of a made run. This project's own.
+-- What holds of the report of the files that words name, where a conflict is told, and of a made
+-- run. This project's own.
 use Rattle.std.specs.Prelude.{ℕ, List, Option, None, Some}
 use Rattle.rept_ports.specs.Shelves.{Files}
 use Rattle.rept_reason.specs.Facts.{Knowledge}
@@ -19,8 +20,8 @@ use Rattle.rept_opening.specs.True.{IsExcluded, IsExecuted, IsTrue}
 abbrev pub ComeToReport : List (List ℕ) → Files → Type 0
 ComeToReport words files = (o : Opening) × Opens words files o × IsConsistent (setting_at o)
 
--- what is told of the report holds in every execution of the run that ends in the dump: in the registers of the notes, and with the
--- bytes of memory that the files have
+-- what is told of the report holds in every execution of the run that ends in the dump: in the
+-- registers of the notes, and with the bytes of memory that the files have
 abbrev pub ReportHolds : List (List ℕ) → Files → Type 0
 ReportHolds words files = (o : Opening) (known : Knowledge) → Opens words files o → IsReport (setting_at o) known → IsTrue (run_at o) known
 
@@ -28,8 +29,8 @@ ReportHolds words files = (o : Opening) (known : Knowledge) → Opens words file
 abbrev pub NoExecution : List (List ℕ) → Files → Type 0
 NoExecution words files = (o : Opening) → Opens words files o → IsExcluded (run_at o)
 
--- The files of a made crash come to a path, of which an execution ends in the dump: what is told of its report isn't told of nothing.
--- It holds in each such execution.
+-- The files of a made crash come to a path, of which an execution ends in the dump: what is told of
+-- its report isn't told of nothing. It holds in each such execution.
 abbrev pub MadeHolds : ℕ → ℕ → Type 0
 MadeHolds seed steps =
     (made : Made) → IsMade seed steps made
@@ -42,7 +43,8 @@ AskedHolds (Some (Maps names from)) = Unit {0}
 AskedHolds (Some (Open d names from)) = Unit {0}
 AskedHolds (Some (MadeWords seed steps)) = MadeHolds seed steps
 
--- Of one run and crash: each fact of the report by ranges stands in the report by ranges and known bits.
+-- Of one run and crash: each fact of the report by ranges stands in the report by ranges and known
+-- bits.
 abbrev pub BitsKnowMore : List (List ℕ) → Files → Type 0
 BitsKnowMore words files =
     (o : Opening) (by_ranges by_bits : Account) → Opens words files o

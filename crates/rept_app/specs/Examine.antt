@@ -18,71 +18,71 @@ use Rattle.rept_app.specs.Told.{WalkedTrace, Examined}
 use Rattle.rept_opening.specs.TraceRun.{IsRunOf, HasNoRunOf}
 use Rattle.rept_opening.specs.True.{IsExcluded}
 use Rattle.rept_opening.specs.declared.refusal.Refusal.TheVariants as refusal
-use Rattle.rept_opening.specs.declared.status.Status.{Status}
-use Rattle.rept_opening.specs.declared.status.Status.TheVariants as ends
+use Rattle.rept_opening.specs.declared.status.ExitStatus.{ExitStatus}
+use Rattle.rept_opening.specs.declared.status.ExitStatus.TheVariants as ends
 
 -- the session over the run's report was cut short
-abbrev pub WalkCut : CrashTrace → Reading → List ℕ → Status → Type 0
+abbrev pub WalkCut : CrashTrace → Reading → List ℕ → ExitStatus → Type 0
 WalkCut t reading text status =
     (run : Run) × (a : Account) × IsRunOf t.crash t.trace t.manner.from run × IsAccountOf (run_in t run) a × CutOff (told_on (route_of (run_in t run)) a) reading text status
 
 -- all of it; or memory ran out; or the session was cut short
-abbrev pub WalksTrace : CrashTrace → Reading → List ℕ → Status → Type 0
+abbrev pub WalksTrace : CrashTrace → Reading → List ℕ → ExitStatus → Type 0
 WalksTrace t reading text status = WalkedTrace t reading.input text status ⊎ SaysRefusal refusal.OutOfMemory text status ⊎ WalkCut t reading text status
 
-abbrev pub Examines : CrashBytes → Reading → List ℕ → Status → Type 0
+abbrev pub Examines : CrashBytes → Reading → List ℕ → ExitStatus → Type 0
 Examines bytes reading text status =
     Examined bytes reading.input text status ⊎ SaysRefusal refusal.OutOfMemory text status
     ⊎ ((notes : List (List ℕ)) × ReadsNotes bytes notes × WalkCut (trace_in bytes notes) reading text status)
 
 -- how the analysis of a run ends the call
-pub record RunYields {W : Type 0} (p : CrashRun W) (status : Status) : Type 0 where
+pub record RunYields {W : Type 0} (p : CrashRun W) (status : ExitStatus) : Type 0 where
   pub conflict : (kind : ConflictKind) → ClosureHas (run_setting p) kind → Yields ends.Inconsistent status
   pub report : IsConsistent (run_setting p) → EndsSession status
 
 -- How a trace ends the call, whatever the input is. Its status comes only where it tells no run.
-pub record WalkYields (t : CrashTrace) (status : Status) : Type 0 where
+pub record WalkYields (t : CrashTrace) (status : ExitStatus) : Type 0 where
   pub refused : (fault : PathFault) → HasNoRunOf t.crash t.trace t.manner.from fault → Yields ends.Trace status
   pub walked : (run : Run) → IsRunOf t.crash t.trace t.manner.from run → RunYields (run_in t run) status
   pub only : status ≡ ends.Trace → (fault : PathFault) × HasNoRunOf t.crash t.trace t.manner.from fault
 
 -- how what the notes say ends the call
-abbrev pub NoteYields : CrashBytes → Result (List (List ℕ)) CoreFault → Status → Type 0
+abbrev pub NoteYields : CrashBytes → Result (List (List ℕ)) CoreFault → ExitStatus → Type 0
 NoteYields bytes said status = MatchResult said (λ notes. WalkYields (trace_in bytes notes) status) (λ _. Yields ends.Core status)
 
 -- how the files end the call
-abbrev pub FilesEnd : CrashBytes → Status → Type 0
+abbrev pub FilesEnd : CrashBytes → ExitStatus → Type 0
 FilesEnd bytes status =
     MatchOption (program_fault bytes.program)
     (MatchOption (core_image_fault bytes.core) ((said : Result (List (List ℕ)) CoreFault) → CoreSays bytes said → NoteYields bytes said status) (λ _. Yields ends.Core status))
     (λ _. Yields ends.Executable status)
 
 -- the statuses of a run that is told
-abbrev pub IsRunStatus : Status → Type 0
+abbrev pub IsRunStatus : ExitStatus → Type 0
 IsRunStatus status = (status ≡ ends.Inconsistent) ⊎ EndsSession status
 
 -- the statuses of a trace that is walked
-abbrev pub IsWalkStatus : Status → Type 0
+abbrev pub IsWalkStatus : ExitStatus → Type 0
 IsWalkStatus status = (status ≡ ends.Trace) ⊎ IsRunStatus status
 
 -- each fault has its cause and ends the call, and each status comes where the trace says so
-pub record IsWalked (t : CrashTrace) (source sink : PortMove Port) (status : Status) : Type 0 where
+pub record IsWalked (t : CrashTrace) (source sink : PortMove Port) (status : ExitStatus) : Type 0 where
   pub ports : PortsEnd source sink status
   pub yields : WalkYields t status
   pub ends_so : IsWalkStatus status
 
 -- the same of the files
-pub record IsExamined (bytes : CrashBytes) (source sink : PortMove Port) (status : Status) : Type 0 where
+pub record IsExamined (bytes : CrashBytes) (source sink : PortMove Port) (status : ExitStatus) : Type 0 where
   pub ports : PortsEnd source sink status
   pub yields : FilesEnd bytes status
   pub ends_so : (status ≡ ends.Executable) ⊎ (status ≡ ends.Core) ⊎ IsWalkStatus status
 
 -- a session may have been held, since the trace tells a run whose closure has no conflict
-abbrev pub WalkHolds : CrashTrace → Status → Type 0
+abbrev pub WalkHolds : CrashTrace → ExitStatus → Type 0
 WalkHolds t status = ((run : Run) × IsRunOf t.crash t.trace t.manner.from run × IsConsistent (run_setting (run_in t run))) × EndsSession status
 
 -- the same of the files
-abbrev pub FilesHold : CrashBytes → Status → Type 0
+abbrev pub FilesHold : CrashBytes → ExitStatus → Type 0
 FilesHold bytes status =
     ((notes : List (List ℕ)) × (run : Run) × ReadsNotes bytes notes × IsRunOf (crash_in bytes.program bytes.core notes) bytes.trace bytes.manner.from run × IsConsistent (run_setting (run_in (trace_in bytes notes) run)))
     × EndsSession status

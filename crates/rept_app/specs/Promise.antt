@@ -1,5 +1,6 @@
--- The promise of the whole program, in one place: where a session ends well, its answers tell a report that is true of every execution
--- that ends in the crash; where the files are said to be inconsistent, there is none. This project's own.
+-- The promise of the whole program, in one place: where a session ends well, its answers tell a
+-- report that is true of every execution that ends in the crash; where the files are said to be
+-- inconsistent, there is none. This project's own.
 use Rattle.std.specs.Prelude.{◌≡◌, ◌⊎◌, ℕ, List}
 use Rattle.std.specs.Io.KnownBytes.{Appends}
 use Rattle.rept_ports.specs.Port.{Port, PortMove}
@@ -12,20 +13,21 @@ use Rattle.rept_opening.specs.Loading.Loading.{MadeRun}
 use Rattle.rept_app.specs.Told.{CallInput, OpensMade, summary_line}
 use Rattle.rept_opening.specs.Opened.{Opening, Opens, IsAccountOf, run_at, route_at}
 use Rattle.rept_opening.specs.True.{IsExcluded, IsTrue}
-use Rattle.rept_opening.specs.declared.status.Status.{Status}
-use Rattle.rept_opening.specs.declared.status.Status.TheVariants as ends
+use Rattle.rept_opening.specs.declared.status.ExitStatus.{ExitStatus}
+use Rattle.rept_opening.specs.declared.status.ExitStatus.TheVariants as ends
 
--- the crash that is opened, and the lines that are answered of it: the files that the words name, and the input; or the files of the
--- made crash that they ask for, and the line `summary`
+-- the crash that is opened, and the lines that are answered of it: the files that the words name,
+-- and the input; or the files of the made crash that they ask for, and the line `summary`
 abbrev pub IsOpened : CallInput → Opening → List ℕ → Type 0
 IsOpened g o lines =
     (Opens g.words g.files o × (lines ≡ g.reading.input))
     ⊎ ((seed : ℕ) × (steps : ℕ) × (made : Made) × (loading g.words g.files ≡ MadeRun seed steps) × IsMade seed steps made × OpensMade made o × (lines ≡ summary_line))
 
--- What was written is the answers to the lines, to their end or to `quit`, over the report of the run. Each register, byte, range,
--- known bit and writer that is told of that report holds in every execution of all threads that ends in the crash; the facts that a
--- reason rests on are of the report, and the ranges that it lists hold in each of those executions. Of a run that is one path all of
--- this holds of that path's executions too (`IsTrue`).
+-- What was written is the answers to the lines, to their end or to `quit`, over the report of the
+-- run. Each register, byte, range, known bit and writer that is told of that report holds in every
+-- execution of all threads that ends in the crash; the facts that a reason rests on are of the
+-- report, and the ranges that it lists hold in each of those executions. Of a run that is one path
+-- all of this holds of that path's executions too (`IsTrue`).
 pub record IsAnswered (g : CallInput) (out : PortMove Port) : Type 0 where
   pub opening : Opening
   pub lines : List ℕ
@@ -44,6 +46,6 @@ pub record IsImpossible (g : CallInput) : Type 0 where
   pub none : IsExcluded (run_at opening)
 
 -- status 0, and status 1
-pub record Promise (g : CallInput) (out : PortMove Port) (status : Status) : Type 0 where
+pub record Promise (g : CallInput) (out : PortMove Port) (status : ExitStatus) : Type 0 where
   pub answered : status ≡ ends.Ok → IsAnswered g out
   pub impossible : status ≡ ends.Inconsistent → IsImpossible g

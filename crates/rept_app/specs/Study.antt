@@ -10,24 +10,24 @@ use Rattle.rept_app.specs.Ends.{Yields, EndsSession, PortsEnd}
 use Rattle.rept_app.specs.Held.{IsHeldSession}
 use Rattle.rept_opening.specs.Opened.{CrashRun, contradiction_in, run_setting, IsAccountOf, route_of}
 use Rattle.rept_opening.specs.declared.refusal.Refusal.TheVariants as refusal
-use Rattle.rept_opening.specs.declared.status.Status.{Status}
-use Rattle.rept_opening.specs.declared.status.Status.TheVariants as ends
+use Rattle.rept_opening.specs.declared.status.ExitStatus.{ExitStatus}
+use Rattle.rept_opening.specs.declared.status.ExitStatus.TheVariants as ends
 
 -- a conflict that the closure has, or a session over its report, or memory ran out before
-abbrev pub Studies : {W : Type 0} → CrashRun W → Reading → List ℕ → Status → Type 0
+abbrev pub Studies : {W : Type 0} → CrashRun W → Reading → List ℕ → ExitStatus → Type 0
 Studies p reading text status =
     ((kind : ConflictKind) × ClosureHas (run_setting p) kind × SaysRefusal (refusal.Inconsistent (contradiction_in p kind)) text status)
     ⊎ ((a : Account) × IsAccountOf p a × IsHeldSession (told_on (route_of p) a) reading text status)
     ⊎ SaysRefusal refusal.OutOfMemory text status
 
--- Each fault has its cause and ends the call; a conflict is told where the closure has one, and a session is held where it has
--- none, unless the call stops before.
-pub record IsStudied {W : Type 0} (p : CrashRun W) (source sink : PortMove Port) (status : Status) : Type 0 where
+-- Each fault has its cause and ends the call; a conflict is told where the closure has one, and a
+-- session is held where it has none, unless the call stops before.
+pub record IsStudied {W : Type 0} (p : CrashRun W) (source sink : PortMove Port) (status : ExitStatus) : Type 0 where
   pub ports : PortsEnd source sink status
   pub conflict : (kind : ConflictKind) → ClosureHas (run_setting p) kind → Yields ends.Inconsistent status
   pub report : IsConsistent (run_setting p) → EndsSession status
   pub ends_so : (status ≡ ends.Inconsistent) ⊎ EndsSession status
 
 -- a session may have been held, since the closure has no conflict
-abbrev pub StudyHolds : {W : Type 0} → CrashRun W → Status → Type 0
+abbrev pub StudyHolds : {W : Type 0} → CrashRun W → ExitStatus → Type 0
 StudyHolds p status = IsConsistent (run_setting p) × EndsSession status

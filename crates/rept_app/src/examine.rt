@@ -12,7 +12,7 @@ ghost use Rattle.rept_opening.specs.Opened.{crash_trace};
 
 use crate::study::study;
 use rept_dump::Dump;
-use rept_opening::{Manner, Refusal, Status, read_dump, tell, trace_run};
+use rept_opening::{ExitStatus, OpenOptions, Refusal, read_dump, tell, trace_run};
 use rept_ports::{Sink, Source};
 use rept_runs::is_several;
 use std::alloc::Global;
@@ -23,15 +23,15 @@ pub fn examine<S: Source, K: Sink>(
     exe: &[u8],
     core: &[u8],
     trace: &[u8],
-    manner: Manner,
+    manner: OpenOptions,
     input: &mut S,
     out: &mut K,
-) -> Status
+) -> ExitStatus
     requires { length trace.now < 2 ^ 32 }
     ensures text { IfSome (S.port input.old).bytes (λ bytes. Delivers (Examines (crash_bytes exe.now core.now trace.now manner) (record { input = bytes; left = (S.port input.new).bytes })) (move (K.port out.old) (K.port out.new)) result) }
     ensures causes { IsExamined (crash_bytes exe.now core.now trace.now manner) (move (S.port input.old) (S.port input.new)) (move (K.port out.old) (K.port out.new)) result }
     ensures stays { (input.new ≡ input.old) ⊎ FilesHold (crash_bytes exe.now core.now trace.now manner) result }
-    ensures impossible { result ≡ Status.Inconsistent → FilesExclude (crash_bytes exe.now core.now trace.now manner) }
+    ensures impossible { result ≡ ExitStatus.Inconsistent → FilesExclude (crash_bytes exe.now core.now trace.now manner) }
 {
     match read_dump(exe, core, is_several(trace)) {
         Ok(dump) => walk(alloc, &dump, trace, manner, input, out),
@@ -39,21 +39,22 @@ pub fn examine<S: Source, K: Sink>(
     }
 }
 
-/// Rebuilds the run of the dump's threads and studies it. A trace of several streams wants the registers of each thread.
+/// Rebuilds the run of the dump's threads and studies it. A trace of several streams wants the
+/// registers of each thread.
 pub fn walk<S: Source, K: Sink>(
     alloc: Global,
     dump: &Dump<'_>,
     trace: &[u8],
-    manner: Manner,
+    manner: OpenOptions,
     input: &mut S,
     out: &mut K,
-) -> Status
+) -> ExitStatus
     requires few { length trace.now < 2 ^ 32 }
     requires noted { HasNotes (is_several trace.now) dump.now }
     ensures text { (notes : List (List ℕ)) → AreNotesOf dump.now notes → IfSome (S.port input.old).bytes (λ bytes. Delivers (WalksTrace (crash_trace (crash_of dump.now notes) trace.now manner) (record { input = bytes; left = (S.port input.new).bytes })) (move (K.port out.old) (K.port out.new)) result) }
     ensures causes { (notes : List (List ℕ)) → AreNotesOf dump.now notes → IsWalked (crash_trace (crash_of dump.now notes) trace.now manner) (move (S.port input.old) (S.port input.new)) (move (K.port out.old) (K.port out.new)) result }
     ensures stays { (notes : List (List ℕ)) → AreNotesOf dump.now notes → (input.new ≡ input.old) ⊎ WalkHolds (crash_trace (crash_of dump.now notes) trace.now manner) result }
-    ensures impossible { (notes : List (List ℕ)) → AreNotesOf dump.now notes → result ≡ Status.Inconsistent → TraceExcludes (crash_trace (crash_of dump.now notes) trace.now manner) }
+    ensures impossible { (notes : List (List ℕ)) → AreNotesOf dump.now notes → result ≡ ExitStatus.Inconsistent → TraceExcludes (crash_trace (crash_of dump.now notes) trace.now manner) }
 {
     match trace_run(alloc, trace, dump, manner.from) {
         Ok(run) => study(alloc, manner.domain, &run, dump, input, out),

@@ -7,39 +7,39 @@ ghost use Rattle.rept_opening.specs.Delivered.{Delivers};
 ghost use Rattle.rept_app.specs.Ends.{IsCaused};
 ghost use Rattle.rept_app.specs.Held.{HoldsSession, IsHeldSession};
 
-use rept_opening::{Asking, Circumstances, Status, deliver};
+use rept_opening::{Asking, Circumstances, ExitStatus, deliver};
 use rept_ports::{Sink, Source};
 use rept_serve::{Served, serve};
 use rept_session::Findings;
 use std::alloc::Global;
 
-/// Answers the lines of the input by what was found, and tells what ended the session. `skipped` is the count of packets that the path
-/// was read without.
+/// Answers the lines of the input by what was found, and tells what ended the session. `skipped` is
+/// the count of packets that the path was read without.
 pub fn hold<F: Findings, S: Source, K: Sink>(
     alloc: Global,
     findings: &mut F,
     skipped: u32,
     input: &mut S,
     out: &mut K,
-) -> Status
+) -> ExitStatus
     ensures text { IfSome (S.port input.old).bytes (λ bytes. Delivers (IsHeldSession (session_told (F.shown findings.old) skipped (F.reasons findings.old)) (record { input = bytes; left = (S.port input.new).bytes })) (move (K.port out.old) (K.port out.new)) result) }
     ensures causes { IsCaused (move (S.port input.old) (S.port input.new)) (move (K.port out.old) (K.port out.new)) result }
     ensures same { F.shown findings.new ≡ F.shown findings.old }
     ensures same_reasons { SameReasons (F.reasons findings.old) (F.reasons findings.new) }
 {
     match serve(alloc, findings, skipped, input, out) {
-        Served::Ended => Status::Ok,
-        Served::ReadFault => deliver(out, b"input-fault\n", Status::InputFault),
-        Served::TooMuchInput => deliver(out, b"too-much-input\n", Status::TooMuchInput),
-        Served::OutputFault => Status::OutputFault,
-        Served::OutOfMemory => deliver(out, b"out-of-memory\n", Status::OutOfMemory),
+        Served::Ended => ExitStatus::Ok,
+        Served::ReadFault => deliver(out, b"input-fault\n", ExitStatus::InputFault),
+        Served::TooMuchInput => deliver(out, b"too-much-input\n", ExitStatus::TooMuchInput),
+        Served::OutputFault => ExitStatus::OutputFault,
+        Served::OutOfMemory => deliver(out, b"out-of-memory\n", ExitStatus::OutOfMemory),
     }
 }
 
 /// A session over the report of a crash, with the status that it ended with.
 #[derive(Clone, Copy)]
 pub struct HeldSession {
-    pub status: Status,
+    pub status: ExitStatus,
 }
 
 impl Asking for HeldSession {

@@ -10,19 +10,20 @@ ghost use Rattle.rept_app.specs.MadeRun.{Sums};
 use crate::examine::examine;
 use rept_amo::Atomic;
 use rept_make::{Made, make};
-use rept_opening::{Manner, Status, tell_no_memory};
+use rept_opening::{ExitStatus, OpenOptions, tell_no_memory};
 use rept_partial::Range;
-use rept_ports::{CalmSource, Sink};
+use rept_ports::{InfallibleSource, Sink};
 use rept_report::reports_are_sound;
 use rept_words::Domain;
 use std::alloc::Global;
 
-/// Makes the crash of a seed after so many steps, and writes the summary of its analysis. No file is loaded, and no input is read.
-pub fn tell_made_run<K: Sink>(alloc: Global, seed: u32, steps: u32, out: &mut K) -> Status
+/// Makes the crash of a seed after so many steps, and writes the summary of its analysis. No file
+/// is loaded, and no input is read.
+pub fn tell_made_run<K: Sink>(alloc: Global, seed: u32, steps: u32, out: &mut K) -> ExitStatus
     requires some { 1 ≤ steps }
     requires few { steps ≤ 20000 }
     ensures text { Delivers (Sums seed steps) (move (K.port out.old) (K.port out.new)) result }
-    ensures yields { Yields Status.Ok result }
+    ensures yields { Yields ExitStatus.Ok result }
     ensures ports { (source : Port) → PortsEnd (move source source) (move (K.port out.old) (K.port out.new)) result }
 {
     match make(alloc, seed, steps) {
@@ -32,18 +33,18 @@ pub fn tell_made_run<K: Sink>(alloc: Global, seed: u32, steps: u32, out: &mut K)
 }
 
 /// Examines the files of a made crash, and answers `summary`.
-fn answer_summary<K: Sink>(alloc: Global, made: &Made, out: &mut K) -> Status
+fn answer_summary<K: Sink>(alloc: Global, made: &Made, out: &mut K) -> ExitStatus
     requires few { length made.now.trace < 2 ^ 32 }
     ensures text { (seed steps : ℕ) → IsMade seed steps made.now → Delivers (Sums seed steps) (move (K.port out.old) (K.port out.new)) result }
-    ensures yields { (seed steps : ℕ) → IsMade seed steps made.now → Yields Status.Ok result }
+    ensures yields { (seed steps : ℕ) → IsMade seed steps made.now → Yields ExitStatus.Ok result }
     ensures ports { (seed steps : ℕ) → IsMade seed steps made.now → (source : Port) → PortsEnd (move source source) (move (K.port out.old) (K.port out.new)) result }
 {
     reports_are_sound::<Range, Atomic>();
     let exe = made.exe.bytes();
     let core = made.core.bytes();
     let trace = made.trace.bytes();
-    let mut input = CalmSource::new(b"summary\n");
-    let manner = Manner {
+    let mut input = InfallibleSource::new(b"summary\n");
+    let manner = OpenOptions {
         from: 0,
         domain: Domain::Ranges,
     };

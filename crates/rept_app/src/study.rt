@@ -13,13 +13,14 @@ ghost use Rattle.rept_opening.specs.True.{IsExcluded};
 
 use crate::hold::HeldSession;
 use rept_dump::Dump;
-use rept_opening::{Status, open_report, tell};
+use rept_opening::{ExitStatus, open_report, tell};
 use rept_ports::{Sink, Source};
 use rept_steps::Run;
 use rept_words::Domain;
 use std::alloc::Global;
 
-/// Analyses a run that ends in a dump, with values followed in a domain, and answers the input, or tells a conflict.
+/// Analyses a run that ends in a dump, with values followed in a domain, and answers the input, or
+/// tells a conflict.
 pub fn study<S: Source, K: Sink>(
     alloc: Global,
     domain: Domain,
@@ -27,12 +28,12 @@ pub fn study<S: Source, K: Sink>(
     dump: &Dump<'_>,
     input: &mut S,
     out: &mut K,
-) -> Status
+) -> ExitStatus
     requires fits { FitsDump dump.now run.now }
     ensures text { (notes : List (List ℕ)) → AreNotesOf dump.now notes → IfSome (S.port input.old).bytes (λ bytes. Delivers (Studies (crash_run (means_of domain) (crash_of dump.now notes) run.now) (record { input = bytes; left = (S.port input.new).bytes })) (move (K.port out.old) (K.port out.new)) result) }
     ensures causes { (notes : List (List ℕ)) → AreNotesOf dump.now notes → IsStudied (crash_run (means_of domain) (crash_of dump.now notes) run.now) (move (S.port input.old) (S.port input.new)) (move (K.port out.old) (K.port out.new)) result }
     ensures stays { (notes : List (List ℕ)) → AreNotesOf dump.now notes → (input.new ≡ input.old) ⊎ StudyHolds (crash_run (means_of domain) (crash_of dump.now notes) run.now) result }
-    ensures impossible { (notes : List (List ℕ)) → AreNotesOf dump.now notes → result ≡ Status.Inconsistent → IsExcluded (crash_run (means_of domain) (crash_of dump.now notes) run.now) }
+    ensures impossible { (notes : List (List ℕ)) → AreNotesOf dump.now notes → result ≡ ExitStatus.Inconsistent → IsExcluded (crash_run (means_of domain) (crash_of dump.now notes) run.now) }
 {
     match open_report::<HeldSession, S, K>(alloc, domain, run, dump, input, out) {
         Ok(held) => held.status,

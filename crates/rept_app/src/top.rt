@@ -2,7 +2,7 @@
 
 ghost use Rattle.std.specs.Prelude.{◌≡◌, ◌⊎◌, ◌↔◌, map, string_bytes, Contains, IfSome, None};
 ghost use Rattle.rept_isa.specs.declared.row.StepRow.{StepRow};
-ghost use Rattle.rept_view.specs.declared.drawn.Drawn.{Drawn};
+ghost use Rattle.rept_view.specs.declared.inferred.Conclusion.{Conclusion};
 ghost use Rattle.rept_view.specs.Seen.{Seen};
 ghost use Rattle.rept_amo.specs.Atomic.{atomic_rules};
 ghost use Rattle.rept_amo.specs.Rows.{RowConcludes};
@@ -13,7 +13,7 @@ ghost use Rattle.rept_opening.specs.Loading.{NamesNone, FaultsEnd};
 ghost use Rattle.rept_app.specs.Promise.{Promise};
 ghost use Rattle.rept_app.specs.Claims.{AskedHolds, BitsKnowMore, ComeToReport, ReportHolds, NoExecution};
 ghost use Rattle.rept_app.specs.Told.{CallWrites, call_input};
-ghost use Rattle.rept_app.specs.Top.{AskedEnds, ShelfCauses, TopCauses, LoadsOf, EndsByFiles, NoneFails, Completes};
+ghost use Rattle.rept_app.specs.Top.{AskedEnds, FileStoreCauses, TopCauses, LoadsOf, EndsByFiles, NoneFails, Completes};
 ghost use Rattle.rept_words.specs.Words.{meaning_of};
 
 use crate::examine::examine;
@@ -22,79 +22,94 @@ use crate::mapped::examine_mapped;
 use rept_amo::{Atomic, conclusions_are_listed};
 use rept_found::{reports_are_true, trips_are_true};
 use rept_known::Both;
-use rept_opening::{Asked, Status, load_files, tell};
+use rept_opening::{ExitStatus, LoadedRequest, load_files, tell};
 use rept_partial::Range;
-use rept_ports::{Shelf, Sink, Source};
+use rept_ports::{FileStore, Sink, Source};
 use rept_report::finer_sets_know_more;
 use std::alloc::Global;
 
-/// Opens the crash that the words name, and answers the commands of the input; or sums up a made run.
+/// Opens the crash that the words name, and answers the commands of the input; or sums up a made
+/// run.
 ///
-/// The words are `open EXE CORE TRACE`, or `bits` in the place of `open`, and maybe the number of the packet to begin from. The executable, the core file and the
-/// instruction trace are loaded from the shelf; the run of the threads that the trace tells is rebuilt; what registers and memory held along it is
-/// inferred from what the core file has of them, with values followed as ranges by `open`, and as ranges with known bits by `bits`; and each command is answered on the output. Where the files contradict each other,
-/// or something is refused, one line is written before the status.
+/// The words are `open EXE CORE TRACE`, or `bits` in the place of `open`, and maybe the number of
+/// the packet to begin from. The executable, the core file and the instruction trace are loaded
+/// from the file store; the run of the threads that the trace tells is rebuilt; what registers and
+/// memory held along it is inferred from what the core file has of them, with values followed as
+/// ranges by `open`, and as ranges with known bits by `bits`; and each command is answered on the
+/// output. Where the files contradict each other, or something is refused, one line is written
+/// before the status.
 ///
-/// Or they are `maps CORE TRACE`: the files of the program are those that the core file lists as mapped, which are loaded by their names. The first 64 that differ are, one after the
-/// other; one that is missing, too large or no image is passed over.
+/// Or they are `maps CORE TRACE`: the files of the program are those that the core file lists as
+/// mapped, which are loaded by their names. The first 64 that differ are, one after the other; one
+/// that is missing, too large or no image is passed over.
 ///
-/// Or they are `self SEED STEPS`: the three files of a made crash take the place of files, and the command `summary` that of the input.
-pub fn rept<H: Shelf, S: Source, K: Sink>(
+/// Or they are `self SEED STEPS`: the three files of a made crash take the place of files, and the
+/// command `summary` that of the input.
+pub fn rept<H: FileStore, S: Source, K: Sink>(
     alloc: Global,
     words: &[String],
-    shelf: &mut H,
+    file_store: &mut H,
     input: &mut S,
     out: &mut K,
-) -> Status
-    // Where the files and the input are told: at status 0 what was written is the answers of a session over the report of the files, and each
-    // register, byte, range, known bit and writer of that report holds in every execution of the run that ends in the crash, whatever the order in which its threads took turns; at status 1 there is none.
-    ensures promise { IfSome (H.port shelf.old).files (λ files. IfSome (S.port input.old).bytes (λ left.
-        Promise (call_input (map string_bytes words.now) files (move (H.port shelf.old) (H.port shelf.new)) (record { input = left; left = (S.port input.new).bytes })) (move (K.port out.old) (K.port out.new)) result)) }
+) -> ExitStatus
+    // Where the files and the input are told: at status 0 what was written is the answers of a
+    // session over the report of the files, and each register, byte, range, known bit and writer of
+    // that report holds in every execution of the run that ends in the crash, whatever the order in
+    // which its threads took turns; at status 1 there is none.
+    ensures promise { IfSome (H.port file_store.old).files (λ files. IfSome (S.port input.old).bytes (λ left.
+        Promise (call_input (map string_bytes words.now) files (move (H.port file_store.old) (H.port file_store.new)) (record { input = left; left = (S.port input.new).bytes })) (move (K.port out.old) (K.port out.new)) result)) }
 
-    // Each fault has its cause, for ports that tell their bytes and for ports that don't, and one of the input or the output ends the call. The files stay.
-    ensures causes { TopCauses (move (H.port shelf.old) (H.port shelf.new)) (move (S.port input.old) (S.port input.new)) (move (K.port out.old) (K.port out.new)) result }
+    // Each fault has its cause, for ports that tell their bytes and for ports that don't, and one
+    // of the input or the output ends the call. The files stay.
+    ensures causes { TopCauses (move (H.port file_store.old) (H.port file_store.new)) (move (S.port input.old) (S.port input.new)) (move (K.port out.old) (K.port out.new)) result }
 
-    // A fault of the shelf ends the call too, unless it is that of a mapped file that is passed over.
-    ensures once { FaultsEnd (meaning_of (map string_bytes words.now)) (H.port shelf.old).files → ShelfCauses (move (H.port shelf.old) (H.port shelf.new)) result }
+    // A fault of the file store ends the call too, unless it is that of a mapped file that is
+    // passed over.
+    ensures once { FaultsEnd (meaning_of (map string_bytes words.now)) (H.port file_store.old).files → FileStoreCauses (move (H.port file_store.old) (H.port file_store.new)) result }
 
     // The words alone decide on the usage line.
-    ensures usage { result ≡ Status.Usage → meaning_of (map string_bytes words.now) ≡ None }
-    ensures no_meaning { meaning_of (map string_bytes words.now) ≡ None → (result ≡ Status.Usage) ⊎ (result ≡ Status.OutputFault) ⊎ (result ≡ Status.OutOfMemory) }
+    ensures usage { result ≡ ExitStatus.Usage → meaning_of (map string_bytes words.now) ≡ None }
+    ensures no_meaning { meaning_of (map string_bytes words.now) ≡ None → (result ≡ ExitStatus.Usage) ⊎ (result ≡ ExitStatus.OutputFault) ⊎ (result ≡ ExitStatus.OutOfMemory) }
 
-    // Words that name no files leave the shelf as it was. Else the files before the last load are there, and within their limits.
-    ensures idle { NamesNone (meaning_of (map string_bytes words.now)) → shelf.new ≡ shelf.old }
-    ensures loads { LoadsOf (meaning_of (map string_bytes words.now)) (move (H.port shelf.old) (H.port shelf.new)) result }
+    // Words that name no files leave the file store as it was. Else the files before the last load
+    // are there, and within their limits.
+    ensures idle { NamesNone (meaning_of (map string_bytes words.now)) → file_store.new ≡ file_store.old }
+    ensures loads { LoadsOf (meaning_of (map string_bytes words.now)) (move (H.port file_store.old) (H.port file_store.new)) result }
 
-    // The input is as it was, unless a session was held; and that is only where the files come to a report.
-    ensures stays { (input.new ≡ input.old) ⊎ (EndsSession result × IfSome (H.port shelf.old).files (ComeToReport (map string_bytes words.now))) }
+    // The input is as it was, unless a session was held; and that is only where the files come to a
+    // report.
+    ensures stays { (input.new ≡ input.old) ⊎ (EndsSession result × IfSome (H.port file_store.old).files (ComeToReport (map string_bytes words.now))) }
 
-    // Where the files are told, they decide on each other status, unless a port fails or memory runs out.
-    ensures files { IfSome (H.port shelf.old).files (λ files. EndsByFiles (map string_bytes words.now) files result) }
+    // Where the files are told, they decide on each other status, unless a port fails or memory
+    // runs out.
+    ensures files { IfSome (H.port file_store.old).files (λ files. EndsByFiles (map string_bytes words.now) files result) }
 
     // What is written, where files and input tell their bytes.
-    ensures text { IfSome (H.port shelf.old).files (λ files. IfSome (S.port input.old).bytes (λ left.
-        Delivers (CallWrites (call_input (map string_bytes words.now) files (move (H.port shelf.old) (H.port shelf.new)) (record { input = left; left = (S.port input.new).bytes }))) (move (K.port out.old) (K.port out.new)) result)) }
+    ensures text { IfSome (H.port file_store.old).files (λ files. IfSome (S.port input.old).bytes (λ left.
+        Delivers (CallWrites (call_input (map string_bytes words.now) files (move (H.port file_store.old) (H.port file_store.new)) (record { input = left; left = (S.port input.new).bytes }))) (move (K.port out.old) (K.port out.new)) result)) }
 
     // Where no count rose, all of it is written, or memory ran out.
-    ensures complete { IfSome (H.port shelf.old).files (λ files. IfSome (S.port input.old).bytes (λ left.
-        NoneFails (move (H.port shelf.old) (H.port shelf.new)) (move (S.port input.old) (S.port input.new)) (move (K.port out.old) (K.port out.new)) → Completes (call_input (map string_bytes words.now) files (move (H.port shelf.old) (H.port shelf.new)) (record { input = left; left = (S.port input.new).bytes })) (move (K.port out.old) (K.port out.new)) result)) }
+    ensures complete { IfSome (H.port file_store.old).files (λ files. IfSome (S.port input.old).bytes (λ left.
+        NoneFails (move (H.port file_store.old) (H.port file_store.new)) (move (S.port input.old) (S.port input.new)) (move (K.port out.old) (K.port out.new)) → Completes (call_input (map string_bytes words.now) files (move (H.port file_store.old) (H.port file_store.new)) (record { input = left; left = (S.port input.new).bytes })) (move (K.port out.old) (K.port out.new)) result)) }
 
-    // A made run: nothing is loaded or read, and the status is `Ok` unless the output fails or memory runs out. An execution of its
-    // path ends in the dump, and what is told holds in it.
+    // A made run: nothing is loaded or read, and the status is `Ok` unless the output fails or
+    // memory runs out. An execution of its path ends in the dump, and what is told holds in it.
     ensures unread { NamesNone (meaning_of (map string_bytes words.now)) → input.new ≡ input.old }
     ensures made { AskedEnds (meaning_of (map string_bytes words.now)) result }
     ensures executed { AskedHolds (meaning_of (map string_bytes words.now)) }
 
-    // What is told of values, bytes, ranges and writers holds in every execution of the run that ends in the dump, and reasons rest
-    // on it; a conflict is told only where there is no such execution.
-    ensures sound { IfSome (H.port shelf.old).files (λ files. ReportHolds (map string_bytes words.now) files) }
-    ensures impossible { IfSome (H.port shelf.old).files (λ files. result ≡ Status.Inconsistent → NoExecution (map string_bytes words.now) files) }
+    // What is told of values, bytes, ranges and writers holds in every execution of the run that
+    // ends in the dump, and reasons rest on it; a conflict is told only where there is no such
+    // execution.
+    ensures sound { IfSome (H.port file_store.old).files (λ files. ReportHolds (map string_bytes words.now) files) }
+    ensures impossible { IfSome (H.port file_store.old).files (λ files. result ≡ ExitStatus.Inconsistent → NoExecution (map string_bytes words.now) files) }
 
-    // The report is what follows by the rules of rows, which are the cases of a relation: each conclusion by one of them, and no other.
-    ensures rules { (row : StepRow) (s : Seen) (d : Drawn) → Contains (atomic_rules.draw row s) d ↔ RowConcludes row s d }
+    // The report is what follows by the rules of rows, which are the cases of a relation: each
+    // conclusion by one of them, and no other.
+    ensures rules { (row : StepRow) (s : Seen) (d : Conclusion) → Contains (atomic_rules.infer row s) d ↔ RowConcludes row s d }
 
     // Each fact of the report of `open` is told by `bits` of the same files.
-    ensures bits { IfSome (H.port shelf.old).files (λ files. BitsKnowMore (map string_bytes words.now) files) }
+    ensures bits { IfSome (H.port file_store.old).files (λ files. BitsKnowMore (map string_bytes words.now) files) }
 {
     conclusions_are_listed();
     reports_are_true::<Range, Atomic>();
@@ -102,15 +117,15 @@ pub fn rept<H: Shelf, S: Source, K: Sink>(
     trips_are_true::<Range, Atomic>();
     trips_are_true::<Both, Atomic>();
     finer_sets_know_more::<Both, Range, Atomic>();
-    match load_files(alloc, words, shelf) {
-        Ok(Asked::Files(files)) => {
+    match load_files(alloc, words, file_store) {
+        Ok(LoadedRequest::Files(files)) => {
             let exe = files.exe.as_slice();
             let core = files.core.as_slice();
             let trace = files.trace.as_slice();
             examine(alloc, exe, core, trace, files.manner, input, out)
         }
-        Ok(Asked::Maps(files)) => examine_mapped(alloc, shelf, &files, input, out),
-        Ok(Asked::Made { seed, steps }) => tell_made_run(alloc, seed, steps, out),
+        Ok(LoadedRequest::Maps(files)) => examine_mapped(alloc, file_store, &files, input, out),
+        Ok(LoadedRequest::Made { seed, steps }) => tell_made_run(alloc, seed, steps, out),
         Err(refusal) => tell(alloc, out, &refusal),
     }
 }

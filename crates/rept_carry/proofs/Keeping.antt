@@ -3,20 +3,20 @@ use Rattle.std.proofs.Common.{◌≡◌, ◌↔◌, ℕ, true, Option, Some, sym
 use Rattle.std.specs.List.{Contains}
 use Rattle.rept_report.specs.Moments.{Moments}
 use Rattle.rept_report.specs.Timeline.{IsLeastFrom, IsGreatestTo}
-use Rattle.rept_moments.specs.declared.course.Course.{Course}
-use Rattle.rept_moments.specs.declared.course.Course as courses
+use Rattle.rept_moments.specs.declared.course.NumberedRun.{NumberedRun}
+use Rattle.rept_moments.specs.declared.course.NumberedRun as courses
 use Rattle.rept_moments.specs.Courses.{seen_in}
 use Rattle.rept_carry.specs.declared.links.Links.{Links}
 use Rattle.rept_carry.specs.Links.{listed, AreLinks, IsNextFrom, IsNextTo, IsPreviousFrom, IsPreviousTo}
 use Rattle.rept_carry.specs.Course.{AreWays}
 use Rattle.rept_carry.proofs.Carrying.{least_same, greatest_same}
 
-pub are_ways : (course : Course) (links : Links) → AreLinks (seen_in course).moments links → AreWays course links
+pub are_ways : (course : NumberedRun) (links : Links) → AreLinks (seen_in course).moments links → AreWays course links
 are_ways (courses.TheVariants.One steps) links known = tt
 are_ways (courses.TheVariants.Many many) links known = known
 
-pub are_kept : (course : Course) (many : Rattle.rept_steps.specs.Course.Course) (links : Links) → course ≡ courses.TheVariants.Many many → AreWays course links → AreLinks (seen_in course).moments links
-are_kept course many links same ways = subst (λ (x : Course). AreWays x links → AreLinks (seen_in x).moments links) (sym same) (λ known. known) ways
+pub are_kept : (course : NumberedRun) (many : Rattle.rept_steps.specs.Course.Course) (links : Links) → course ≡ courses.TheVariants.Many many → AreWays course links → AreLinks (seen_in course).moments links
+are_kept course many links same ways = subst (λ (x : NumberedRun). AreWays x links → AreLinks (seen_in x).moments links) (sym same) (λ known. known) ways
 
 -- what is linked is what is next
 module _ (M : Moments) (links : Links) (known : AreLinks M links) (number bound : ℕ) (r : Option ℕ) where

@@ -3,7 +3,7 @@ use Rattle.std.proofs.Common.{◌≡◌, ℕ, ◌+◌, ◌<◌, ◌≤◌, Bool,
 use Rattle.std.proofs.lemmas.Bool.{cases_order, false≢true}
 use Rattle.std.proofs.lemmas.Option.{slice_get_past}
 use Rattle.rept_span.specs.Ranges.{Legs}
-use Rattle.rept_report.specs.declared.paths.Line.{Line}
+use Rattle.rept_report.specs.declared.paths.NumberChain.{NumberChain}
 use Rattle.rept_report.specs.Moments.{Moments, AreMoments, points_of}
 use Rattle.rept_report.specs.Timeline.{IsJoined, IsLine}
 use Rattle.rept_report.proofs.Line.{next_is, is_next}
@@ -11,10 +11,10 @@ use Rattle.rept_carry.specs.Links.{IsNextFrom, IsNextTo}
 use Rattle.rept_moments.proofs.Places.{get_end, get_before}
 use Rattle.rept_carry.specs.Lines.{IsLineFrom, AreLinesBelow, whole}
 
-some_same : {x y : Line} → Some x ≡ Some y → x ≡ y
+some_same : {x y : NumberChain} → Some x ≡ Some y → x ≡ y
 some_same e = cc
 
-some_none : {x : Line} → None ≡ Some x → ⊥
+some_none : {x : NumberChain} → None ≡ Some x → ⊥
 some_none e = cc
 
 not_so : (b : Bool) → (b ≡ true → ⊥) → b ≡ false
@@ -62,10 +62,10 @@ module _ (M : Moments) where
   pub first_line : (last : ℕ) → IsLineFrom M 0 last → IsLine M 0 (whole last)
   first_line last run = record { from = omega arith; to = run.up; inside = run.inside; joined = run.joined; begins = λ k same its. absurd (omega arith); ends = run.ends }
 
-  pub line_same : (m : ℕ) (x : Line) → m < x.last → IsLine M m x → IsLine M (m + 1) x
+  pub line_same : (m : ℕ) (x : NumberChain) → m < x.last → IsLine M m x → IsLine M (m + 1) x
   line_same m x less its = record { from = let low = its.from in omega arith; to = omega arith; inside = its.inside; joined = its.joined; begins = its.begins; ends = its.ends }
 
-  pub line_more : (m last : ℕ) (x : Line) → x.last ≤ m → IsLine M m x → IsLineFrom M (m + 1) last → IsLine M (m + 1) (record { first = m + 1; last = last })
+  pub line_more : (m last : ℕ) (x : NumberChain) → x.last ≤ m → IsLine M m x → IsLineFrom M (m + 1) last → IsLine M (m + 1) (record { first = m + 1; last = last })
   line_more m last x over its run =
       let same : x.last ≡ m = let to = its.to in omega arith in
       record {
@@ -80,7 +80,7 @@ module _ (M : Moments) where
   pub no_lines : AreLinesBelow M 0 []
   no_lines = record { count = refl; each = λ k x e. absurd (some_none (sym (slice_get_past [] k (omega arith)) ∙ e)) }
 
-  pub lines_more : (n : ℕ) (x : Line) (list : List Line) → AreLinesBelow M n list → IsLine M n x → AreLinesBelow M (n + 1) (list ++ x ∷ [])
+  pub lines_more : (n : ℕ) (x : NumberChain) (list : List NumberChain) → AreLinesBelow M n list → IsLine M n x → AreLinesBelow M (n + 1) (list ++ x ∷ [])
   lines_more n x list known its = record { count = count; each = each }
     where
       many : length (list ++ x ∷ []) ≡ length list + 1
@@ -89,18 +89,18 @@ module _ (M : Moments) where
       count : length (list ++ x ∷ []) ≡ n + 1
       count = let old = known.count in let new = many in omega arith
 
-      each : (k : ℕ) (y : Line) → slice_get (list ++ x ∷ []) k ≡ Some y → IsLine M k y
+      each : (k : ℕ) (y : NumberChain) → slice_get (list ++ x ∷ []) k ≡ Some y → IsLine M k y
       each k y e =
           elim (cases_order k (length list)) [
             | inl same ↦
                 let here : x ≡ y = some_same (sym (get_end list x) ∙ ap (λ (j : ℕ). slice_get (list ++ x ∷ []) j) (sym same) ∙ e) in
                 let number : n ≡ k = let old = known.count in omega arith in
-                subst (λ (z : Line). IsLine M k z) here (subst (λ (j : ℕ). IsLine M j x) number its)
+                subst (λ (z : NumberChain). IsLine M k z) here (subst (λ (j : ℕ). IsLine M j x) number its)
             | inr (inl below) ↦ known.each k y (sym (get_before list x k below) ∙ e)
             | inr (inr over) ↦ absurd (some_none (sym (slice_get_past (list ++ x ∷ []) k (let new = many in omega arith)) ∙ e))
           ]
 
-  pub line_read : (n number : ℕ) (x : Line) (list : List Line) → AreLinesBelow M n list → slice_get list number ≡ Some x → IsLine M number x
+  pub line_read : (n number : ℕ) (x : NumberChain) (list : List NumberChain) → AreLinesBelow M n list → slice_get list number ≡ Some x → IsLine M number x
   line_read n number x list known e = known.each number x e
 
 pub alone_whole : (n m : ℕ) → m ≤ n → IsLine (points_of n) m (whole n)

@@ -9,7 +9,7 @@ use Rattle.rept_report.specs.Moments.{Moments, AreMoments}
 use Rattle.rept_moments.specs.Seen.{AddsNexts}
 use Rattle.rept_carry.specs.declared.links.Links.{Links}
 use Rattle.rept_carry.specs.Rising.{AddsOne}
-use Rattle.rept_carry.specs.Links.{listed, AreEmpty, AddsAt, Leads, Comes, AreNone, AreRoomFor, AreLinked, AreLinks, AddsPairs, IsPair, IsPairOf, IsNextOf}
+use Rattle.rept_carry.specs.Links.{listed, HasNoLinks, AddsAt, Leads, Comes, AreNone, AreRoomFor, AreLinked, AreLinks, AddsPairs, IsPair, IsPairOf, IsNextOf}
 
 none_in : (w : ℕ) → Contains {X = ℕ} [] w → ⊥
 none_in w h = let less = h.1 in omega arith

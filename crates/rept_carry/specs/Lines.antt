@@ -1,6 +1,7 @@
--- The lines of the moments of a course: numbers one after the other, of which each but the last has the one after it next to it, and no other. This project's own.
+-- The lines of the moments of a course: numbers one after the other, of which each but the last has
+-- the one after it next to it, and no other. This project's own.
 use Rattle.std.specs.Prelude.{◌≡◌, ℕ, ◌+◌, ◌<◌, ◌≤◌, List, length, Some, slice_get}
-use Rattle.rept_report.specs.declared.paths.Line.{Line}
+use Rattle.rept_report.specs.declared.paths.NumberChain.{NumberChain}
 use Rattle.rept_report.specs.Moments.{Moments}
 use Rattle.rept_report.specs.Timeline.{IsJoined, IsLine}
 use Rattle.rept_carry.specs.declared.lines.Lines.{Lines}
@@ -14,12 +15,12 @@ pub record IsLineFrom (M : Moments) (first last : ℕ) : Type 0 where
   pub ends : IsJoined M last → ⊥
 
 -- the list has the lines of the numbers below one
-pub record AreLinesBelow (M : Moments) (n : ℕ) (list : List Line) : Type 0 where
+pub record AreLinesBelow (M : Moments) (n : ℕ) (list : List NumberChain) : Type 0 where
   pub count : length list ≡ n
-  pub each : (k : ℕ) (x : Line) → slice_get list k ≡ Some x → IsLine M k x
+  pub each : (k : ℕ) (x : NumberChain) → slice_get list k ≡ Some x → IsLine M k x
 
 -- these are the lines of all numbers
-abbrev pub whole : ℕ → Line
+abbrev pub whole : ℕ → NumberChain
 whole end = record { first = 0; last = end }
 
 abbrev pub AreLines : Moments → Lines → Type 0

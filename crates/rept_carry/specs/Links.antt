@@ -1,4 +1,5 @@
--- Which numbers are next to each, and to which ones each is next, in lists by numbers. This project's own.
+-- Which numbers are next to each, and to which ones each is next, in lists by numbers. This
+-- project's own.
 use Rattle.std.specs.Prelude.{◌≡◌, ℕ, ◌+◌, ◌⊎◌, ◌↔◌, true, List, [], length, slice_index_or, Option}
 use Rattle.std.specs.List.{Contains}
 use Rattle.rept_report.specs.Moments.{Moments}
@@ -10,7 +11,7 @@ abbrev pub listed : List (List ℕ) → ℕ → List ℕ
 listed lists k = slice_index_or lists k []
 
 -- so many lists, all of them empty
-pub record AreEmpty (count : ℕ) (lists : List (List ℕ)) : Type 0 where
+pub record HasNoLinks (count : ℕ) (lists : List (List ℕ)) : Type 0 where
   pub many : length lists ≡ count
   pub none : (k : ℕ) → listed lists k ≡ []
 
@@ -27,8 +28,8 @@ Comes links m w = Contains (listed links.back.items w) m
 
 -- there are links of so many numbers, none at first
 pub record AreNone (count : ℕ) (links : Links) : Type 0 where
-  pub onward : AreEmpty count links.onward.items
-  pub back : AreEmpty count links.back.items
+  pub onward : HasNoLinks count links.onward.items
+  pub back : HasNoLinks count links.back.items
 
 -- for each number there is a list onward and one back
 pub record AreRoomFor (moments : Moments) (links : Links) : Type 0 where
@@ -59,7 +60,8 @@ IsPairOf from list m w = (m ≡ from) × Contains list w
 abbrev pub IsNextOf : Moments → ℕ → ℕ → ℕ → Type 0
 IsNextOf moments from m w = (m ≡ from) × (moments.next m w ≡ true)
 
--- the least number from one on, and the greatest one up to one, that is next to a number, and to which a number is next
+-- the least number from one on, and the greatest one up to one, that is next to a number, and to
+-- which a number is next
 abbrev pub IsNextFrom : Moments → ℕ → ℕ → Option ℕ → Type 0
 IsNextFrom moments m least found = IsLeastFrom (λ w. moments.next m w ≡ true) least found
 

@@ -1,4 +1,5 @@
-//! Lines: numbers one after the other, of which each but the last has the one after it next to it, and no other.
+//! Lines: numbers one after the other, of which each but the last has the one after it next to it,
+//! and no other.
 
 ghost use Rattle.std.specs.Prelude.{◌≡◌, ◌≤◌, ◌<◌, ◌+◌, ℕ, true, false, IfOk, IsOk};
 ghost use Rattle.rept_report.specs.Moments.{Moments, AreMoments};
@@ -7,8 +8,8 @@ ghost use Rattle.rept_moments.specs.Courses.{seen_in, is_one};
 ghost use Rattle.rept_carry.specs.Lines.{IsLineFrom, AreLinesBelow, AreLines, IsIn};
 
 use crate::ways::Ways;
-use rept_moments::Course;
-use rept_report::paths::Line;
+use rept_moments::NumberedRun;
+use rept_report::paths::NumberChain;
 use std::alloc::{AllocError as OutOfMemory, Global};
 
 /// The line of each number.
@@ -22,7 +23,7 @@ pub enum Lines {
     /// Of several threads they are listed by numbers.
     Many {
         /// The line of each number.
-        list: Vec<Line>,
+        list: Vec<NumberChain>,
     },
 }
 
@@ -84,7 +85,7 @@ fn last_from(ways: &Ways<'_>, first: u32) -> u32
 }
 
 /// The line of a number, from that of the number before it.
-fn line_after(ways: &Ways<'_>, line: Line, number: u32) -> Line
+fn line_after(ways: &Ways<'_>, line: NumberChain, number: u32) -> NumberChain
     requires inside { number < (seen_in ways.now).moments.end }
     requires laws { AreMoments (seen_in ways.now).legs (seen_in ways.now).moments }
     requires line { IsLine (seen_in ways.now).moments number line }
@@ -94,7 +95,7 @@ fn line_after(ways: &Ways<'_>, line: Line, number: u32) -> Line
     if number < line.last {
         line
     } else {
-        Line {
+        NumberChain {
             first: number + 1,
             last: last_from(ways, number + 1),
         }
@@ -102,12 +103,12 @@ fn line_after(ways: &Ways<'_>, line: Line, number: u32) -> Line
 }
 
 /// The line of each number.
-fn all_lines(alloc: Global, ways: &Ways<'_>) -> Result<Vec<Line>, OutOfMemory>
+fn all_lines(alloc: Global, ways: &Ways<'_>) -> Result<Vec<NumberChain>, OutOfMemory>
     requires { AreMoments (seen_in ways.now).legs (seen_in ways.now).moments }
     ensures { IfOk result (λ v. AreLinesBelow (seen_in ways.now).moments ((seen_in ways.now).moments.end + 1) v.items) }
 {
     let mut list = Vec::new(alloc);
-    let mut line = Line {
+    let mut line = NumberChain {
         first: 0,
         last: last_from(ways, 0),
     };
@@ -121,15 +122,16 @@ fn all_lines(alloc: Global, ways: &Ways<'_>) -> Result<Vec<Line>, OutOfMemory>
 }
 
 impl Lines {
-    /// The lines of a course. Of one thread alone it takes no memory, else memory for one entry a number.
+    /// The lines of a course. Of one thread alone it takes no memory, else memory for one entry a
+    /// number.
     pub fn new(alloc: Global, ways: &Ways<'_>) -> Result<Lines, OutOfMemory>
         ensures lines { IfOk result (λ l. AreLines (seen_in ways.now).moments l) }
         ensures inside { IfOk result (λ l. (m : ℕ) → m ≤ (seen_in ways.now).moments.end → IsIn l m) }
         ensures alone { is_one ways.now ≡ true → IsOk result }
     {
         match ways.course() {
-            Course::One { steps } => Ok(Lines::One { end: steps.len() }),
-            Course::Many(_) => {
+            NumberedRun::One { steps } => Ok(Lines::One { end: steps.len() }),
+            NumberedRun::Many(_) => {
                 let list = all_lines(alloc, ways)?;
                 Ok(Lines::Many { list })
             }
@@ -137,12 +139,12 @@ impl Lines {
     }
 
     /// The line of a number of the course whose lines these are.
-    pub fn line(&self, number: u32) -> Line
+    pub fn line(&self, number: u32) -> NumberChain
         requires { IsIn self.now number }
         ensures { (moments : Moments) → AreLines moments self.now → number ≤ moments.end → IsLine moments number result }
     {
         match self {
-            Lines::One { end } => Line {
+            Lines::One { end } => NumberChain {
                 first: 0,
                 last: *end,
             },

@@ -5,10 +5,10 @@ ghost use Rattle.std.specs.List.{All, Contains};
 ghost use Rattle.rept_report.specs.Moments.{AreMoments};
 ghost use Rattle.rept_report.specs.Timeline.{IsLeastFrom, IsGreatestTo};
 ghost use Rattle.rept_moments.specs.Courses.{seen_in};
-ghost use Rattle.rept_carry.specs.Links.{listed, AreEmpty, AddsAt, AreNone, AreRoomFor, AreLinks, AddsPairs, IsPair, IsPairOf, IsNextOf};
+ghost use Rattle.rept_carry.specs.Links.{listed, HasNoLinks, AddsAt, AreNone, AreRoomFor, AreLinks, AddsPairs, IsPair, IsPairOf, IsNextOf};
 
 use crate::rising::Rising;
-use rept_moments::Course;
+use rept_moments::NumberedRun;
 use std::alloc::{AllocError as OutOfMemory, Global};
 
 /// The numbers next to each number, and those to which each is next.
@@ -20,9 +20,9 @@ pub struct Links {
     pub back: Vec<Rising>,
 }
 
-/// So many lists, all of them empty.
+/// Lists of this number, all of them empty.
 fn empty(alloc: Global, count: usize) -> Result<Vec<Rising>, OutOfMemory>
-    ensures { IfOk result (λ v. AreEmpty count v.items) }
+    ensures { IfOk result (λ v. HasNoLinks count v.items) }
 {
     let mut lists = Vec::new(alloc);
     for _list in 0..count {
@@ -110,7 +110,7 @@ impl Links {
     /// Links a number to those next to it, by a list that is lent.
     fn add_nexts(
         &mut self,
-        course: &Course<'_>,
+        course: &NumberedRun<'_>,
         from: u32,
         list: &mut Vec<u32>,
     ) -> Result<(), OutOfMemory>
@@ -127,7 +127,7 @@ impl Links {
     }
 
     /// The links of a course. It takes memory for two lists a number and for two entries a link.
-    pub fn new(alloc: Global, course: &Course<'_>) -> Result<Links, OutOfMemory>
+    pub fn new(alloc: Global, course: &NumberedRun<'_>) -> Result<Links, OutOfMemory>
         requires laws { AreMoments (seen_in course.now).legs (seen_in course.now).moments }
         ensures { IfOk result (AreLinks (seen_in course.now).moments) }
     {

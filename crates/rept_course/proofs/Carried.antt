@@ -4,13 +4,13 @@ use Rattle.std.specs.Option.{is_some}
 use Rattle.std.proofs.lemmas.Bool.{false≢true, cases_Bool, cases_eq, and_from}
 use Rattle.rept_steps.specs.Course.{Course, Row, IsRow, IsSoundCourse}
 use Rattle.rept_order.specs.Events.{Event, first_event, last_event, Precedes, PrecedesOrIs}
-use Rattle.rept_order.specs.Moments.{Moment, IsMoment, NotLater, Act, IsAct, Stretch, stretch, Falls, may_by, stores, IsUntouchedStep, Forth}
+use Rattle.rept_order.specs.Moments.{Moment, IsMoment, NotLater, Act, IsAct, Stretch, stretch, MayAct, may_by, stores, IsUntouchedStep, Forth}
 use Rattle.rept_order.specs.Moments.Moment.{before, after, at_end}
-use Rattle.rept_order.specs.Moments.Act.{row, dark}
-use Rattle.rept_order.specs.Times.{falls_between}
+use Rattle.rept_order.specs.Moments.Act.{row, untraced}
+use Rattle.rept_order.specs.Times.{may_act_between}
 use Rattle.rept_order.specs.Legs.{row_from}
 use Rattle.rept_order.specs.Interleaved.{leg_of}
-use Rattle.rept_order.proofs.Falling.{falls_from}
+use Rattle.rept_order.proofs.Acting.{may_act_from}
 use Rattle.rept_order.specs.History.{Ending}
 use Rattle.rept_order.proofs.Sequence.{chain_last}
 use Rattle.rept_order.proofs.Nexts.{step_by_step}
@@ -23,7 +23,7 @@ use Rattle.rept_report.specs.Setting.{Setting}
 use Rattle.rept_report.specs.Spots.{passage}
 use Rattle.rept_report.specs.Views.{may_write, Carries}
 use Rattle.rept_course.specs.Names.{MomentNames, IsLink, AreNames}
-use Rattle.rept_course.specs.Numbered.{row_on, falls_by, dark_by, setting_of}
+use Rattle.rept_course.specs.Numbered.{row_on, may_act_by, untraced_by, setting_of}
 use Rattle.rept_course.specs.Carried.{may_in, CarriedAlong}
 use Rattle.rept_course.proofs.Naming.{some_is, quiet_carried}
 
@@ -61,7 +61,7 @@ module _ {W : Type 0} (sets : Sets W) (moves : Moves W) (rules : Rules) (C : Cou
             let carries : Carries S K (passage a (N.name m) (N.name x)) = record {
               next = by.next;
               light = by.light;
-              spared = λ i falls. subst (λ (k : ℕ). may_write S K k a ≡ false) (number_point C i) (by.spared i falls);
+              spared = λ i may_act. subst (λ (k : ℕ). may_write S K k a ≡ false) (number_point C i) (by.spared i may_act);
             } in
             (N.name x ∷ rest.0, (carries, rest.1))
       ]
@@ -71,22 +71,23 @@ module _ {W : Type 0} (sets : Sets W) (moves : Moves W) (rules : Rules) (C : Cou
       let steps = step_by_step C sound (may_in S K C) a m w is its quiet in
       along steps.0 m w is steps.1
 
-  -- what is carried between two names is quiet between two of their moments, where a row that can't write memory may not
+  -- what is carried between two names is quiet between two of their moments, where a row that can't
+  -- write memory may not
   pub carried_quiet : ((r : Row) → may_in S K C r a ≡ true → stores C r ≡ true) → (m w : ℕ) → Carries S K (passage a m w) → (x : Stretch) × IsLink C N m w x × IsUntouchedStep C (may_in S K C) x a
   carried_quiet only m w h =
       let found = some_is (N.link m w) h.next in
       let link = names.links m w found.0 found.1 in
-      (found.0, link, record { later = link.next.later; quiet = record { in_order = link.next.later.0; spared = λ act is falls. spared found.0 found.1 link act is falls } })
+      (found.0, link, record { later = link.next.later; quiet = record { in_order = link.next.later.0; spared = λ act is may_act. spared found.0 found.1 link act is may_act } })
     where
-      spared : (x : Stretch) → N.link m w ≡ Some x → IsLink C N m w x → (act : Act) → IsAct C act → Falls C act x → may_by (may_in S K C) act a ≡ false
-      spared x found link dark is falls =
-          let between = falls_from C sound dark x.from x.to is link.from link.to falls in
-          absurd (false≢true (sym h.light ∙ ap (dark_by C) found ∙ and_from (is_some C.dark) (falls_between C dark x.from x.to) (ap is_some is.1) between))
-      spared x found link (row r) is falls =
+      spared : (x : Stretch) → N.link m w ≡ Some x → IsLink C N m w x → (act : Act) → IsAct C act → MayAct C act x → may_by (may_in S K C) act a ≡ false
+      spared x found link untraced is may_act =
+          let between = may_act_from C sound untraced x.from x.to is link.from link.to may_act in
+          absurd (false≢true (sym h.light ∙ ap (untraced_by C) found ∙ and_from (is_some C.untraced) (may_act_between C untraced x.from x.to) (ap is_some is.1) between))
+      spared x found link (row r) is may_act =
           elim (cases_Bool (may_in S K C r a)) [
             | inr out ↦ out
             | inl may ↦
-                let between = falls_from C sound (row r) x.from x.to is link.from link.to falls in
+                let between = may_act_from C sound (row r) x.from x.to is link.from link.to may_act in
                 let same : row_on C (leg_of C r) ≡ r = ap row_from (point_number C r.thread r.step (thread_inside C r is) (omega arith)) in
-                h.spared (leg_of C r) (ap (λ (q : Row). falls_by C q (N.link m w)) same ∙ ap (falls_by C r) found ∙ and_from (stores C r) (falls_between C (row r) x.from x.to) (only r may) between)
+                h.spared (leg_of C r) (ap (λ (q : Row). may_act_by C q (N.link m w)) same ∙ ap (may_act_by C r) found ∙ and_from (stores C r) (may_act_between C (row r) x.from x.to) (only r may) between)
           ]

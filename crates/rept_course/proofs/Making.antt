@@ -3,13 +3,13 @@ use Rattle.std.proofs.Common.{◌≡◌, ◌≢◌, ℕ, suc, ◌<◌, ◌⊎◌
 use Rattle.std.specs.Option.{is_some}
 use Rattle.std.proofs.lemmas.Bool.{false≢true, cases_Bool, cases_lt, cases_eq, or_left, or_right, or_cases, and_parts, and_from, eq-eqb, ne_eqb, eqb-true, lt-ltb, le-ltb}
 use Rattle.rept_steps.specs.Course.{Course, Row, row_of, rows_of, IsRow, calls, IsSoundCourse}
-use Rattle.rept_order.specs.Moments.{Moment, IsMoment, Earlier, Act, IsAct, Stretch, stretch, Falls, IsNext, stores, ArePause, AreOne}
+use Rattle.rept_order.specs.Moments.{Moment, IsMoment, Earlier, Act, IsAct, Stretch, stretch, MayAct, IsNext, stores, ArePause, AreOne}
 use Rattle.rept_order.specs.Moments.Moment.{before, after, at_end}
-use Rattle.rept_order.specs.Moments.Act.{row, dark}
+use Rattle.rept_order.specs.Moments.Act.{row, untraced}
 use Rattle.rept_order.specs.Moments.ArePause.{between, last}
-use Rattle.rept_order.specs.Times.{same_row, same_moment, is_earlier, falls_between}
+use Rattle.rept_order.specs.Times.{same_row, same_moment, is_earlier, may_act_between}
 use Rattle.rept_order.proofs.Decide.{row_true, row_self, earlier_true, earlier_from}
-use Rattle.rept_order.proofs.Falling.{falls_true, falls_from}
+use Rattle.rept_order.proofs.Acting.{may_act_true, may_act_from}
 use Rattle.rept_order.proofs.Between.{row_forward, none_inside}
 use Rattle.rept_order.proofs.Nexts.{In, every, listed}
 use Rattle.rept_course.specs.Names.{IsLink, AreNames}
@@ -197,29 +197,29 @@ module _ (C : Course) (sound : IsSoundCourse C) where
   rows_at x (y ∷ ms) m e (inl same) = subst (λ (z : Moment). still_by C x z ≡ true) same (and_parts (still_by C x y) (rows_still C x ms) e).0
   rows_at x (y ∷ ms) m e (inr h) = rows_at x ms m (and_parts (still_by C x y) (rows_still C x ms) e).1 h
 
-  -- whether nothing that may write falls is decided
-  still_true : (x : Stretch) → IsMoment C x.from → IsMoment C x.to → is_still C x ≡ true → (act : Act) → IsAct C act → Falls C act x → can C act ≡ false
-  still_true x from to e dark is falls =
-      let parts = and_parts (not (is_some C.dark && falls_between C dark x.from x.to)) (rows_still C x (moments_in C)) e in
-      absurd (not_true (is_some C.dark && falls_between C dark x.from x.to) parts.0 (and_from (is_some C.dark) (falls_between C dark x.from x.to) (ap is_some is.1) (falls_from C sound dark x.from x.to is from to falls)))
-  still_true x from to e (row r) is falls =
-      let parts = and_parts (not (is_some C.dark && falls_between C dark x.from x.to)) (rows_still C x (moments_in C)) e in
+  -- whether nothing that may write may act is decided
+  still_true : (x : Stretch) → IsMoment C x.from → IsMoment C x.to → is_still C x ≡ true → (act : Act) → IsAct C act → MayAct C act x → can C act ≡ false
+  still_true x from to e untraced is may_act =
+      let parts = and_parts (not (is_some C.untraced && may_act_between C untraced x.from x.to)) (rows_still C x (moments_in C)) e in
+      absurd (not_true (is_some C.untraced && may_act_between C untraced x.from x.to) parts.0 (and_from (is_some C.untraced) (may_act_between C untraced x.from x.to) (ap is_some is.1) (may_act_from C sound untraced x.from x.to is from to may_act)))
+  still_true x from to e (row r) is may_act =
+      let parts = and_parts (not (is_some C.untraced && may_act_between C untraced x.from x.to)) (rows_still C x (moments_in C)) e in
       elim (cases_Bool (stores C r)) [
         | inr still ↦ still
-        | inl writes ↦ absurd (not_true (stores C r && falls_between C (row r) x.from x.to) (rows_at x (moments_in C) (before r) parts.1 (every C (before r) is)) (and_from (stores C r) (falls_between C (row r) x.from x.to) writes (falls_from C sound (row r) x.from x.to is from to falls)))
+        | inl writes ↦ absurd (not_true (stores C r && may_act_between C (row r) x.from x.to) (rows_at x (moments_in C) (before r) parts.1 (every C (before r) is)) (and_from (stores C r) (may_act_between C (row r) x.from x.to) writes (may_act_from C sound (row r) x.from x.to is from to may_act)))
       ]
 
   told_is : (o : Option ℕ) → is_some o ≡ true → (d : ℕ) × (o ≡ Some d)
   told_is None e = absurd (false≢true e)
   told_is (Some d) e = (d, refl)
 
-  module _ (x : Stretch) (from : IsMoment C x.from) (to : IsMoment C x.to) (still : (act : Act) → IsAct C act → Falls C act x → can C act ≡ false) where
+  module _ (x : Stretch) (from : IsMoment C x.from) (to : IsMoment C x.to) (still : (act : Act) → IsAct C act → MayAct C act x → can C act ≡ false) where
     one_still : (m : Moment) → IsMoment C m → still_by C x m ≡ true
     one_still (after r) is = refl
     one_still at_end is = refl
-    one_still (before r) is = not_from (stores C r && falls_between C (row r) x.from x.to) (λ k.
-        let parts = and_parts (stores C r) (falls_between C (row r) x.from x.to) k in
-        false≢true (sym (still (row r) is (falls_true C sound (row r) x.from x.to is from to parts.1)) ∙ parts.0))
+    one_still (before r) is = not_from (stores C r && may_act_between C (row r) x.from x.to) (λ k.
+        let parts = and_parts (stores C r) (may_act_between C (row r) x.from x.to) k in
+        false≢true (sym (still (row r) is (may_act_true C sound (row r) x.from x.to is from to parts.1)) ∙ parts.0))
 
     all_still : (ms : List Moment) → ((m : Moment) → In ms m → IsMoment C m) → rows_still C x ms ≡ true
     all_still [] are = refl
@@ -227,11 +227,11 @@ module _ (C : Course) (sound : IsSoundCourse C) where
 
     still_from : is_still C x ≡ true
     still_from =
-        and_from (not (is_some C.dark && falls_between C dark x.from x.to)) (rows_still C x (moments_in C))
-        (not_from (is_some C.dark && falls_between C dark x.from x.to) (λ k.
-        let parts = and_parts (is_some C.dark) (falls_between C dark x.from x.to) k in
-        let told = told_is C.dark parts.0 in
-        false≢true (sym (still dark told (falls_true C sound dark x.from x.to told from to parts.1)))))
+        and_from (not (is_some C.untraced && may_act_between C untraced x.from x.to)) (rows_still C x (moments_in C))
+        (not_from (is_some C.untraced && may_act_between C untraced x.from x.to) (λ k.
+        let parts = and_parts (is_some C.untraced) (may_act_between C untraced x.from x.to) k in
+        let told = told_is C.untraced parts.0 in
+        false≢true (sym (still untraced told (may_act_true C sound untraced x.from x.to told from to parts.1)))))
         (all_still (moments_in C) (listed C (length C.threads)))
 
   last_one : (m : Moment) → IsMoment C m → (m ≡ last_of C m) ⊎ AreOne C (stretch m (last_of C m))
@@ -250,7 +250,7 @@ module _ (C : Course) (sound : IsSoundCourse C) where
   one_last x one =
       let found = pause_next C x one.pause in
       let o = pause_in_order C (stretch (after found.0) (next_point C found.0)) (next_pause C found.0 found.1) in
-      let e = still_from (stretch (after found.0) (next_point C found.0)) o.from o.to (subst (λ (y : Stretch). (act : Act) → IsAct C act → Falls C act y → can C act ≡ false) found.2 one.still) in
+      let e = still_from (stretch (after found.0) (next_point C found.0)) o.from o.to (subst (λ (y : Stretch). (act : Act) → IsAct C act → MayAct C act y → can C act ≡ false) found.2 one.still) in
       ap (λ (y : Stretch). last_of C y.from) found.2 ∙ last_still C found.0 e ∙ sym (next_last C found.0) ∙ sym (ap (λ (y : Stretch). last_of C y.to) found.2)
 
 -- stretches in a list

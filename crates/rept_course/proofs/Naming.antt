@@ -7,23 +7,23 @@ use Rattle.rept_isa.specs.declared.row.StepRow.{StepRow}
 use Rattle.rept_steps.specs.declared.threads.ThreadRows.{ThreadRows}
 use Rattle.rept_steps.specs.Course.{no_thread, Course, Row, row_of, rows_of, IsRow, row_at, IsSoundCourse}
 use Rattle.rept_order.specs.Events.IsBefore.{by_row}
-use Rattle.rept_order.specs.Moments.{Moment, IsMoment, NotLater, Act, IsAct, WhollyBefore, WhollyAfter, IsNext, IsUntouched, Stretch, stretch, Falls, may_by, is_writing, stores, ArePause, AreOne}
+use Rattle.rept_order.specs.Moments.{Moment, IsMoment, NotLater, Act, IsAct, WhollyBefore, WhollyAfter, IsNext, IsUntouched, Stretch, stretch, MayAct, may_by, is_writing, stores, ArePause, AreOne}
 use Rattle.rept_order.specs.Moments.Moment.{before, after, at_end}
-use Rattle.rept_order.specs.Moments.Act.{row, dark}
+use Rattle.rept_order.specs.Moments.Act.{row, untraced}
 use Rattle.rept_order.specs.Moments.ArePause.{between, last}
-use Rattle.rept_order.specs.Times.{not_later, wholly_before, wholly_after, falls_between}
+use Rattle.rept_order.specs.Times.{not_later, wholly_before, wholly_after, may_act_between}
 use Rattle.rept_order.specs.Links.{moments_left}
 use Rattle.rept_order.specs.Legs.{points_before, point_at}
 use Rattle.rept_order.proofs.Sequence.{first_is_event, last_is_event, directly, not_later_trans}
 use Rattle.rept_order.proofs.Between.{row_forward, after_earlier, not_both}
 use Rattle.rept_order.proofs.Decide.{not_later_true}
-use Rattle.rept_order.proofs.Falling.{before_true, before_from, after_true, after_from, falls_true, falls_from}
+use Rattle.rept_order.proofs.Acting.{before_true, before_from, after_true, after_from, may_act_true, may_act_from}
 use Rattle.rept_order.proofs.Links as links
 use Rattle.rept_order.proofs.Legs.{number_point, thread_inside}
 use Rattle.rept_span.specs.Ranges.{AreLegs}
 use Rattle.rept_report.specs.Moments.{AreMoments, HasNext}
 use Rattle.rept_course.specs.Names.{MomentNames, IsLink, AreNames}
-use Rattle.rept_course.specs.Numbered.{legs_on, row_on, falls_by, dark_by, moments_of}
+use Rattle.rept_course.specs.Numbered.{legs_on, row_on, may_act_by, untraced_by, moments_of}
 
 after_before : {q r : Row} → after q ≡ before r → ⊥
 after_before e = cc
@@ -96,7 +96,7 @@ module _ (C : Course) (sound : IsSoundCourse C) (N : MomentNames) (names : AreNa
     one_onward x one way = (links.past_onward C sound act x.from x.to way (pause_in_order C x one.pause).order).0
 
     one_back : (x : Stretch) → AreOne C x → WhollyBefore C act x.to → WhollyBefore C act x.from
-    one_back x one way = links.past_back C sound act x.from x.to is (pause_in_order C x one.pause).from way (λ falls. false≢true (sym (one.still act is falls) ∙ writes))
+    one_back x one way = links.past_back C sound act x.from x.to is (pause_in_order C x one.pause).from way (λ may_act. false≢true (sym (one.still act is may_act) ∙ writes))
 
     pub to_last : (m : Moment) → IsMoment C m → WhollyBefore C act m → WhollyBefore C act (N.last (N.name m))
     to_last m its way =
@@ -112,23 +112,23 @@ module _ (C : Course) (sound : IsSoundCourse C) (N : MomentNames) (names : AreNa
           | inr one ↦ one_back (stretch m (N.last (N.name m))) one way
         ]
 
-    -- what lies before a name lies before the next one, and doesn't fall between
-    act_onward : (m w : ℕ) (x : Stretch) → IsLink C N m w x → WhollyBefore C act (N.last m) → WhollyBefore C act (N.last w) × (falls_between C act x.from x.to ≡ false)
+    -- what lies before a name lies before the next one, and can't act between
+    act_onward : (m w : ℕ) (x : Stretch) → IsLink C N m w x → WhollyBefore C act (N.last m) → WhollyBefore C act (N.last w) × (may_act_between C act x.from x.to ≡ false)
     act_onward m w x link way =
         let here : WhollyBefore C act x.from = from_last x.from link.from (subst (λ (n : ℕ). WhollyBefore C act (N.last n)) (sym link.from_name) way) in
         let both = links.past_onward C sound act x.from x.to here link.next.later.0 in (
           subst (λ (n : ℕ). WhollyBefore C act (N.last n)) link.to_name (to_last x.to link.to both.0),
-          elim (cases_Bool (falls_between C act x.from x.to)) [
-            | inl falls ↦ absurd (both.1 (falls_true C sound act x.from x.to is link.from link.to falls))
+          elim (cases_Bool (may_act_between C act x.from x.to)) [
+            | inl may_act ↦ absurd (both.1 (may_act_true C sound act x.from x.to is link.from link.to may_act))
             | inr out ↦ out
           ],
         )
 
     -- and back
-    act_back : (m w : ℕ) (x : Stretch) → IsLink C N m w x → WhollyBefore C act (N.last w) → falls_between C act x.from x.to ≡ false → WhollyBefore C act (N.last m)
+    act_back : (m w : ℕ) (x : Stretch) → IsLink C N m w x → WhollyBefore C act (N.last w) → may_act_between C act x.from x.to ≡ false → WhollyBefore C act (N.last m)
     act_back m w x link way out =
         let there : WhollyBefore C act x.to = from_last x.to link.to (subst (λ (n : ℕ). WhollyBefore C act (N.last n)) (sym link.to_name) way) in
-        let here = links.past_back C sound act x.from x.to is link.from there (λ falls. false≢true (sym out ∙ falls_from C sound act x.from x.to is link.from link.to falls)) in
+        let here = links.past_back C sound act x.from x.to is link.from there (λ may_act. false≢true (sym out ∙ may_act_from C sound act x.from x.to is link.from link.to may_act)) in
         subst (λ (n : ℕ). WhollyBefore C act (N.last n)) link.from_name (to_last x.from link.from here)
 
   pub last_end : N.last N.end ≡ at_end
@@ -155,23 +155,23 @@ module _ (C : Course) (sound : IsSoundCourse C) (N : MomentNames) (names : AreNa
   still_past : (r : Row) (m : ℕ) → stores C r ≡ false → (not (stores C r) || wholly_before C (row r) (N.last m)) ≡ true
   still_past r m still = or_left (not (stores C r)) (wholly_before C (row r) (N.last m)) (ap not still)
 
-  still_falls : (r : Row) (o : Option Stretch) → stores C r ≡ false → falls_by C r o ≡ false
-  still_falls r None still = refl
-  still_falls r (Some x) still = ap (λ (b : Bool). b && falls_between C (row r) x.from x.to) still
+  still_may_act : (r : Row) (o : Option Stretch) → stores C r ≡ false → may_act_by C r o ≡ false
+  still_may_act r None still = refl
+  still_may_act r (Some x) still = ap (λ (b : Bool). b && may_act_between C (row r) x.from x.to) still
 
-  rows_onward : (r : Row) (m w : ℕ) → is_some (N.link m w) ≡ true → (not (stores C r) || wholly_before C (row r) (N.last m)) ≡ true → ((not (stores C r) || wholly_before C (row r) (N.last w)) ≡ true) × (falls_by C r (N.link m w) ≡ false)
+  rows_onward : (r : Row) (m w : ℕ) → is_some (N.link m w) ≡ true → (not (stores C r) || wholly_before C (row r) (N.last m)) ≡ true → ((not (stores C r) || wholly_before C (row r) (N.last w)) ≡ true) × (may_act_by C r (N.link m w) ≡ false)
   rows_onward r m w e h =
       elim (cases_Bool (stores C r)) [
-        | inr still ↦ (still_past r w still, still_falls r (N.link m w) still)
+        | inr still ↦ (still_past r w still, still_may_act r (N.link m w) still)
         | inl writes ↦
             let found = some_is (N.link m w) e in
             let link = names.links m w found.0 found.1 in
             let its = last_is m w found.0 link in
             let both = act_onward (row r) (stores_inside C r writes) writes m w found.0 link (row_past r m writes its.0 h) in
-            (past_row r w writes its.1 both.0, ap (falls_by C r) found.1 ∙ and_false (stores C r) (falls_between C (row r) found.0.from found.0.to) both.1)
+            (past_row r w writes its.1 both.0, ap (may_act_by C r) found.1 ∙ and_false (stores C r) (may_act_between C (row r) found.0.from found.0.to) both.1)
       ]
 
-  rows_back : (r : Row) (m w : ℕ) → is_some (N.link m w) ≡ true → (not (stores C r) || wholly_before C (row r) (N.last w)) ≡ true → falls_by C r (N.link m w) ≡ false → (not (stores C r) || wholly_before C (row r) (N.last m)) ≡ true
+  rows_back : (r : Row) (m w : ℕ) → is_some (N.link m w) ≡ true → (not (stores C r) || wholly_before C (row r) (N.last w)) ≡ true → may_act_by C r (N.link m w) ≡ false → (not (stores C r) || wholly_before C (row r) (N.last m)) ≡ true
   rows_back r m w e h out =
       elim (cases_Bool (stores C r)) [
         | inr still ↦ still_past r m still
@@ -179,49 +179,49 @@ module _ (C : Course) (sound : IsSoundCourse C) (N : MomentNames) (names : AreNa
             let found = some_is (N.link m w) e in
             let link = names.links m w found.0 found.1 in
             let its = last_is m w found.0 link in
-            let spared = and_rest (stores C r) (falls_between C (row r) found.0.from found.0.to) writes (sym (ap (falls_by C r) found.1) ∙ out) in
+            let spared = and_rest (stores C r) (may_act_between C (row r) found.0.from found.0.to) writes (sym (ap (may_act_by C r) found.1) ∙ out) in
             past_row r m writes its.0 (act_back (row r) (stores_inside C r writes) writes m w found.0 link (row_past r w writes its.1 h) spared)
       ]
 
-  light_past : (m : ℕ) → is_some C.dark ≡ false → (not (is_some C.dark) || wholly_before C dark (N.last m)) ≡ true
-  light_past m light = or_left (not (is_some C.dark)) (wholly_before C dark (N.last m)) (ap not light)
+  light_past : (m : ℕ) → is_some C.untraced ≡ false → (not (is_some C.untraced) || wholly_before C untraced (N.last m)) ≡ true
+  light_past m light = or_left (not (is_some C.untraced)) (wholly_before C untraced (N.last m)) (ap not light)
 
-  light_falls : (o : Option Stretch) → is_some C.dark ≡ false → dark_by C o ≡ false
-  light_falls None light = refl
-  light_falls (Some x) light = ap (λ (b : Bool). b && falls_between C dark x.from x.to) light
+  light_may_act : (o : Option Stretch) → is_some C.untraced ≡ false → untraced_by C o ≡ false
+  light_may_act None light = refl
+  light_may_act (Some x) light = ap (λ (b : Bool). b && may_act_between C untraced x.from x.to) light
 
-  past_dark : (m : ℕ) → is_some C.dark ≡ true → IsMoment C (N.last m) → WhollyBefore C dark (N.last m) → (not (is_some C.dark) || wholly_before C dark (N.last m)) ≡ true
-  past_dark m told its way = or_right (not (is_some C.dark)) (wholly_before C dark (N.last m)) (before_from C sound dark (N.last m) (some_is C.dark told) its way)
+  past_untraced : (m : ℕ) → is_some C.untraced ≡ true → IsMoment C (N.last m) → WhollyBefore C untraced (N.last m) → (not (is_some C.untraced) || wholly_before C untraced (N.last m)) ≡ true
+  past_untraced m told its way = or_right (not (is_some C.untraced)) (wholly_before C untraced (N.last m)) (before_from C sound untraced (N.last m) (some_is C.untraced told) its way)
 
-  dark_is_past : (m : ℕ) → is_some C.dark ≡ true → IsMoment C (N.last m) → (not (is_some C.dark) || wholly_before C dark (N.last m)) ≡ true → WhollyBefore C dark (N.last m)
-  dark_is_past m told its e =
-      elim (or_cases (not (is_some C.dark)) (wholly_before C dark (N.last m)) e) [
-        | inl out ↦ absurd (not_true (is_some C.dark) out told)
-        | inr way ↦ before_true C sound dark (N.last m) (some_is C.dark told) its way
+  untraced_is_past : (m : ℕ) → is_some C.untraced ≡ true → IsMoment C (N.last m) → (not (is_some C.untraced) || wholly_before C untraced (N.last m)) ≡ true → WhollyBefore C untraced (N.last m)
+  untraced_is_past m told its e =
+      elim (or_cases (not (is_some C.untraced)) (wholly_before C untraced (N.last m)) e) [
+        | inl out ↦ absurd (not_true (is_some C.untraced) out told)
+        | inr way ↦ before_true C sound untraced (N.last m) (some_is C.untraced told) its way
       ]
 
-  dark_goes_on : (m w : ℕ) → is_some (N.link m w) ≡ true → (not (is_some C.dark) || wholly_before C dark (N.last m)) ≡ true → ((not (is_some C.dark) || wholly_before C dark (N.last w)) ≡ true) × (dark_by C (N.link m w) ≡ false)
-  dark_goes_on m w e h =
-      elim (cases_Bool (is_some C.dark)) [
-        | inr light ↦ (light_past w light, light_falls (N.link m w) light)
+  untraced_goes_on : (m w : ℕ) → is_some (N.link m w) ≡ true → (not (is_some C.untraced) || wholly_before C untraced (N.last m)) ≡ true → ((not (is_some C.untraced) || wholly_before C untraced (N.last w)) ≡ true) × (untraced_by C (N.link m w) ≡ false)
+  untraced_goes_on m w e h =
+      elim (cases_Bool (is_some C.untraced)) [
+        | inr light ↦ (light_past w light, light_may_act (N.link m w) light)
         | inl told ↦
             let found = some_is (N.link m w) e in
             let link = names.links m w found.0 found.1 in
             let its = last_is m w found.0 link in
-            let both = act_onward dark (some_is C.dark told) refl m w found.0 link (dark_is_past m told its.0 h) in
-            (past_dark w told its.1 both.0, ap (dark_by C) found.1 ∙ and_false (is_some C.dark) (falls_between C dark found.0.from found.0.to) both.1)
+            let both = act_onward untraced (some_is C.untraced told) refl m w found.0 link (untraced_is_past m told its.0 h) in
+            (past_untraced w told its.1 both.0, ap (untraced_by C) found.1 ∙ and_false (is_some C.untraced) (may_act_between C untraced found.0.from found.0.to) both.1)
       ]
 
-  dark_goes_back : (m w : ℕ) → is_some (N.link m w) ≡ true → (not (is_some C.dark) || wholly_before C dark (N.last w)) ≡ true → dark_by C (N.link m w) ≡ false → (not (is_some C.dark) || wholly_before C dark (N.last m)) ≡ true
-  dark_goes_back m w e h out =
-      elim (cases_Bool (is_some C.dark)) [
+  untraced_goes_back : (m w : ℕ) → is_some (N.link m w) ≡ true → (not (is_some C.untraced) || wholly_before C untraced (N.last w)) ≡ true → untraced_by C (N.link m w) ≡ false → (not (is_some C.untraced) || wholly_before C untraced (N.last m)) ≡ true
+  untraced_goes_back m w e h out =
+      elim (cases_Bool (is_some C.untraced)) [
         | inr light ↦ light_past m light
         | inl told ↦
             let found = some_is (N.link m w) e in
             let link = names.links m w found.0 found.1 in
             let its = last_is m w found.0 link in
-            let spared = and_rest (is_some C.dark) (falls_between C dark found.0.from found.0.to) told (sym (ap (dark_by C) found.1) ∙ out) in
-            past_dark m told its.0 (act_back dark (some_is C.dark told) refl m w found.0 link (dark_is_past w told its.1 h) spared)
+            let spared = and_rest (is_some C.untraced) (may_act_between C untraced found.0.from found.0.to) told (sym (ap (untraced_by C) found.1) ∙ out) in
+            past_untraced m told its.0 (act_back untraced (some_is C.untraced told) refl m w found.0 link (untraced_is_past w told its.1 h) spared)
       ]
 
   -- no more moments are later than the last moment of a name
@@ -274,12 +274,12 @@ module _ (C : Course) (sound : IsSoundCourse C) (N : MomentNames) (names : AreNa
         let link = names.links m w found.0 found.1 in
         (subst (λ (n : ℕ). n ≤ N.end) link.from_name (names.few found.0.from link.from), subst (λ (n : ℕ). n ≤ N.end) link.to_name (names.few found.0.to link.to));
     rows_past = λ i its_row is. or_right (not (stores C (row_on C i))) (wholly_before C (row (row_on C i)) (N.last N.end)) (ap (λ (m : Moment). wholly_before C (row (row_on C i)) m) last_end);
-    dark_past = or_right (not (is_some C.dark)) (wholly_before C dark (N.last N.end)) (ap (λ (m : Moment). wholly_before C dark m) last_end);
+    untraced_past = or_right (not (is_some C.untraced)) (wholly_before C untraced (N.last N.end)) (ap (λ (m : Moment). wholly_before C untraced m) last_end);
     later_apart = λ i j is its later. later_apart (row_on C i) (row_on C j) (leg_inside i is) (leg_inside j its) later;
     past_onward = λ i m w e h. rows_onward (row_on C i) m w e h;
-    dark_onward = λ m w e h. dark_goes_on m w e h;
+    untraced_onward = λ m w e h. untraced_goes_on m w e h;
     past_back = λ i m w e h out. rows_back (row_on C i) m w e h out;
-    dark_back = λ m w e h out. dark_goes_back m w e h out;
+    untraced_back = λ m w e h out. untraced_goes_back m w e h out;
     reaches = λ m early other. reached m early other;
   }
 
@@ -333,19 +333,20 @@ module _ (C : Course) (sound : IsSoundCourse C) (N : MomentNames) (names : AreNa
           | inr one ↦ after_earlier C act m (N.last (N.name m)) (pause_in_order C (stretch m (N.last (N.name m))) one.pause).order way
         ]
 
-    -- what falls by the link of two names falls between each moment of the one and a next one of the other
-    falls_by_link : (m w : Moment) (x : Stretch) → IsMoment C m → IsMoment C w → N.link (N.name m) (N.name w) ≡ Some x → Falls C act x → Falls C act (stretch m w)
-    falls_by_link m w x at to found falls =
+    -- what may act by the link of two names may act between each moment of the one and a next one
+    -- of the other
+    may_act_by_link : (m w : Moment) (x : Stretch) → IsMoment C m → IsMoment C w → N.link (N.name m) (N.name w) ≡ Some x → MayAct C act x → MayAct C act (stretch m w)
+    may_act_by_link m w x at to found may_act =
         let link = names.links (N.name m) (N.name w) x found in
         record {
-          not_before = λ early. falls.not_before (from_last C sound N names act is writes x.from link.from (subst (λ (n : ℕ). WhollyBefore C act (N.last n)) (sym link.from_name) (to_last C sound N names act is writes m at early)));
-          not_after = λ later. falls.not_after (after_from_last x.to link.to (subst (λ (n : ℕ). WhollyAfter C act (N.last n)) (sym link.to_name) (after_to_last w to later)));
+          not_before = λ early. may_act.not_before (from_last C sound N names act is writes x.from link.from (subst (λ (n : ℕ). WhollyBefore C act (N.last n)) (sym link.from_name) (to_last C sound N names act is writes m at early)));
+          not_after = λ later. may_act.not_after (after_from_last x.to link.to (subst (λ (n : ℕ). WhollyAfter C act (N.last n)) (sym link.to_name) (after_to_last w to later)));
           alone = λ r plain same.
               let one : m ≡ before r = ap (λ (y : Stretch). y.from) same in
               let other : w ≡ after r = ap (λ (y : Stretch). y.to) same in
               let inside : IsRow C r = subst (λ (y : Moment). IsMoment C y) one at in
               let named : N.link (N.name m) (N.name w) ≡ Some (stretch (before r) (after r)) = ap (λ (y : Moment). N.link (N.name y) (N.name w)) one ∙ ap (λ (y : Moment). N.link (N.name (before r)) (N.name y)) other ∙ names.rows r inside plain in
-              falls.alone r plain (one_link (sym found ∙ named));
+              may_act.alone r plain (one_link (sym found ∙ named));
         }
       where
         one_link : {y z : Stretch} → Some y ≡ Some z → y ≡ z
@@ -354,8 +355,8 @@ module _ (C : Course) (sound : IsSoundCourse C) (N : MomentNames) (names : AreNa
   -- a byte that is quiet to a next moment of another name is carried from name to name
   pub record IsCarriedBy (may : Row → ℕ → Bool) (a m w : ℕ) : Type 0 where
     pub next : (moments_of C N).next m w ≡ true
-    pub light : (moments_of C N).dark m w ≡ false
-    pub spared : (i : ℕ) → (moments_of C N).falls i m w ≡ true → may (row_on C i) a ≡ false
+    pub light : (moments_of C N).untraced m w ≡ false
+    pub spared : (i : ℕ) → (moments_of C N).may_act i m w ≡ true → may (row_on C i) a ≡ false
 
   pub quiet_carried : (may : Row → ℕ → Bool) (a : ℕ) (m w : Moment) → IsMoment C m → IsMoment C w → IsNext C m w → N.name m ≢ N.name w → IsUntouched C may (stretch m w) a → IsCarriedBy may a (N.name m) (N.name w)
   quiet_carried may a m w at to next other quiet =
@@ -363,15 +364,15 @@ module _ (C : Course) (sound : IsSoundCourse C) (N : MomentNames) (names : AreNa
       let link = names.links (N.name m) (N.name w) some.0 some.1 in
       record {
         next = is_some_from (N.link (N.name m) (N.name w)) (names.linked m w at to next other);
-        light = elim (cases_Bool (dark_by C (N.link (N.name m) (N.name w)))) [
+        light = elim (cases_Bool (untraced_by C (N.link (N.name m) (N.name w)))) [
           | inr out ↦ out
-          | inl falls ↦
-              let parts = and_parts (is_some C.dark) (falls_between C dark some.0.from some.0.to) (sym (ap (dark_by C) some.1) ∙ falls) in
-              let told = some_is C.dark parts.0 in
-              absurd (false≢true (sym (quiet.spared dark told (falls_by_link dark told refl m w some.0 at to some.1 (falls_true C sound dark some.0.from some.0.to told link.from link.to parts.1)))))
+          | inl may_act ↦
+              let parts = and_parts (is_some C.untraced) (may_act_between C untraced some.0.from some.0.to) (sym (ap (untraced_by C) some.1) ∙ may_act) in
+              let told = some_is C.untraced parts.0 in
+              absurd (false≢true (sym (quiet.spared untraced told (may_act_by_link untraced told refl m w some.0 at to some.1 (may_act_true C sound untraced some.0.from some.0.to told link.from link.to parts.1)))))
         ];
-        spared = λ i falls.
-            let parts = and_parts (stores C (row_on C i)) (falls_between C (row (row_on C i)) some.0.from some.0.to) (sym (ap (falls_by C (row_on C i)) some.1) ∙ falls) in
+        spared = λ i may_act.
+            let parts = and_parts (stores C (row_on C i)) (may_act_between C (row (row_on C i)) some.0.from some.0.to) (sym (ap (may_act_by C (row_on C i)) some.1) ∙ may_act) in
             let is = stores_inside C (row_on C i) parts.0 in
-            quiet.spared (row (row_on C i)) is (falls_by_link (row (row_on C i)) is parts.0 m w some.0 at to some.1 (falls_true C sound (row (row_on C i)) some.0.from some.0.to is link.from link.to parts.1));
+            quiet.spared (row (row_on C i)) is (may_act_by_link (row (row_on C i)) is parts.0 m w some.0 at to some.1 (may_act_true C sound (row (row_on C i)) some.0.from some.0.to is link.from link.to parts.1));
       }

@@ -1,15 +1,15 @@
--- What the record of moments says of rows and the dark is the order of the course.
+-- What the record of moments says of rows and the untraced prefix is the order of the course.
 use Rattle.std.proofs.Common.{◌≡◌, ℕ, not, true, Some, inl, inr, refl, ap}
 use Rattle.std.specs.Prelude.{◌↔◌}
 use Rattle.std.specs.Option.{is_some}
 use Rattle.std.proofs.lemmas.Bool.{or_cases, or_right}
 use Rattle.rept_steps.specs.Course.{Course, IsRow, IsSoundCourse}
-use Rattle.rept_order.specs.Moments.{Moment, IsMoment, DarkBefore, WhollyBefore, WhollyAfter, stores}
+use Rattle.rept_order.specs.Moments.{Moment, IsMoment, UntracedBefore, WhollyBefore, WhollyAfter, stores}
 use Rattle.rept_order.specs.Moments.Moment.{before, after}
-use Rattle.rept_order.specs.Moments.Act.{row, dark}
+use Rattle.rept_order.specs.Moments.Act.{row, untraced}
 use Rattle.rept_order.specs.Times.{wholly_before}
 use Rattle.rept_order.proofs.Decide.{not_later_true, not_later_from}
-use Rattle.rept_order.proofs.Falling.{before_true, before_from, after_true, after_from}
+use Rattle.rept_order.proofs.Acting.{before_true, before_from, after_true, after_from}
 use Rattle.rept_course.specs.Names.{MomentNames, AreNames}
 use Rattle.rept_course.specs.Numbered.{row_on, moments_of}
 use Rattle.rept_course.proofs.Naming.{not_true, stores_inside, to_last, from_last, after_to_last, after_from_last}
@@ -38,21 +38,21 @@ module _ (C : Course) (sound : IsSoundCourse C) (N : MomentNames) (names : AreNa
   pub row_later_is : (i j : ℕ) → IsRow C (row_on C i) → IsRow C (row_on C j) → ((moments_of C N).later i j ≡ true) ↔ WhollyAfter C (row (row_on C i)) (after (row_on C j))
   row_later_is i j is its = (λ e. not_later_true C sound (after (row_on C j)) (before (row_on C i)) its is e, λ way. not_later_from C sound (after (row_on C j)) (before (row_on C i)) way)
 
-  pub dark_past_is : (d : ℕ) (m : Moment) → IsMoment C m → C.dark ≡ Some d → ((moments_of C N).dark_past (N.name m) ≡ true) ↔ DarkBefore C m
-  dark_past_is d m its told =
+  pub untraced_past_is : (d : ℕ) (m : Moment) → IsMoment C m → C.untraced ≡ Some d → ((moments_of C N).untraced_past (N.name m) ≡ true) ↔ UntracedBefore C m
+  untraced_past_is d m its told =
       let own = name_is m its in (
-        λ e. elim (or_cases (not (is_some C.dark)) (wholly_before C dark (N.last (N.name m))) e) [
-          | inl out ↦ absurd (not_true (is_some C.dark) out (ap is_some told))
-          | inr way ↦ from_last C sound N names dark (d, told) refl m its (before_true C sound dark (N.last (N.name m)) (d, told) own way)
+        λ e. elim (or_cases (not (is_some C.untraced)) (wholly_before C untraced (N.last (N.name m))) e) [
+          | inl out ↦ absurd (not_true (is_some C.untraced) out (ap is_some told))
+          | inr way ↦ from_last C sound N names untraced (d, told) refl m its (before_true C sound untraced (N.last (N.name m)) (d, told) own way)
         ],
-        λ way. or_right (not (is_some C.dark)) (wholly_before C dark (N.last (N.name m))) (before_from C sound dark (N.last (N.name m)) (d, told) own (to_last C sound N names dark (d, told) refl m its way)),
+        λ way. or_right (not (is_some C.untraced)) (wholly_before C untraced (N.last (N.name m))) (before_from C sound untraced (N.last (N.name m)) (d, told) own (to_last C sound N names untraced (d, told) refl m its way)),
       )
 
-  pub dark_before_is : (d i : ℕ) → IsRow C (row_on C i) → C.dark ≡ Some d → ((moments_of C N).dark_before i ≡ true) ↔ DarkBefore C (before (row_on C i))
-  dark_before_is d i is told = (
-    λ e. elim (or_cases (not (is_some C.dark)) (wholly_before C dark (before (row_on C i))) e) [
-      | inl out ↦ absurd (not_true (is_some C.dark) out (ap is_some told))
-      | inr way ↦ before_true C sound dark (before (row_on C i)) (d, told) is way
+  pub untraced_before_is : (d i : ℕ) → IsRow C (row_on C i) → C.untraced ≡ Some d → ((moments_of C N).untraced_before i ≡ true) ↔ UntracedBefore C (before (row_on C i))
+  untraced_before_is d i is told = (
+    λ e. elim (or_cases (not (is_some C.untraced)) (wholly_before C untraced (before (row_on C i))) e) [
+      | inl out ↦ absurd (not_true (is_some C.untraced) out (ap is_some told))
+      | inr way ↦ before_true C sound untraced (before (row_on C i)) (d, told) is way
     ],
-    λ way. or_right (not (is_some C.dark)) (wholly_before C dark (before (row_on C i))) (before_from C sound dark (before (row_on C i)) (d, told) is way),
+    λ way. or_right (not (is_some C.untraced)) (wholly_before C untraced (before (row_on C i))) (before_from C sound untraced (before (row_on C i)) (d, told) is way),
   )

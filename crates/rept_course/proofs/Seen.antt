@@ -9,19 +9,19 @@ use Rattle.rept_isa.specs.Operands.{is_call}
 use Rattle.rept_machine.specs.Step.{IsStep}
 use Rattle.rept_steps.specs.declared.threads.ThreadRows.{ThreadRows}
 use Rattle.rept_steps.specs.Course.{no_thread, Course, Row, rows_of, IsRow, row_at, is_call_row, calls, IsSoundCourse}
-use Rattle.rept_order.specs.Moments.{Moment, IsMoment, Act, IsAct, Stretch, stretch, Falls, is_writing, stores}
+use Rattle.rept_order.specs.Moments.{Moment, IsMoment, Act, IsAct, Stretch, stretch, MayAct, is_writing, stores}
 use Rattle.rept_order.specs.Moments.Moment.{before, after, at_end}
-use Rattle.rept_order.specs.Moments.Act.{row, dark}
+use Rattle.rept_order.specs.Moments.Act.{row, untraced}
 use Rattle.rept_order.specs.History.{Ending}
 use Rattle.rept_order.specs.Points.{state_from}
 use Rattle.rept_order.specs.Legs.{points_before, point_in, number_of, point_at, row_from, leg_row}
-use Rattle.rept_order.specs.Times.{falls_between}
+use Rattle.rept_order.specs.Times.{may_act_between}
 use Rattle.rept_machine.proofs.StepLaws.{written_by_registers}
 use Rattle.rept_order.proofs.Points.{writes_store}
 use Rattle.rept_order.specs.Writing.{WritesBy}
 use Rattle.rept_order.specs.Interleaved as interleaved
 use Rattle.rept_order.specs.Interleaved.{IsCourseRun, leg_of, WritesIn}
-use Rattle.rept_order.proofs.Falling.{falls_from}
+use Rattle.rept_order.proofs.Acting.{may_act_from}
 use Rattle.rept_order.proofs.Legs.{number_point, point_number, thread_inside}
 use Rattle.rept_partial.specs.Sets.{Sets}
 use Rattle.rept_span.specs.Moves.{Moves}
@@ -30,7 +30,7 @@ use Rattle.rept_report.specs.Setting.{Setting, IsLast}
 use Rattle.rept_report.specs.Runs.{Run, Runs, StepWrites}
 use Rattle.rept_report.specs.Runs as runs
 use Rattle.rept_course.specs.Names.{MomentNames, IsLink, AreNames}
-use Rattle.rept_course.specs.Numbered.{row_on, falls_by, dark_by, setting_of, run_seen}
+use Rattle.rept_course.specs.Numbered.{row_on, may_act_by, untraced_by, setting_of, run_seen}
 use Rattle.rept_course.proofs.Naming.{some_is, row_inside, last_end, points_next}
 
 one_more : (k : ℕ) → suc k ≡ k + 1
@@ -95,23 +95,23 @@ module _ {W : Type 0} (sets : Sets W) (moves : Moves W) (rules : Rules) (C : Cou
       ] in
       ap (λ (k : ℕ). run.register k r) (sym (number_point C p) ∙ ap (λ (k : ℕ). number_of C (point_at C p).thread k) number) ∙ x.registers_end (point_at C p).thread r v inside.0 some e
 
-  still : (a m w : ℕ) (s : Stretch) → N.link m w ≡ Some s → IsLink C N m w s → S.moments.dark m w ≡ false → ((i : ℕ) → S.moments.falls i m w ≡ true → StepWrites S (run_seen N run) i a → ⊥) → (act : Act) → IsAct C act → Falls C act s → WritesIn C D run act a → ⊥
-  still a m w s found link light none dark is falls writes =
-      let told : is_some C.dark ≡ true = ap is_some is.1 in
-      let between = falls_from C sound dark s.from s.to is link.from link.to falls in
-      false≢true (sym light ∙ ap (dark_by C) found ∙ and_from (is_some C.dark) (falls_between C dark s.from s.to) told between)
-  still a m w s found link light none (row r) is falls writes =
+  still : (a m w : ℕ) (s : Stretch) → N.link m w ≡ Some s → IsLink C N m w s → S.moments.untraced m w ≡ false → ((i : ℕ) → S.moments.may_act i m w ≡ true → StepWrites S (run_seen N run) i a → ⊥) → (act : Act) → IsAct C act → MayAct C act s → WritesIn C D run act a → ⊥
+  still a m w s found link light none untraced is may_act writes =
+      let told : is_some C.untraced ≡ true = ap is_some is.1 in
+      let between = may_act_from C sound untraced s.from s.to is link.from link.to may_act in
+      false≢true (sym light ∙ ap (untraced_by C) found ∙ and_from (is_some C.untraced) (may_act_between C untraced s.from s.to) told between)
+  still a m w s found link light none (row r) is may_act writes =
       let its = match_is (row_at C r) (λ its_row. WritesBy its_row.instr D.image_end (interleaved.state_before_row C run r) (interleaved.state_after_row C run r) a) writes in
       let same : row_on C (leg_of C r) ≡ r = ap row_from (point_number C r.thread r.step (thread_inside C r is) (omega arith)) in
       let stored : stores C r ≡ true = ap is_writing its.1 ∙ writes_store its.0.instr D.image_end (interleaved.state_before_row C run r) (interleaved.state_after_row C run r) a its.2 in
-      let between = falls_from C sound (row r) s.from s.to is link.from link.to falls in
-      none (leg_of C r) (ap (λ (q : Row). falls_by C q (N.link m w)) same ∙ ap (falls_by C r) found ∙ and_from (stores C r) (falls_between C (row r) s.from s.to) stored between) (record {
+      let between = may_act_from C sound (row r) s.from s.to is link.from link.to may_act in
+      none (leg_of C r) (ap (λ (q : Row). may_act_by C q (N.link m w)) same ∙ ap (may_act_by C r) found ∙ and_from (stores C r) (may_act_between C (row r) s.from s.to) stored between) (record {
         row = its.0;
         is_row = ap (row_at C) same ∙ its.1;
         writes = written_by_registers its.0.instr D.image_end (interleaved.state_before_row C run r) (interleaved.state_after_row C run r) (runs.state_before S (run_seen N run) (leg_of C r)) (runs.state_after S (run_seen N run) (leg_of C r) its.0) a refl (ap run.register (one_more (leg_of C r))) its.2;
       })
 
-  quiet : (a m w : ℕ) → S.moments.next m w ≡ true → S.moments.dark m w ≡ false → ((i : ℕ) → S.moments.falls i m w ≡ true → StepWrites S (run_seen N run) i a → ⊥) → run.memory (N.last w) a ≡ run.memory (N.last m) a
+  quiet : (a m w : ℕ) → S.moments.next m w ≡ true → S.moments.untraced m w ≡ false → ((i : ℕ) → S.moments.may_act i m w ≡ true → StepWrites S (run_seen N run) i a → ⊥) → run.memory (N.last w) a ≡ run.memory (N.last m) a
   quiet a m w next light none =
       let found = some_is (N.link m w) next in
       let link = names.links m w found.0 found.1 in

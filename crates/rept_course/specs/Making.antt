@@ -1,22 +1,23 @@
--- Names for any course: each moment goes by the last one that it is one with, and these are numbered in the order of any list of the
--- moments, from its back, the end last. This project's own.
+-- Names for any course: each moment goes by the last one that it is one with, and these are
+-- numbered in the order of any list of the moments, from its back, the end last. This project's
+-- own.
 use Rattle.std.specs.Prelude.{◌≡◌, ◌≢◌, ◌⊎◌, ℕ, suc, ◌==◌, ◌&&◌, ◌||◌, not, if◌then◌else◌, Bool, true, false, List, [], ◌∷◌, ◌++◌, length, Option, Some, None}
 use Rattle.std.specs.Option.{is_some}
 use Rattle.rept_steps.specs.Course.{Course, Row, calls}
 use Rattle.rept_order.specs.Moments.{Moment, IsMoment, Stretch, stretch, stores}
 use Rattle.rept_order.specs.Moments.Moment.{before, after, at_end}
-use Rattle.rept_order.specs.Moments.Act.{row, dark}
+use Rattle.rept_order.specs.Moments.Act.{row, untraced}
 use Rattle.rept_order.specs.Points.{moment_of_point}
-use Rattle.rept_order.specs.Times.{same_row, same_moment, is_earlier, falls_between}
+use Rattle.rept_order.specs.Times.{same_row, same_moment, is_earlier, may_act_between}
 use Rattle.rept_order.specs.Links.{all_moments}
 use Rattle.rept_course.specs.Names.{MomentNames}
 
 abbrev pub moments_in : Course → List Moment
 moments_in C = all_moments C (length C.threads)
 
--- no row of these moments that may write falls into the stretch
+-- no row of these moments that may write may act in the stretch
 abbrev pub still_by : Course → Stretch → Moment → Bool
-still_by C x (before r) = not (stores C r && falls_between C (row r) x.from x.to)
+still_by C x (before r) = not (stores C r && may_act_between C (row r) x.from x.to)
 still_by C x _ = true
 
 abbrev pub rows_still : Course → Stretch → List Moment → Bool
@@ -24,7 +25,7 @@ rows_still C x [] = true
 rows_still C x (m ∷ ms) = still_by C x m && rows_still C x ms
 
 abbrev pub is_still : Course → Stretch → Bool
-is_still C x = not (is_some C.dark && falls_between C dark x.from x.to) && rows_still C x (moments_in C)
+is_still C x = not (is_some C.untraced && may_act_between C untraced x.from x.to) && rows_still C x (moments_in C)
 
 -- the thread's moment after the row is over and nothing of the thread has happened since
 abbrev pub next_point : Course → Row → Moment

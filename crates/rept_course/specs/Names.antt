@@ -1,5 +1,5 @@
--- Names of the moments of a course: moments that are one have one name, and every other moment has a name of its own. Names are
--- numbers, and the end has the greatest one. This project's own.
+-- Names of the moments of a course: moments that are one have one name, and every other moment has
+-- a name of its own. Names are numbers, and the end has the greatest one. This project's own.
 use Rattle.std.specs.Prelude.{◌≡◌, ◌≢◌, ℕ, ◌≤◌, ◌⊎◌, false, Option, Some, None}
 use Rattle.rept_steps.specs.Course.{Course, Row, IsRow, calls}
 use Rattle.rept_order.specs.Moments.{Moment, IsMoment, IsNext, Stretch, stretch, AreOne}
@@ -34,7 +34,8 @@ pub record AreNames (C : Course) (N : MomentNames) : Type 0 where
   -- a link is one, and where a moment of another name is next there is a link
   pub links : (m w : ℕ) (x : Stretch) → N.link m w ≡ Some x → IsLink C N m w x
   pub linked : (m w : Moment) → IsMoment C m → IsMoment C w → IsNext C m w → N.name m ≢ N.name w → N.link (N.name m) (N.name w) ≢ None
-  -- between the names of a row that is no call it is by the row's own moments, between which no other row falls
+  -- between the names of a row that is no call it is by the row's own moments, between which no
+  -- other row may act
   pub rows : (r : Row) → IsRow C r → calls C r ≡ false → N.link (N.name (before r)) (N.name (after r)) ≡ Some (stretch (before r) (after r))
 
 -- no row that is no call has these names before and after it

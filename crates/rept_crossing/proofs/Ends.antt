@@ -4,7 +4,7 @@ use Rattle.std.specs.List.{list_any}
 use Rattle.std.proofs.lemmas.Bool.{false≢true, cases_lt, cases_eq, cases_order, or_cases, or_left, and_parts, eq-eqb, ne_eqb, lt-ltb, le-ltb, leb-true, le-leb}
 use Rattle.std.proofs.lemmas.List.Folds.{list_any-append}
 use Rattle.std.proofs.lemmas.Option.{slice_get_past, slice_get_read}
-use Rattle.rept_crossing.specs.declared.writer.Writer.{Writer}
+use Rattle.rept_crossing.specs.declared.writer.TimedWriter.{TimedWriter}
 use Rattle.rept_crossing.specs.declared.writer.Rest.{Rest}
 use Rattle.rept_crossing.specs.declared.latest.Latest.{Latest}
 use Rattle.rept_crossing.specs.Writers.{no_writer, lasts_to, not_past, crosses}
@@ -42,10 +42,10 @@ abbrev latest : ℕ → Option ℕ → Option ℕ → Latest
 latest a e o = record { thread = a; end = e; other = o }
 
 -- whether another thread's writer lasts to a time, with one more
-abbrev Adds : ℕ → Latest → Latest → ℕ → Writer → Type 0
+abbrev Adds : ℕ → Latest → Latest → ℕ → TimedWriter → Type 0
 Adds f x y t w = latest_reaches y t f ≡ (latest_reaches x t f || lasts_to t f w)
 
-module _ (a : ℕ) (o : Option ℕ) (w : Writer) (t f : ℕ) where
+module _ (a : ℕ) (o : Option ℕ) (w : TimedWriter) (t f : ℕ) where
   first_adds : (reaches_to o f ≡ true → ⊥) → Adds f (latest a None o) (latest w.thread (Some w.end) None) t w
   first_adds none =
       elim (cases_eq t w.thread) [
@@ -83,11 +83,11 @@ module _ (a : ℕ) (o : Option ℕ) (w : Writer) (t f : ℕ) where
       old false k = up f e w.end (omega arith) k
 
 -- what stands of the latest ends
-pub record IsFit (f : ℕ) (x y : Latest) (w : Writer) : Type 0 where
+pub record IsFit (f : ℕ) (x y : Latest) (w : TimedWriter) : Type 0 where
   pub adds : (t : ℕ) → Adds f x y t w
   pub least : reaches_to y.other f ≡ true → reaches_to y.end f ≡ true
 
-fits_with : (a : ℕ) (e o : Option ℕ) (w : Writer) (f : ℕ) → (reaches_to o f ≡ true → reaches_to e f ≡ true) → IsFit f (latest a e o) (latest_with (latest a e o) w) w
+fits_with : (a : ℕ) (e o : Option ℕ) (w : TimedWriter) (f : ℕ) → (reaches_to o f ≡ true → reaches_to e f ≡ true) → IsFit f (latest a e o) (latest_with (latest a e o) w) w
 fits_with a None o w f least = record { adds = λ t. first_adds a o w t f (λ k. false≢true (least k)); least = λ k. absurd (false≢true k) }
 fits_with a (Some e) o w f least =
     elim (cases_eq w.thread a) [
@@ -122,19 +122,19 @@ none_latest = record { is = λ t f. sym (none (eqb t 0) f); least = λ f k. absu
     none true f = refl
     none false f = refl
 
-pub more_latest : (ws : List Writer) (x : Latest) (w : Writer) → TellsLatest ws x → TellsLatest (ws ++ w ∷ []) (latest_with x w)
+pub more_latest : (ws : List TimedWriter) (x : Latest) (w : TimedWriter) → TellsLatest ws x → TellsLatest (ws ++ w ∷ []) (latest_with x w)
 more_latest ws x w its = record {
   is = λ t f. list_any-append (lasts_to t f) ws (w ∷ []) ∙ ap (λ (b : Bool). b || (lasts_to t f w || false)) (its.is t f) ∙ ap (λ (b : Bool). latest_reaches x t f || b) (or_false (lasts_to t f w)) ∙ sym ((fits_with x.thread x.end x.other w f (its.least f)).adds t);
   least = λ f. (fits_with x.thread x.end x.other w f (its.least f)).least;
 }
 
-pub take_more : (ws : List Writer) (k : ℕ) (d : Writer) → k < length ws → take (suc k) ws ≡ take k ws ++ get_or ws k d ∷ []
+pub take_more : (ws : List TimedWriter) (k : ℕ) (d : TimedWriter) → k < length ws → take (suc k) ws ≡ take k ws ++ get_or ws k d ∷ []
 take_more [] k d less = absurd (omega arith)
 take_more (w ∷ ws) zero d less = refl
-take_more (w ∷ ws) (suc k) d less = ap (λ (xs : List Writer). w ∷ xs) (take_more ws k d (omega arith))
+take_more (w ∷ ws) (suc k) d less = ap (λ (xs : List TimedWriter). w ∷ xs) (take_more ws k d (omega arith))
 
 -- only those that have begun cross
-pub crossing : (rest : Rest) (ws : List Writer) (k : ℕ) → ((i : ℕ) → i < k → not_past rest.to (get_or ws i no_writer).begin ≡ true) → ((i : ℕ) → k ≤ i → i < length ws → not_past rest.to (get_or ws i no_writer).begin ≡ false) → list_any (crosses rest) ws ≡ list_any (lasts_to rest.thread rest.from) (take k ws)
+pub crossing : (rest : Rest) (ws : List TimedWriter) (k : ℕ) → ((i : ℕ) → i < k → not_past rest.to (get_or ws i no_writer).begin ≡ true) → ((i : ℕ) → k ≤ i → i < length ws → not_past rest.to (get_or ws i no_writer).begin ≡ false) → list_any (crosses rest) ws ≡ list_any (lasts_to rest.thread rest.from) (take k ws)
 crossing rest [] zero before after = refl
 crossing rest [] (suc k) before after = refl
 crossing rest (w ∷ ws) zero before after =
@@ -147,7 +147,7 @@ crossing rest (w ∷ ws) zero before after =
     off true = refl
     off false = refl
 
-    none : (ws : List Writer) → list_any (lasts_to rest.thread rest.from) (take 0 ws) ≡ list_any (lasts_to rest.thread rest.from) (take 0 (w ∷ ws))
+    none : (ws : List TimedWriter) → list_any (lasts_to rest.thread rest.from) (take 0 ws) ≡ list_any (lasts_to rest.thread rest.from) (take 0 (w ∷ ws))
     none [] = refl
     none (v ∷ ws) = refl
 crossing rest (w ∷ ws) (suc k) before after =
@@ -160,7 +160,7 @@ crossing rest (w ∷ ws) (suc k) before after =
     on false = refl
 
 -- the table of each count, with one more
-abbrev pub IsTable : List Writer → ℕ → List Latest → Latest → Type 0
+abbrev pub IsTable : List TimedWriter → ℕ → List Latest → Latest → Type 0
 IsTable ws i xs x = record {
   count : length xs ≡ suc i;
   each : (k : ℕ) (x : Latest) → slice_get xs k ≡ Some x → TellsLatest (take k ws) x;
@@ -185,12 +185,12 @@ some_same e = cc
 none_some : {x : Latest} → None ≡ Some x → ⊥
 none_some e = cc
 
-pub table_more : (ws : List Writer) (i : ℕ) (xs ys : List Latest) (x y : Latest) → i < length ws → IsTable ws i xs x → y ≡ latest_with x (get_or ws i no_writer) → ys ≡ xs ++ y ∷ [] → IsTable ws (i + 1) ys y
+pub table_more : (ws : List TimedWriter) (i : ℕ) (xs ys : List Latest) (x y : Latest) → i < length ws → IsTable ws i xs x → y ≡ latest_with x (get_or ws i no_writer) → ys ≡ xs ++ y ∷ [] → IsTable ws (i + 1) ys y
 table_more ws i xs ys x y less its step e =
     let count = its.count in
     let long : length ys ≡ suc (length xs) = ap (λ (zs : List Latest). length zs) e ∙ length-append xs (y ∷ []) ∙ one_more (length xs) in
     let one : i + 1 ≡ suc i = omega arith in
-    let known : TellsLatest (take (suc i) ws) y = subst (λ (vs : List Writer). TellsLatest vs y) (sym (take_more ws i no_writer less)) (subst (λ (z : Latest). TellsLatest (take i ws ++ get_or ws i no_writer ∷ []) z) (sym step) (more_latest (take i ws) x (get_or ws i no_writer) its.known)) in
+    let known : TellsLatest (take (suc i) ws) y = subst (λ (vs : List TimedWriter). TellsLatest vs y) (sym (take_more ws i no_writer less)) (subst (λ (z : Latest). TellsLatest (take i ws ++ get_or ws i no_writer ∷ []) z) (sym step) (more_latest (take i ws) x (get_or ws i no_writer) its.known)) in
     record {
       count = omega arith;
       each = λ k z found.
@@ -205,7 +205,7 @@ table_more ws i xs ys x y less its step e =
       known = subst (λ (j : ℕ). TellsLatest (take j ws) y) (sym one) known;
     }
 
-pub crossed_is : (ws : List Writer) (xs : List Latest) (rest : Rest) (k : ℕ) (x : Latest) (r : Bool) → AreLatest ws xs → k ≤ length ws → ((i : ℕ) → i < k → not_past rest.to (get_or ws i no_writer).begin ≡ true) → ((i : ℕ) → k ≤ i → i < length ws → not_past rest.to (get_or ws i no_writer).begin ≡ false) → x ≡ get_or xs k x → r ≡ latest_reaches x rest.thread rest.from → r ≡ list_any (crosses rest) ws
+pub crossed_is : (ws : List TimedWriter) (xs : List Latest) (rest : Rest) (k : ℕ) (x : Latest) (r : Bool) → AreLatest ws xs → k ≤ length ws → ((i : ℕ) → i < k → not_past rest.to (get_or ws i no_writer).begin ≡ true) → ((i : ℕ) → k ≤ i → i < length ws → not_past rest.to (get_or ws i no_writer).begin ≡ false) → x ≡ get_or xs k x → r ≡ latest_reaches x rest.thread rest.from → r ≡ list_any (crosses rest) ws
 crossed_is ws xs rest k x r are few before after read e =
     let count = are.count in
     let there = slice_get_read xs (length xs) k x refl (omega arith) read in

@@ -3,10 +3,11 @@
 ghost use Rattle.std.specs.Prelude.{◌≡◌, IfOk};
 ghost use Rattle.rept_crossing.specs.Latest.{later_of, latest_none, latest_with, latest_known, latest_reaches, AreLatest};
 
-use crate::writer::Writer;
+use crate::writer::TimedWriter;
 use std::alloc::{AllocError as OutOfMemory, Global};
 
-/// The greatest end of the writers up to one, whose thread that writer's is, and the greatest one of the other threads.
+/// The greatest end of the writers up to one, whose thread that writer's is, and the greatest one
+/// of the other threads.
 #[derive(Clone, Copy)]
 pub struct Latest {
     /// The thread.
@@ -39,8 +40,8 @@ impl Latest {
         }
     }
 
-    /// With one more.
-    pub fn with(self, writer: Writer) -> Latest
+    /// With one writer more.
+    pub fn with(self, writer: TimedWriter) -> Latest
         ensures { result ≡ latest_with self writer }
     {
         match self.end {
@@ -53,8 +54,8 @@ impl Latest {
         }
     }
 
-    /// The same where there is one already.
-    fn with_known(self, end: u64, writer: Writer) -> Latest
+    /// With one writer more, where there is one already.
+    fn with_known(self, end: u64, writer: TimedWriter) -> Latest
         ensures { result ≡ latest_known self end writer }
     {
         if writer.thread == self.thread {
@@ -95,7 +96,7 @@ impl Latest {
 }
 
 /// Of each count of writers from the first one on.
-pub fn latest_of_each(alloc: Global, list: &[Writer]) -> Result<Vec<Latest>, OutOfMemory>
+pub fn latest_of_each(alloc: Global, list: &[TimedWriter]) -> Result<Vec<Latest>, OutOfMemory>
     ensures { IfOk result (λ v. AreLatest list.now v.items) }
 {
     let mut latest = Vec::new(alloc);

@@ -5,5 +5,5 @@ mod latest;
 mod writer;
 mod writers;
 
-pub use writer::{Rest, Writer};
+pub use writer::{Rest, TimedWriter};
 pub use writers::Writers;

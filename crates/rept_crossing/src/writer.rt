@@ -2,7 +2,7 @@
 
 /// What may write memory, with the times between which it does.
 #[derive(Clone, Copy)]
-pub struct Writer {
+pub struct TimedWriter {
     /// The thread.
     pub thread: u32,
     /// The time before which it doesn't begin to write.

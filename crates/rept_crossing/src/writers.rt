@@ -1,4 +1,5 @@
-//! Writers in the order of their begins, and whether one of another thread may write while a thread rests.
+//! Writers in the order of their begins, and whether one of another thread may write while a thread
+//! rests.
 
 ghost use Rattle.std.specs.Prelude.{◌≡◌, ◌≤◌, ◌<◌, ℕ, true, false, length, IfOk, OnOk, slice_index_or};
 ghost use Rattle.std.specs.List.{list_any};
@@ -6,14 +7,14 @@ ghost use Rattle.std.specs.List.Sorted.{IsPermutation, IsNonDecreasingBy};
 ghost use Rattle.rept_crossing.specs.Writers.{crosses, not_past, no_writer};
 
 use crate::latest::{Latest, latest_of_each};
-use crate::writer::{Rest, Writer};
+use crate::writer::{Rest, TimedWriter};
 use std::alloc::{AllocError as OutOfMemory, Global};
 use std::marker::Model;
 
 /// Writers in the order of their begins.
 #[derive(Drop)]
 pub struct Writers {
-    list: Vec<Writer>,
+    list: Vec<TimedWriter>,
     /// of the first so many
     latest: Vec<Latest>,
 }
@@ -21,10 +22,10 @@ pub struct Writers {
 impl Model for Writers {
     ghost use Rattle.std.specs.Prelude.{List};
     ghost use Rattle.std.specs.List.Sorted.{IsNonDecreasingBy};
-    ghost use Rattle.rept_crossing.specs.declared.writer.Writer.{Writer};
+    ghost use Rattle.rept_crossing.specs.declared.writer.TimedWriter.{TimedWriter};
     ghost use Rattle.rept_crossing.specs.Latest.{AreLatest};
 
-    ghost Value = { List Writer };
+    ghost Value = { List TimedWriter };
 
     ghost view = { λ w. w.list.items };
 
@@ -32,7 +33,7 @@ impl Model for Writers {
 }
 
 /// Puts them into the order of their begins.
-fn sort(list: &mut Vec<Writer>) -> Result<(), OutOfMemory>
+fn sort(list: &mut Vec<TimedWriter>) -> Result<(), OutOfMemory>
     ensures same { IsPermutation list.old.items list.new.items }
     ensures sorted { OnOk result (IsNonDecreasingBy (λ w. w.begin) list.new.items) }
 {
@@ -42,7 +43,7 @@ fn sort(list: &mut Vec<Writer>) -> Result<(), OutOfMemory>
 
 impl Writers {
     /// These writers. It takes memory for one entry each.
-    pub fn new(alloc: Global, mut list: Vec<Writer>) -> Result<Writers, OutOfMemory>
+    pub fn new(alloc: Global, mut list: Vec<TimedWriter>) -> Result<Writers, OutOfMemory>
         ensures { IfOk result (λ w. IsPermutation list.items w) }
     {
         sort(&mut list)?;
@@ -60,7 +61,7 @@ impl Writers {
         list.partition_point(|writer| writer.begin <= time)
     }
 
-    /// The same up to no time in particular.
+    /// How many begin at this time or before; without a time, all of them.
     fn begun(&self, time: Option<u64>) -> usize
         ensures few { result ≤ length self.now }
         ensures before { (k : ℕ) → k < result → not_past time (slice_index_or self.now k no_writer).begin ≡ true }

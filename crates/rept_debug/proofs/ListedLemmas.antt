@@ -16,7 +16,7 @@ use Rattle.rept_words.specs.Words.Meaning.{Open, Maps, Made}
 use Rattle.rept_opening.specs.Forms.{core_image_fault}
 use Rattle.rept_opening.specs.Lines.{status_of}
 use Rattle.rept_opening.specs.Listed.{HasNoFiles, LoadStops}
-use Rattle.rept_opening.specs.Loading.{CoreBytes, LoadsBoth, ShelfMoves, core_loads_to, parts_bytes, FaultsEnd}
+use Rattle.rept_opening.specs.Loading.{CoreBytes, LoadsBoth, FileStoreMoves, core_loads_to, parts_bytes, FaultsEnd}
 use Rattle.rept_opening.specs.Mapped.{ListSays, MappedCrash, mapped_bytes, mapped_crash, mapped_files}
 use Rattle.rept_opening.specs.Reading.{NotesSay}
 use Rattle.rept_opening.specs.Opened.{CrashTrace, ReadsNotes, crash_trace}
@@ -26,9 +26,9 @@ use Rattle.rept_opening.specs.declared.refusal.Refusal.{Refusal}
 use Rattle.rept_opening.specs.declared.refusal.Refusal.TheVariants as refusal
 use Rattle.rept_opening.proofs.MappedLemmas.{over_files, parts_trace}
 use Rattle.rept_debug.specs.Debugged.{IsHeld, IsHeldMapped, IsHeldTrace, IsLoadFault, IsRefusedCrash, IsRefusedMapped, IsRefusedTrace, IsUnheld, NameStops, Streams}
-use Rattle.rept_debug.specs.declared.no_talk.NoTalk.{NoTalk}
-use Rattle.rept_debug.specs.declared.no_talk.NoTalk.TheVariants as no_talk
-use Rattle.rept_debug.specs.declared.talk.Talk.{Talk}
+use Rattle.rept_debug.specs.declared.no_talk.GdbError.{GdbError}
+use Rattle.rept_debug.specs.declared.no_talk.GdbError.TheVariants as no_talk
+use Rattle.rept_debug.specs.declared.talk.GdbSession.{GdbSession}
 
 -- of a dump of mapped files: what was held over its trace was held over these
 module _ (ms : List Mapping) (b : CoreBytes) (dump : Dump) (notes : List (List ℕ)) (trace : List ℕ) (program : exe_of dump ≡ MappedFiles ms) (core : core_of dump ≡ segments b.core) (same : trace ≡ b.trace)
@@ -36,7 +36,7 @@ module _ (ms : List Mapping) (b : CoreBytes) (dump : Dump) (notes : List (List �
   read_parts : ReadsNotes (parts_bytes ms b) notes
   read_parts = record { program_accepted = refl; core_accepted = accepted; noted = said }
 
-  pub held_parts : (io : Streams) (talk : Talk) → IsHeldTrace (crash_trace (crash_of dump notes) trace b.manner) io talk → IsHeld (parts_bytes ms b) io talk
+  pub held_parts : (io : Streams) (talk : GdbSession) → IsHeldTrace (crash_trace (crash_of dump notes) trace b.manner) io talk → IsHeld (parts_bytes ms b) io talk
   held_parts io talk h = record { notes = notes; read = read_parts; held = subst (λ (t : CrashTrace). IsHeldTrace t io talk) (parts_trace (crash_of dump notes) ms b trace program core same) h }
 
   pub refused_parts : (r : Refusal) → IsRefusedTrace (crash_trace (crash_of dump notes) trace b.manner) r → IsRefusedCrash (parts_bytes ms b) r
@@ -60,7 +60,7 @@ module _ (m : MappedCrash) (r : Refusal) where
 
 -- of the files that a list names
 module _ (o : Option Files) (ms : List Mapping) (b : CoreBytes) (desc : List ℕ) (accepted : core_image_fault b.core ≡ None) (listed : ListSays b.core (Ok desc)) (program : IfSome o (λ files. ms ≡ mapped_files files desc)) where
-  pub held_listed : (io : Streams) (talk : Talk) → IsHeld (parts_bytes ms b) io talk → IfSome o (λ files. IsHeldMapped (mapped_crash files b) io talk)
+  pub held_listed : (io : Streams) (talk : GdbSession) → IsHeld (parts_bytes ms b) io talk → IfSome o (λ files. IsHeldMapped (mapped_crash files b) io talk)
   held_listed io talk h =
       over_files o (λ files. ms ≡ mapped_files files desc) (λ files. IsHeldMapped (mapped_crash files b) io talk)
       (λ files same. record {
@@ -75,18 +75,18 @@ module _ (o : Option Files) (ms : List Mapping) (b : CoreBytes) (desc : List ℕ
       (λ files same. inl (files_refused (mapped_crash files b) r desc accepted listed (subst (λ (parts : List Mapping). IsRefusedCrash (parts_bytes parts b) r) same h))) program
 
 -- why no files are listed
-module _ (m : MappedCrash) (shelf : PortMove Shelved) where
-  pub refused_unheld : (asked : PortMove ℕ) (r : Refusal) → HasNoFiles m.bytes.core shelf (stops.Refused r) → IsUnheld m asked (no_talk.Refused r)
+module _ (m : MappedCrash) (file_store : PortMove Shelved) where
+  pub refused_unheld : (asked : PortMove ℕ) (r : Refusal) → HasNoFiles m.bytes.core file_store (stops.Refused r) → IsUnheld m asked (no_talk.Refused r)
   refused_unheld asked r (inl (inl (fault, refused, is), idle)) = inl (image_refused m r fault (sym refused) is)
   refused_unheld asked r (inl (inr (fault, accepted, listed, only, is), idle)) = inl (list_refused m r fault accepted listed is)
   refused_unheld asked r (inr (is, cut)) = inr (ap status_of is)
 
-  name_stops : (name : List ℕ) → LoadStops m.bytes.core shelf name → NameStops m (move shelf.before.loads shelf.after.loads) name
+  name_stops : (name : List ℕ) → LoadStops m.bytes.core file_store name → NameStops m (move file_store.before.loads file_store.after.loads) name
   name_stops name stop = record { accepted = stop.accepted; desc = stop.desc; listed = stop.listed; place = stop.place; named = stop.named; loads = stop.loads }
 
-  pub name_unheld : (name : List ℕ) (why : NoTalk) → LoadStops m.bytes.core shelf name → IsLoadFault name why → IsUnheld m (move shelf.before.loads shelf.after.loads) why
+  pub name_unheld : (name : List ℕ) (why : GdbError) → LoadStops m.bytes.core file_store name → IsLoadFault name why → IsUnheld m (move file_store.before.loads file_store.after.loads) why
   name_unheld name (no_talk.Refused r) stop e = inr (ap status_of e)
-  name_unheld name (no_talk.LoadFault told) stop e = subst (NameStops m (move shelf.before.loads shelf.after.loads)) (sym e) (name_stops name stop)
+  name_unheld name (no_talk.LoadFault told) stop e = subst (NameStops m (move file_store.before.loads file_store.after.loads)) (sym e) (name_stops name stop)
 
 -- whatever is said of all files
 pub where_any : (o : Option Files) (P : Files → Type 0) → ((files : Files) → P files) → IfSome o P
@@ -98,15 +98,15 @@ pub said_ok : {T E : Type 0} (r : Result T E) (x : T) (P : Type 0) → r ≡ Ok 
 said_ok {T} {E} r x P is h = let Q : Result T E → Type 0 = λ w. OnOk w P in subst Q is h
 
 -- the core file and the trace were loaded
-pub both_loads : (m : Option Meaning) (core : List ℕ) (shelf : PortMove Shelved) → LoadsBoth m core shelf → shelf.after.loads ≡ core_loads_to file.Trace shelf.before.loads
-both_loads None core shelf h = absurd h
-both_loads (Some (Made seed steps)) core shelf h = absurd h
-both_loads (Some (Maps names from)) core shelf h = h.loads
-both_loads (Some (Open d names from)) core shelf h = absurd h
+pub both_loads : (m : Option Meaning) (core : List ℕ) (file_store : PortMove Shelved) → LoadsBoth m core file_store → file_store.after.loads ≡ core_loads_to file.Trace file_store.before.loads
+both_loads None core file_store h = absurd h
+both_loads (Some (Made seed steps)) core file_store h = absurd h
+both_loads (Some (Maps names from)) core file_store h = h.loads
+both_loads (Some (Open d names from)) core file_store h = absurd h
 
--- and what the loads of mapped files do to the shelf after them
+-- and what the loads of mapped files do to the file store after them
 module _ {T E : Type 0} (old between new : Shelved) (same : between.files ≡ old.files) (calm : between.faults ≡ old.faults) (stay : new.files ≡ between.files) (later : between.faults ≤ new.faults) (r : Result T E) where
-  told_moves : (o : Option Files) → IfSome o (λ _. new.faults ≤ between.faults + 1) → OnOk r (IfSome o (λ _. new.faults ≡ between.faults)) → MatchOption o ⊥ (λ _. Unit {0}) → ShelfMoves (move old new) r
+  told_moves : (o : Option Files) → IfSome o (λ _. new.faults ≤ between.faults + 1) → OnOk r (IfSome o (λ _. new.faults ≡ between.faults)) → MatchOption o ⊥ (λ _. Unit {0}) → FileStoreMoves (move old new) r
   told_moves None once quiet h = absurd h
   told_moves (Some files) once quiet h = record { files = stay ∙ same; later = omega (arith, later, calm); once = omega (arith, once, calm); calm = on_ok r quiet }
     where
@@ -114,7 +114,7 @@ module _ {T E : Type 0} (old between new : Shelved) (same : between.files ≡ ol
       on_ok (Ok x) e = e ∙ calm
       on_ok (Err x) e = tt
 
-  pub mapped_moves : (m : Option Meaning) (core : List ℕ) → LoadsBoth m core (move old between) → IfSome between.files (λ _. new.faults ≤ between.faults + 1) → OnOk r (IfSome between.files (λ _. new.faults ≡ between.faults)) → FaultsEnd m old.files → ShelfMoves (move old new) r
+  pub mapped_moves : (m : Option Meaning) (core : List ℕ) → LoadsBoth m core (move old between) → IfSome between.files (λ _. new.faults ≤ between.faults + 1) → OnOk r (IfSome between.files (λ _. new.faults ≡ between.faults)) → FaultsEnd m old.files → FileStoreMoves (move old new) r
   mapped_moves None core h once quiet ends = absurd h
   mapped_moves (Some (Made seed steps)) core h once quiet ends = absurd h
   mapped_moves (Some (Maps names from)) core h once quiet ends = told_moves between.files once quiet (subst (λ (o : Option Files). MatchOption o ⊥ (λ _. Unit {0})) (sym same) ends)

@@ -7,7 +7,7 @@ use Rattle.rept_path.specs.declared.fault.PathFault.TheVariants as fault
 use Rattle.rept_found.specs.Crash.{Crash}
 use Rattle.rept_opening.specs.TraceRun.{HasNoRunOf, IsRunOf}
 use Rattle.rept_debug.specs.Begin.{AreBegun, BeginsAt, HasNoStart, MayEndSearch, NeverBegins}
-use Rattle.rept_debug.specs.declared.begin.Begun.{Begun}
+use Rattle.rept_debug.specs.declared.begin.RunFrom.{RunFrom}
 
 -- from the packet `high` on, which comes after the packet `low`
 pub record IsSought (crash : Crash) (trace : List ℕ) (low high : ℕ) (run : Run) : Type 0 where
@@ -68,7 +68,7 @@ module _ (crash : Crash) (trace : List ℕ) where
   at_first from e h has = subst (λ (n : ℕ). HasNoRunOf crash trace n e) (first_packet_asked from h) has
 
   -- what is begun where that is asked for
-  pub begun_first : (from : ℕ) (r : Result Begun PathFault) → from ≤ 0 → AreBegun crash trace 0 r → AreBegun crash trace from r
+  pub begun_first : (from : ℕ) (r : Result RunFrom PathFault) → from ≤ 0 → AreBegun crash trace 0 r → AreBegun crash trace from r
   begun_first from r h begun = subst (λ (n : ℕ). AreBegun crash trace n r) (sym (first_packet_asked from h)) begun
 
   -- a run from the packet that is asked for, or none

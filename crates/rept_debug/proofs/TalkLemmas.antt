@@ -13,13 +13,13 @@ use Rattle.rept_opening.specs.Reading.{IsDumpOf}
 use Rattle.rept_opening.specs.Report.{HasNoReport, IsAsked}
 use Rattle.rept_opening.specs.Opened.{CrashRun, CrashTrace, crash_trace, run_in}
 use Rattle.rept_opening.specs.TraceRun.{IsRunOf}
-use Rattle.rept_opening.specs.declared.load.Manner.{Manner}
+use Rattle.rept_opening.specs.declared.load.OpenOptions.{OpenOptions}
 use Rattle.rept_opening.specs.declared.refusal.Refusal.{Refusal}
 use Rattle.rept_opening.specs.declared.refusal.Refusal.TheVariants as refusal
 use Rattle.rept_debug.specs.Begin.{BeginsAt, NeverBegins}
 use Rattle.rept_debug.specs.Debugged.{HoldsDialog, IsHeld, IsHeldTrace, IsNoticed, IsRefusedCrash, IsRefusedTrace, Streams, TalksOver}
 use Rattle.rept_debug.specs.declared.talk.HeldDialog.{HeldDialog}
-use Rattle.rept_debug.specs.declared.talk.Talk.{Talk}
+use Rattle.rept_debug.specs.declared.talk.GdbSession.{GdbSession}
 
 -- what was asked over a run was answered over it
 pub talks_over : {W : Type 0} (p : CrashRun W) (source sink : PortMove Port) (held : HeldDialog) → IsAsked HoldsDialog p source sink held → TalksOver p source sink held.end
@@ -37,12 +37,12 @@ module _ (t : CrashTrace) where
   pub run_refused : (from : ℕ) (run : Run) (r : Refusal) → IsRunOf t.crash t.trace from run → BeginsAt t.crash t.trace t.manner.from from → HasNoReport (run_in t run) r → IsRefusedTrace t r
   run_refused from run r is begins h = inr (inl (from, run, begins, is, h))
 
-  pub run_held : (io : Streams) (talk : Talk) (run : Run) → IsRunOf t.crash t.trace talk.from run → BeginsAt t.crash t.trace t.manner.from talk.from → IsNoticed t.manner.from talk.from io.errors → TalksOver (run_in t run) io.input io.output talk.end → IsHeldTrace t io talk
+  pub run_held : (io : Streams) (talk : GdbSession) (run : Run) → IsRunOf t.crash t.trace talk.from run → BeginsAt t.crash t.trace t.manner.from talk.from → IsNoticed t.manner.from talk.from io.errors → TalksOver (run_in t run) io.input io.output talk.end → IsHeldTrace t io talk
   run_held io talk run is begins noticed over = record { run = run; is = is; begins = begins; noticed = noticed; over = over }
 
 -- what was held over the trace of a dump was held over its files
-module _ (exe core trace : List ℕ) (manner : Manner) (dump : Dump) (is : IsDumpOf (is_several trace) exe core dump) where
-  pub held_at : (io : Streams) (talk : Talk) → IsHeldTrace (crash_trace (crash_of dump is.notes) trace manner) io talk → IsHeld (crash_bytes exe core trace manner) io talk
+module _ (exe core trace : List ℕ) (manner : OpenOptions) (dump : Dump) (is : IsDumpOf (is_several trace) exe core dump) where
+  pub held_at : (io : Streams) (talk : GdbSession) → IsHeldTrace (crash_trace (crash_of dump is.notes) trace manner) io talk → IsHeld (crash_bytes exe core trace manner) io talk
   held_at io talk h = record {
     notes = is.notes;
     read = record { program_accepted = is.exe_accepted; core_accepted = is.core_accepted; noted = is.noted };

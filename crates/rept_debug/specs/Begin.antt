@@ -5,22 +5,23 @@ use Rattle.rept_path.specs.declared.fault.PathFault.{PathFault}
 use Rattle.rept_path.specs.declared.fault.PathFault.TheVariants.{NoStart, OutOfMemory, TooLong}
 use Rattle.rept_steps.specs.declared.run.Run.{Run}
 use Rattle.rept_opening.specs.TraceRun.{HasNoRunOf, IsRunOf}
-use Rattle.rept_debug.specs.declared.begin.Begun.{Begun}
-use Rattle.rept_debug.specs.declared.begin.Kind.{Kind}
-use Rattle.rept_debug.specs.declared.begin.Kind.TheVariants as kind
+use Rattle.rept_debug.specs.declared.begin.RunFrom.{RunFrom}
+use Rattle.rept_debug.specs.declared.begin.RefusalKind.{RefusalKind}
+use Rattle.rept_debug.specs.declared.begin.RefusalKind.TheVariants as kind
 
 -- from the packet of this number on the run has too many steps
 abbrev pub IsTooLong : Crash → List ℕ → ℕ → Type 0
 IsTooLong crash trace from = (packet : ℕ) × HasNoRunOf crash trace from (TooLong packet)
 
 -- what the search for a later packet tells apart in a refusal
-abbrev pub IsKind : PathFault → Kind → Type 0
+abbrev pub IsKind : PathFault → RefusalKind → Type 0
 IsKind fault (kind.TooLong packet) = fault ≡ TooLong packet
 IsKind fault kind.NoStart = (count : ℕ) × (fault ≡ NoStart count)
 IsKind fault kind.Other = ((packet : ℕ) → fault ≢ TooLong packet) × ((count : ℕ) → fault ≢ NoStart count)
 
--- From the packet of this number on there is no start: no start packet may begin the run, or a packet comes where only one may, as `NoStart` tells; or
--- there are not so many packets, since the trace has no more bytes.
+-- From the packet of this number on there is no start: no start packet may begin the run, or a
+-- packet comes where only one may, as `NoStart` tells; or there are not so many packets, since the
+-- trace has no more bytes.
 abbrev pub HasNoStart : Crash → List ℕ → ℕ → Type 0
 HasNoStart crash trace from = ((count : ℕ) × HasNoRunOf crash trace from (NoStart count)) ⊎ (length trace ≤ from)
 
@@ -28,8 +29,8 @@ HasNoStart crash trace from = ((count : ℕ) × HasNoRunOf crash trace from (NoS
 abbrev pub MayEndSearch : Crash → List ℕ → ℕ → Type 0
 MayEndSearch crash trace from = ((run : Run) × IsRunOf crash trace from run) ⊎ HasNoStart crash trace from
 
--- the packet that is asked for; or, where that is the first one and the run from there has too many steps, a later one, while the run from the
--- packet before it has too many
+-- the packet that is asked for; or, where that is the first one and the run from there has too many
+-- steps, a later one, while the run from the packet before it has too many
 abbrev pub BeginsAt : Crash → List ℕ → ℕ → ℕ → Type 0
 BeginsAt crash trace asked from =
     (from ≡ asked)
@@ -43,8 +44,8 @@ pub record IsLongToTheEnd (crash : Crash) (trace : List ℕ) (fault : PathFault)
   pub long : HasNoRunOf crash trace from (TooLong packet)
   pub next : HasNoStart crash trace (suc from)
 
--- the run from a packet has another fault than that; the packet is between one from which the run has too many steps, and one from which there is
--- a run, or no start
+-- the run from a packet has another fault than that; the packet is between one from which the run
+-- has too many steps, and one from which there is a run, or no start
 pub record IsFaultBetween (crash : Crash) (trace : List ℕ) (fault : PathFault) : Type 0 where
   pub low : ℕ
   pub from : ℕ
@@ -57,15 +58,17 @@ pub record IsFaultBetween (crash : Crash) (trace : List ℕ) (fault : PathFault)
   pub not_long : (packet : ℕ) → fault ≢ TooLong packet
   pub no_end : (count : ℕ) → fault ≢ NoStart count
 
--- there is no run from the packet that is asked for, which isn't the first one, or whose fault isn't that of too many steps; or it is the first one,
--- its run has too many, and there is none from a later one
+-- there is no run from the packet that is asked for, which isn't the first one, or whose fault
+-- isn't that of too many steps; or it is the first one, its run has too many, and there is none
+-- from a later one
 abbrev pub NeverBegins : Crash → List ℕ → ℕ → PathFault → Type 0
 NeverBegins crash trace asked fault =
     (HasNoRunOf crash trace asked fault × ((0 < asked) ⊎ ((packet : ℕ) → fault ≢ TooLong packet)))
     ⊎ ((asked ≡ 0) × IsTooLong crash trace 0 × (IsLongToTheEnd crash trace fault ⊎ IsFaultBetween crash trace fault))
 
--- what is begun of a trace, where a packet is asked for: a run of it, from that packet or a later one; or why there is none. Want of memory is none of the definition's.
-pub record AreBegun (crash : Crash) (trace : List ℕ) (asked : ℕ) (result : Result Begun PathFault) : Type 0 where
+-- what is begun of a trace, where a packet is asked for: a run of it, from that packet or a later
+-- one; or why there is none. Want of memory is none of the definition's.
+pub record AreBegun (crash : Crash) (trace : List ℕ) (asked : ℕ) (result : Result RunFrom PathFault) : Type 0 where
   pub run : IfOk result (λ begun. IsRunOf crash trace begun.from begun.run)
   pub from : IfOk result (λ begun. BeginsAt crash trace asked begun.from)
   pub refused : IfErr result (λ e. (e ≡ OutOfMemory) ⊎ NeverBegins crash trace asked e)

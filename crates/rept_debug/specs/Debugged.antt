@@ -15,7 +15,7 @@ use Rattle.rept_found.specs.Crash.{note_at}
 use Rattle.rept_found.specs.Telling.{Account, told_on}
 use Rattle.rept_session.specs.Shown.{SessionTold}
 use Rattle.rept_dialog.specs.Converse.{Parties, Converses, parties_over}
-use Rattle.rept_dialog.specs.declared.conversation.Conversed.{Conversed}
+use Rattle.rept_dialog.specs.declared.conversation.SessionEnd.{SessionEnd}
 use Rattle.rept_opening.specs.Forms.{core_image_fault}
 use Rattle.rept_opening.specs.Lines.{status_of}
 use Rattle.rept_opening.specs.Loading.{CrashBytes, CoreBytes, ComesTo, ComesToCore, Loading, core_loads_to, loading, loads_to}
@@ -30,13 +30,13 @@ use Rattle.rept_opening.specs.declared.refusal.FileKind.{FileKind}
 use Rattle.rept_opening.specs.declared.refusal.FileKind.TheVariants as file
 use Rattle.rept_opening.specs.declared.refusal.Refusal.{Refusal}
 use Rattle.rept_opening.specs.declared.refusal.Refusal.TheVariants as refusal
-use Rattle.rept_opening.specs.declared.status.Status.{Status}
-use Rattle.rept_opening.specs.declared.status.Status.TheVariants as ends
+use Rattle.rept_opening.specs.declared.status.ExitStatus.{ExitStatus}
+use Rattle.rept_opening.specs.declared.status.ExitStatus.TheVariants as ends
 use Rattle.rept_debug.specs.Begin.{BeginsAt, NeverBegins}
-use Rattle.rept_debug.specs.declared.no_talk.NoTalk.{NoTalk}
-use Rattle.rept_debug.specs.declared.no_talk.NoTalk.TheVariants as no_talk
+use Rattle.rept_debug.specs.declared.no_talk.GdbError.{GdbError}
+use Rattle.rept_debug.specs.declared.no_talk.GdbError.TheVariants as no_talk
 use Rattle.rept_debug.specs.declared.talk.HeldDialog.{HeldDialog}
-use Rattle.rept_debug.specs.declared.talk.Talk.{Talk}
+use Rattle.rept_debug.specs.declared.talk.GdbSession.{GdbSession}
 
 -- the three streams, before a call and after it
 pub record Streams : Type 0 where
@@ -47,7 +47,8 @@ pub record Streams : Type 0 where
 abbrev pub streams : PortMove Port → PortMove Port → PortMove Port → Streams
 streams input output errors = record { input = input; output = output; errors = errors }
 
--- the line that tells from which packet the run was rebuilt, where that isn't the one that was asked for
+-- the line that tells from which packet the run was rebuilt, where that isn't the one that was
+-- asked for
 abbrev pub notice_line : ℕ → List ℕ
 notice_line from = codes "the path begins at packet " ++ decimal from ++ 10 ∷ []
 
@@ -57,7 +58,8 @@ IsWritten from errors =
     (Appends errors.before.bytes errors.after.bytes (notice_line from) × (errors.after.faults ≡ errors.before.faults))
     ⊎ (AppendsPrefix errors.before.bytes errors.after.bytes (notice_line from) × OneFault errors.before.faults errors.after.faults)
 
--- of a dialog that was held: nothing was written, where the run begins at the packet that was asked for; else the line
+-- of a dialog that was held: nothing was written, where the run begins at the packet that was asked
+-- for; else the line
 abbrev pub IsNoticed : ℕ → ℕ → PortMove Port → Type 0
 IsNoticed asked from errors = ((from ≡ asked) × (errors.after ≡ errors.before)) ⊎ IsWritten from errors
 
@@ -65,8 +67,9 @@ IsNoticed asked from errors = ((from ≡ asked) × (errors.after ≡ errors.befo
 abbrev pub Notices : PortMove Port → Type 0
 Notices errors = (errors.after ≡ errors.before) ⊎ ((from : ℕ) × IsWritten from errors)
 
--- who talks: what a session tells of an account of the run; the signal of the first thread's register note (`pr_cursig` of `struct elf_prstatus`, at 12); and
--- a debugger that stands at the end
+-- who talks: what a session tells of an account of the run; the signal of the first thread's
+-- register note (`pr_cursig` of `struct elf_prstatus`, at 12); and a debugger that stands at the
+-- end
 abbrev pub dialog_over : {W : Type 0} → CrashRun W → Account → Parties
 dialog_over p a = parties_over (told_on (route_of p) a) (half_at (note_at p.crash 0) 12)
 
@@ -75,13 +78,13 @@ abbrev pub HoldsDialog : SessionTold → ℕ → PortMove Port → PortMove Port
 HoldsDialog t signal source sink held = Converses (parties_over t signal) source sink held.end
 
 -- what arrived was answered over an account of the run
-pub record TalksOver {W : Type 0} (p : CrashRun W) (source sink : PortMove Port) (end : Conversed) : Type 0 where
+pub record TalksOver {W : Type 0} (p : CrashRun W) (source sink : PortMove Port) (end : SessionEnd) : Type 0 where
   pub account : Account
   pub report : IsAccountOf p account
   pub talks : Converses (dialog_over p account) source sink end
 
 -- the run of a trace, and what was answered over it
-pub record IsHeldTrace (t : CrashTrace) (io : Streams) (talk : Talk) : Type 0 where
+pub record IsHeldTrace (t : CrashTrace) (io : Streams) (talk : GdbSession) : Type 0 where
   pub run : Run
   pub is : IsRunOf t.crash t.trace talk.from run
   pub begins : BeginsAt t.crash t.trace t.manner.from talk.from
@@ -96,7 +99,7 @@ IsRefusedTrace t r =
     ⊎ (status_of r ≡ ends.OutOfMemory)
 
 -- the files are accepted, and their trace was answered
-pub record IsHeld (bytes : CrashBytes) (io : Streams) (talk : Talk) : Type 0 where
+pub record IsHeld (bytes : CrashBytes) (io : Streams) (talk : GdbSession) : Type 0 where
   pub notes : List (List ℕ)
   pub read : ReadsNotes bytes notes
   pub held : IsHeldTrace (trace_in bytes notes) io talk
@@ -105,8 +108,9 @@ pub record IsHeld (bytes : CrashBytes) (io : Streams) (talk : Talk) : Type 0 whe
 abbrev pub IsRefusedCrash : CrashBytes → Refusal → Type 0
 IsRefusedCrash bytes r = HasNoCrash (is_several bytes.trace) bytes r ⊎ ((notes : List (List ℕ)) × ReadsNotes bytes notes × IsRefusedTrace (trace_in bytes notes) r)
 
--- the core file and its list are accepted, and the trace was answered over the crash with the files of that list
-pub record IsHeldMapped (m : MappedCrash) (io : Streams) (talk : Talk) : Type 0 where
+-- the core file and its list are accepted, and the trace was answered over the crash with the files
+-- of that list
+pub record IsHeldMapped (m : MappedCrash) (io : Streams) (talk : GdbSession) : Type 0 where
   pub bytes : CrashBytes
   pub is : IsMappedAs m bytes
   pub held : IsHeld bytes io talk
@@ -118,7 +122,8 @@ IsRefusedMapped m r =
     ((said : Result (List ℕ) MapFault) × ListSays m.bytes.core said × MatchResult said (λ desc. IsRefusedCrash (mapped_bytes m desc) r) (λ fault. r ≡ refusal.Maps fault))
     (λ fault. r ≡ refusal.CoreImage fault)
 
--- The load of the file of this name, which is one of those that the core file lists, failed: it was the last.
+-- The load of the file of this name, which is one of those that the core file lists, failed: it was
+-- the last.
 pub record NameStops (m : MappedCrash) (asked : PortMove ℕ) (name : List ℕ) : Type 0 where
   pub accepted : core_image_fault m.bytes.core ≡ None
   pub desc : List ℕ
@@ -128,22 +133,22 @@ pub record NameStops (m : MappedCrash) (asked : PortMove ℕ) (name : List ℕ) 
   pub loads : asked.after ≡ loads_after (suc place) asked.before
 
 -- why nothing is answered of a core file that lists the files of its program
-abbrev pub IsUnheld : MappedCrash → PortMove ℕ → NoTalk → Type 0
+abbrev pub IsUnheld : MappedCrash → PortMove ℕ → GdbError → Type 0
 IsUnheld m asked (no_talk.Refused r) = IsRefusedMapped m r ⊎ (status_of r ≡ ends.OutOfMemory)
 IsUnheld m asked (no_talk.LoadFault name) = NameStops m asked (string_bytes name)
 
 -- the load of a name failed, or there was no memory to tell it
-abbrev pub IsLoadFault : List ℕ → NoTalk → Type 0
+abbrev pub IsLoadFault : List ℕ → GdbError → Type 0
 IsLoadFault name (no_talk.Refused r) = r ≡ refusal.OutOfMemory
 IsLoadFault name (no_talk.LoadFault told) = string_bytes told ≡ name
 
-abbrev pub status_of_no_talk : NoTalk → Status
+abbrev pub status_of_no_talk : GdbError → ExitStatus
 status_of_no_talk (no_talk.Refused r) = status_of r
 status_of_no_talk (no_talk.LoadFault name) = ends.LoadFault
 
--- the words and the files come to a crash; what arrived was answered over its report; and all that the report tells holds in every execution of
--- the run that ends in the crash
-pub record IsDebugged (words : List (List ℕ)) (files : Files) (io : Streams) (talk : Talk) : Type 0 where
+-- the words and the files come to a crash; what arrived was answered over its report; and all that
+-- the report tells holds in every execution of the run that ends in the crash
+pub record IsDebugged (words : List (List ℕ)) (files : Files) (io : Streams) (talk : GdbSession) : Type 0 where
   pub bytes : CrashBytes
   pub loaded : IsCrashOf files (loading words files) bytes
   pub held : IsHeld bytes io talk
@@ -156,13 +161,13 @@ IsRefusedLoading files (Loaded bytes) r = IsRefusedCrash bytes r
 IsRefusedLoading files (LoadedCore bytes) r = IsRefusedMapped (mapped_crash files bytes) r
 IsRefusedLoading files (MadeRun seed steps) r = r ≡ refusal.Usage
 
--- Why nothing is answered: the words have no meaning, or ask for a made run; a file is missing or too large; the crash is refused; a load failed,
--- after those before it; or memory ran out.
-abbrev pub HasNoTalk : List (List ℕ) → Files → PortMove Shelved → NoTalk → Type 0
-HasNoTalk words files shelf (no_talk.Refused r) =
+-- Why nothing is answered: the words have no meaning, or ask for a made run; a file is missing or
+-- too large; the crash is refused; a load failed, after those before it; or memory ran out.
+abbrev pub HasNoTalk : List (List ℕ) → Files → PortMove Shelved → GdbError → Type 0
+HasNoTalk words files file_store (no_talk.Refused r) =
     IsRefusedLoading files (loading words files) r
-    ⊎ ((kind : FileKind) × (r ≡ refusal.LoadFault kind) × ((ComesTo words files kind × (shelf.after.loads ≡ loads_to kind shelf.before.loads)) ⊎ (ComesToCore words files kind × (shelf.after.loads ≡ core_loads_to kind shelf.before.loads))))
+    ⊎ ((kind : FileKind) × (r ≡ refusal.LoadFault kind) × ((ComesTo words files kind × (file_store.after.loads ≡ loads_to kind file_store.before.loads)) ⊎ (ComesToCore words files kind × (file_store.after.loads ≡ core_loads_to kind file_store.before.loads))))
     ⊎ (status_of r ≡ ends.OutOfMemory)
-HasNoTalk words files shelf (no_talk.LoadFault name) =
+HasNoTalk words files file_store (no_talk.LoadFault name) =
     (core : CoreBytes) × (loading words files ≡ LoadedCore core)
-    × NameStops (mapped_crash files core) (move (core_loads_to file.Trace shelf.before.loads) shelf.after.loads) (string_bytes name)
+    × NameStops (mapped_crash files core) (move (core_loads_to file.Trace file_store.before.loads) file_store.after.loads) (string_bytes name)

@@ -16,46 +16,47 @@ use std::alloc::Global;
 
 /// A run, and the packet from which it was rebuilt.
 #[derive(Drop)]
-pub struct Begun {
+pub struct RunFrom {
     /// the number of the packet
     pub from: u32,
     /// the run
     pub run: Run,
 }
 
-/// The run of a trace from the packet of this number on. From packet 0 on, where that run has more than 65,536 steps, the run from a
-/// later packet that has not, while the run from the packet before that one has: nobody should find it by trial. It is refused where the run
-/// from a packet has more steps and from the next one on there is no start (`NoStart`), and where one of the runs that are tried between two
-/// such packets has another fault.
+/// The run of a trace from the packet of this number on. From packet 0 on, where that run has more
+/// than 65,536 steps, the run from a later packet that has not, while the run from the packet
+/// before that one has: nobody should find it by trial. It is refused where the run from a packet
+/// has more steps and from the next one on there is no start (`NoStart`), and where one of the runs
+/// that are tried between two such packets has another fault.
 pub fn begin_run(
     alloc: Global,
     trace: &[u8],
     dump: &Dump<'_>,
     from: u32,
-) -> Result<Begun, PathFault>
+) -> Result<RunFrom, PathFault>
     requires small { length trace.now < 2 ^ 32 }
     requires noted { HasNotes (is_several trace.now) dump.now }
     ensures begun { (notes : List (List ℕ)) → AreNotesOf dump.now notes → AreBegun (crash_of dump.now notes) trace.now from result }
     ensures fits { IfOk result (λ begun. FitsDump dump.now begun.run) }
 {
     let fault = match trace_run(alloc, trace, dump, from) {
-        Ok(run) => return Ok(Begun { from, run }),
+        Ok(run) => return Ok(RunFrom { from, run }),
         Err(fault) => fault,
     };
     match kind_of(fault) {
-        Kind::TooLong(packet) => {
+        RefusalKind::TooLong(packet) => {
             if from > 0 {
                 return Err(fault);
             }
             later_run(alloc, trace, dump, packet)
         }
-        Kind::NoStart => Err(fault),
-        Kind::Other => Err(fault),
+        RefusalKind::NoStart => Err(fault),
+        RefusalKind::Other => Err(fault),
     }
 }
 
 /// What the search for a later packet tells apart in a refusal.
-enum Kind {
+enum RefusalKind {
     /// too many steps, at this packet
     TooLong(u32),
     /// no start
@@ -65,19 +66,25 @@ enum Kind {
 }
 
 /// The kind of a refusal.
-fn kind_of(fault: PathFault) -> Kind
+fn kind_of(fault: PathFault) -> RefusalKind
     ensures { IsKind fault result }
 {
     match fault {
-        PathFault::TooLong(packet) => Kind::TooLong(packet),
-        PathFault::NoStart(_) => Kind::NoStart,
-        _ => Kind::Other,
+        PathFault::TooLong(packet) => RefusalKind::TooLong(packet),
+        PathFault::NoStart(_) => RefusalKind::NoStart,
+        _ => RefusalKind::Other,
     }
 }
 
-/// The run from a later packet than the first one, from which it is too long, sought by halves: from `low` on it is too long, and from `high` on
-/// there is a run or no start. `packet` is the one at which the run from the first one passes the limit.
-fn later_run(alloc: Global, trace: &[u8], dump: &Dump<'_>, packet: u32) -> Result<Begun, PathFault>
+/// The run from a later packet than the first one, from which it is too long, sought by halves:
+/// from `low` on it is too long, and from `high` on there is a run or no start. `packet` is the one
+/// at which the run from the first one passes the limit.
+fn later_run(
+    alloc: Global,
+    trace: &[u8],
+    dump: &Dump<'_>,
+    packet: u32,
+) -> Result<RunFrom, PathFault>
     requires small { length trace.now < 2 ^ 32 }
     requires noted { HasNotes (is_several trace.now) dump.now }
     requires long { (notes : List (List ℕ)) → AreNotesOf dump.now notes → HasNoRunOf (crash_of dump.now notes) trace.now 0 (fault.TooLong packet) }
@@ -96,20 +103,20 @@ fn later_run(alloc: Global, trace: &[u8], dump: &Dump<'_>, packet: u32) -> Resul
                 found = Some(run);
             }
             Err(fault) => match kind_of(fault) {
-                Kind::TooLong(packet) => {
+                RefusalKind::TooLong(packet) => {
                     low = middle;
                     too_long = packet;
                 }
-                Kind::NoStart => {
+                RefusalKind::NoStart => {
                     high = middle;
                     found = None;
                 }
-                Kind::Other => return Err(fault),
+                RefusalKind::Other => return Err(fault),
             },
         }
     }
     match found {
-        Some(run) => Ok(Begun { from: high, run }),
+        Some(run) => Ok(RunFrom { from: high, run }),
         None => Err(PathFault::TooLong(too_long)),
     }
 }

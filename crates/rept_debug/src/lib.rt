@@ -1,4 +1,5 @@
-//! A crash that is opened for a debugger: the files, the run and the report of a session, and a dialog in its place.
+//! A crash that is opened for a debugger: the files, the run and the report of a session, and a
+//! dialog in its place.
 #![tactic(auto)]
 
 mod begin;
@@ -10,8 +11,8 @@ mod process;
 mod talk;
 mod telling;
 
-pub use begin::{Begun, begin_run};
+pub use begin::{RunFrom, begin_run};
 pub use debugging::debug;
-pub use no_talk::NoTalk;
+pub use no_talk::GdbError;
 pub use process::{answer, run};
-pub use talk::Talk;
+pub use talk::GdbSession;

@@ -11,43 +11,44 @@ ghost use Rattle.rept_opening.specs.Loading.{core_bytes, parts_bytes};
 ghost use Rattle.rept_opening.specs.Mapped.{mapped_crash};
 ghost use Rattle.rept_debug.specs.Debugged.{IsHeld, IsHeldMapped, IsRefusedCrash, IsUnheld, Notices, streams};
 
-use crate::no_talk::{NoTalk, load_fault};
-use crate::talk::{Talk, debug_trace};
+use crate::no_talk::{GdbError, load_fault};
+use crate::talk::{GdbSession, debug_trace};
 use rept_dump::Dump;
 use rept_elf::Image;
 use rept_maps::{Images, Maps};
 use rept_opening::{CoreFiles, ListStop, Refusal, images_in, load_listed};
-use rept_ports::{Shelf, Sink, Source};
+use rept_ports::{FileStore, Sink, Source};
 use rept_runs::is_several;
 use std::alloc::Global;
 
-/// Reads the core file and its list of mapped files, loads those, and answers a debugger over the report of the crash.
-pub fn debug_mapped<H: Shelf, S: Source, K: Sink, E: Sink>(
+/// Reads the core file and its list of mapped files, loads those, and answers a debugger over the
+/// report of the crash.
+pub fn debug_mapped<H: FileStore, S: Source, K: Sink, E: Sink>(
     alloc: Global,
-    shelf: &mut H,
+    file_store: &mut H,
     files: &CoreFiles,
     input: &mut S,
     out: &mut K,
     errors: &mut E,
-) -> Result<Talk, NoTalk>
+) -> Result<GdbSession, GdbError>
     requires { length files.now.trace.items < 2 ^ 32 }
-    ensures held { IfOk result (λ talk. IfSome (H.port shelf.old).files (λ told. IsHeldMapped (mapped_crash told (core_bytes files.now.core.items files.now.trace.items files.now.manner)) (streams (move (S.port input.old) (S.port input.new)) (move (K.port out.old) (K.port out.new)) (move (E.port errors.old) (E.port errors.new))) talk)) }
-    ensures unheld { IfErr result (λ why. IfSome (H.port shelf.old).files (λ told. IsUnheld (mapped_crash told (core_bytes files.now.core.items files.now.trace.items files.now.manner)) (move (H.port shelf.old).loads (H.port shelf.new).loads) why)) }
+    ensures held { IfOk result (λ talk. IfSome (H.port file_store.old).files (λ told. IsHeldMapped (mapped_crash told (core_bytes files.now.core.items files.now.trace.items files.now.manner)) (streams (move (S.port input.old) (S.port input.new)) (move (K.port out.old) (K.port out.new)) (move (E.port errors.old) (E.port errors.new))) talk)) }
+    ensures unheld { IfErr result (λ why. IfSome (H.port file_store.old).files (λ told. IsUnheld (mapped_crash told (core_bytes files.now.core.items files.now.trace.items files.now.manner)) (move (H.port file_store.old).loads (H.port file_store.new).loads) why)) }
     ensures unread { IfErr result (λ _. (input.new ≡ input.old) × (out.new ≡ out.old)) }
     ensures noticed { IfErr result (λ _. Notices (move (E.port errors.old) (E.port errors.new))) }
-    ensures files { (H.port shelf.new).files ≡ (H.port shelf.old).files }
-    ensures later { (H.port shelf.old).faults ≤ (H.port shelf.new).faults }
-    ensures once { IfSome (H.port shelf.old).files (λ _. (H.port shelf.new).faults ≤ (H.port shelf.old).faults + 1) }
-    ensures calm { OnOk result (IfSome (H.port shelf.old).files (λ _. (H.port shelf.new).faults ≡ (H.port shelf.old).faults)) }
+    ensures files { (H.port file_store.new).files ≡ (H.port file_store.old).files }
+    ensures later { (H.port file_store.old).faults ≤ (H.port file_store.new).faults }
+    ensures once { IfSome (H.port file_store.old).files (λ _. (H.port file_store.new).faults ≤ (H.port file_store.old).faults + 1) }
+    ensures calm { OnOk result (IfSome (H.port file_store.old).files (λ _. (H.port file_store.new).faults ≡ (H.port file_store.old).faults)) }
 {
-    let listed = match load_listed(alloc, shelf, files.core.as_slice()) {
+    let listed = match load_listed(alloc, file_store, files.core.as_slice()) {
         Ok(listed) => listed,
-        Err(ListStop::Refused(refusal)) => return Err(NoTalk::Refused(refusal)),
+        Err(ListStop::Refused(refusal)) => return Err(GdbError::Refused(refusal)),
         Err(ListStop::LoadFault(name)) => return Err(load_fault(alloc, name)),
     };
     let images = match images_in(alloc, &listed) {
         Ok(images) => images,
-        Err(_) => return Err(NoTalk::Refused(Refusal::OutOfMemory)),
+        Err(_) => return Err(GdbError::Refused(Refusal::OutOfMemory)),
     };
     match debug_images(
         alloc,
@@ -60,11 +61,12 @@ pub fn debug_mapped<H: Shelf, S: Source, K: Sink, E: Sink>(
         errors,
     ) {
         Ok(talk) => Ok(talk),
-        Err(refusal) => Err(NoTalk::Refused(refusal)),
+        Err(refusal) => Err(GdbError::Refused(refusal)),
     }
 }
 
-/// The same of the images of the list's entries, by place.
+/// Answers a debugger over the report of a crash of the images of the list's entries, in their
+/// order.
 fn debug_images<S: Source, K: Sink, E: Sink>(
     alloc: Global,
     maps: Maps<'_>,
@@ -74,7 +76,7 @@ fn debug_images<S: Source, K: Sink, E: Sink>(
     input: &mut S,
     out: &mut K,
     errors: &mut E,
-) -> Result<Talk, Refusal>
+) -> Result<GdbSession, Refusal>
     requires short { length files.now.trace.items < 2 ^ 32 }
     requires accepted { core_image_fault (file_of core) ≡ None }
     requires places { length images.now ≡ map_count (desc_of maps) }

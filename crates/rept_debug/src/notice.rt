@@ -19,7 +19,8 @@ fn line(alloc: Global, from: u32) -> Result<Text, OutOfMemory>
     Ok(text)
 }
 
-/// Writes that line. Where it can't be written, nothing is made of that. The only refusal is out of memory, and nothing is written then.
+/// Writes that line. Where it can't be written, nothing is made of that. The only refusal is out of
+/// memory, and nothing is written then.
 fn notice<E: Sink>(alloc: Global, errors: &mut E, from: u32) -> Result<(), OutOfMemory>
     ensures written { OnOk result (IsWritten from (move (E.port errors.old) (E.port errors.new))) }
     ensures unwritten { OnErr result (errors.new ≡ errors.old) }
@@ -29,7 +30,7 @@ fn notice<E: Sink>(alloc: Global, errors: &mut E, from: u32) -> Result<(), OutOf
     Ok(())
 }
 
-/// The same, unless the run begins at the packet that was asked for.
+/// Writes the line that names the packet at which the run begins, unless it was asked for.
 pub fn noticed<E: Sink>(
     alloc: Global,
     errors: &mut E,

@@ -10,9 +10,9 @@ ghost use Rattle.rept_debug.specs.Debugged.{HoldsDialog, IsHeldTrace, IsRefusedT
 
 use crate::begin::begin_run;
 use crate::notice::noticed;
-use rept_dialog::{Conversed, converse};
+use rept_dialog::{SessionEnd, converse};
 use rept_dump::Dump;
-use rept_opening::{Asking, Circumstances, Manner, Refusal, open_report};
+use rept_opening::{Asking, Circumstances, OpenOptions, Refusal, open_report};
 use rept_ports::{Sink, Source};
 use rept_session::Findings;
 use rept_stub::Setting;
@@ -20,23 +20,24 @@ use std::alloc::Global;
 
 /// A dialog that was held.
 #[derive(Clone, Copy)]
-pub struct Talk {
+pub struct GdbSession {
     /// the number of the packet from which the run was rebuilt
     pub from: u32,
     /// how it ended
-    pub end: Conversed,
+    pub end: SessionEnd,
 }
 
-/// Rebuilds the run of a trace over the dump in which it ends, and answers a debugger over its report. A trace of several streams wants the registers of each thread.
+/// Rebuilds the run of a trace over the dump in which it ends, and answers a debugger over its
+/// report. A trace of several streams wants the registers of each thread.
 pub fn debug_trace<S: Source, K: Sink, E: Sink>(
     alloc: Global,
     trace: &[u8],
     dump: &Dump<'_>,
-    manner: Manner,
+    manner: OpenOptions,
     input: &mut S,
     out: &mut K,
     errors: &mut E,
-) -> Result<Talk, Refusal>
+) -> Result<GdbSession, Refusal>
     requires small { length trace.now < 2 ^ 32 }
     requires noted { HasNotes (is_several trace.now) dump.now }
     ensures held { (notes : List (List ℕ)) → AreNotesOf dump.now notes → IfOk result (IsHeldTrace (crash_trace (crash_of dump.now notes) trace.now manner) (streams (move (S.port input.old) (S.port input.new)) (move (K.port out.old) (K.port out.new)) (move (E.port errors.old) (E.port errors.new)))) }
@@ -53,7 +54,7 @@ pub fn debug_trace<S: Source, K: Sink, E: Sink>(
         Err(_) => return Err(Refusal::OutOfMemory),
     }
     match open_report::<HeldDialog, S, K>(alloc, manner.domain, &begun.run, dump, input, out) {
-        Ok(held) => Ok(Talk {
+        Ok(held) => Ok(GdbSession {
             from: begun.from,
             end: held.end,
         }),
@@ -64,7 +65,7 @@ pub fn debug_trace<S: Source, K: Sink, E: Sink>(
 /// The dialog of a debugger over the report of a crash, and how it ended.
 #[derive(Clone, Copy)]
 struct HeldDialog {
-    end: Conversed,
+    end: SessionEnd,
 }
 
 impl Asking for HeldDialog {

@@ -5,8 +5,8 @@ use Rattle.rept_report.specs.Why.{Because}
 use Rattle.rept_remote.specs.Frames.{Arrived}
 use Rattle.rept_remote.specs.Frames.Arrived.{packet, broken, large, again, interrupt}
 use Rattle.rept_request.specs.Requests.{request_of}
-use Rattle.rept_request.specs.declared.request.Request.{Request}
-use Rattle.rept_request.specs.declared.request.Request.TheVariants as request
+use Rattle.rept_request.specs.declared.request.GdbRequest.{GdbRequest}
+use Rattle.rept_request.specs.declared.request.GdbRequest.TheVariants as request
 use Rattle.rept_session.specs.Session.{said_at}
 use Rattle.rept_session.specs.SessionLaws.{reply_same}
 use Rattle.rept_session.specs.Shown.{SameReasons, Shown, session_told}
@@ -15,14 +15,14 @@ use Rattle.rept_stub.specs.Answers.{IsAnswerTo, IsChanged, IsLineAnswered, IsMon
 use Rattle.rept_stub.specs.Monitoring.{asked_of}
 use Rattle.rept_stub.specs.Spots.{Spots}
 use Rattle.rept_stub.specs.Standing.{here}
-use Rattle.rept_stub.specs.declared.monitoring.Asked.{Asked}
-use Rattle.rept_stub.specs.declared.monitoring.Asked.TheVariants as asked
+use Rattle.rept_stub.specs.declared.monitoring.MonitorRequest.{MonitorRequest}
+use Rattle.rept_stub.specs.declared.monitoring.MonitorRequest.TheVariants as asked
 use Rattle.rept_stub.specs.declared.answers.Stand.{Stand}
 use Rattle.rept_dialog.specs.Dialog.{IsTurn}
 use Rattle.rept_dialog.specs.declared.turn.Dialog.{Dialog}
 
 module _ (s : Shown) (skipped : ℕ) (old new : Fact → Because → Type 0) (same : SameReasons old new) where
-  line_same : (signal : ℕ) (c : ThreadPoint) (line said : List ℕ) (a : Asked) → IsLineAnswered (session_told s skipped new) signal c line a said → IsLineAnswered (session_told s skipped old) signal c line a said
+  line_same : (signal : ℕ) (c : ThreadPoint) (line said : List ℕ) (a : MonitorRequest) → IsLineAnswered (session_told s skipped new) signal c line a said → IsLineAnswered (session_told s skipped old) signal c line a said
   line_same signal c line said asked.Signal h = h
   line_same signal c line said asked.Help h = h
   line_same signal c line said (asked.Writers address) h = h
@@ -32,15 +32,15 @@ module _ (s : Shown) (skipped : ℕ) (old new : Fact → Because → Type 0) (sa
   monitored signal c None text h = h
   monitored signal c (Some line) text h = (h.0, line_same signal c line h.0 (asked_of line) h.1, h.2)
 
-  still_same : (still : Still) (r : Request) (text : List ℕ) → IsStillAnswer (session_told s skipped new) still r text → IsStillAnswer (session_told s skipped old) still r text
+  still_same : (still : Still) (r : GdbRequest) (text : List ℕ) → IsStillAnswer (session_told s skipped new) still r text → IsStillAnswer (session_told s skipped old) still r text
   still_same still request.Monitor text h = monitored still.signal (here still.stand) _ text h
   still_same still r text h = h
 
-  changed_same : (still : Still) (r : Request) (spots : Option Spots) (text : List ℕ) → IsChanged (session_told s skipped new) still r spots text → IsChanged (session_told s skipped old) still r spots text
+  changed_same : (still : Still) (r : GdbRequest) (spots : Option Spots) (text : List ℕ) → IsChanged (session_told s skipped new) still r spots text → IsChanged (session_told s skipped old) still r spots text
   changed_same still r (Some spots) text h = h
   changed_same still r None text h = still_same still r text h
 
-  answer_same : (still : Still) (r : Request) (text : List ℕ) → IsAnswerTo (session_told s skipped new) still r text → IsAnswerTo (session_told s skipped old) still r text
+  answer_same : (still : Still) (r : GdbRequest) (text : List ℕ) → IsAnswerTo (session_told s skipped new) still r text → IsAnswerTo (session_told s skipped old) still r text
   answer_same still (request.Move way name) text h = h
   answer_same still r text h = changed_same still r (spots_after still.stand.spots r) text h
 

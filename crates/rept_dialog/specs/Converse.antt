@@ -9,8 +9,8 @@ use Rattle.rept_remote.specs.declared.arrival.Ending.{Ending}
 use Rattle.rept_session.specs.Shown.{SessionTold}
 use Rattle.rept_dialog.specs.Dialog.{IsTurn, Talks, start_at}
 use Rattle.rept_dialog.specs.declared.turn.Dialog.{Dialog}
-use Rattle.rept_dialog.specs.declared.conversation.Conversed.{Conversed}
-use Rattle.rept_dialog.specs.declared.conversation.Conversed.TheVariants as conversed
+use Rattle.rept_dialog.specs.declared.conversation.SessionEnd.{SessionEnd}
+use Rattle.rept_dialog.specs.declared.conversation.SessionEnd.TheVariants as conversed
 
 -- who talks: what is told, the signal that ended the process, and the dialog as it began
 pub record Parties : Type 1 where
@@ -22,8 +22,8 @@ pub record Parties : Type 1 where
 abbrev pub parties_over : SessionTold → ℕ → Parties
 parties_over t signal = record { told = t; signal = signal; start = start_at t.shown }
 
--- the bytes that were taken of an input and those that were written to an output, neither of which failed, are those of the arrivals so far and of
--- what was written at each
+-- the bytes that were taken of an input and those that were written to an output, neither of which
+-- failed, are those of the arrivals so far and of what was written at each
 pub record Progress (parties : Parties) (source sink : PortMove Port) (read : List ℕ) (now : Dialog) : Type 0 where
   pub written : List ℕ
   pub talks : Talks parties.told parties.signal parties.start read written now
@@ -76,7 +76,7 @@ pub record Broke (parties : Parties) (source sink : PortMove Port) : Type 0 wher
 abbrev pub StoppedDialog : Parties → PortMove Port → PortMove Port → Type 0
 StoppedDialog parties source sink = Arrival parties source sink ⊎ ((source.after ≡ source.before) × (sink.after ≡ sink.before))
 
-abbrev pub Converses : Parties → PortMove Port → PortMove Port → Conversed → Type 0
+abbrev pub Converses : Parties → PortMove Port → PortMove Port → SessionEnd → Type 0
 Converses parties source sink conversed.Left = Left parties source sink
 Converses parties source sink (conversed.Ended why) = TalkEnded parties source sink why
 Converses parties source sink conversed.OutputFault = Broke parties source sink

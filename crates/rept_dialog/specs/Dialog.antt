@@ -1,34 +1,35 @@
--- A dialog with a debugger: each arrival is answered before the next one is read (GDB manual, appendix Remote Serial Protocol, sections Overview
--- and Packet Acknowledgment).
+-- A dialog with a debugger: each arrival is answered before the next one is read (GDB manual,
+-- appendix Remote Serial Protocol, sections Overview and Packet Acknowledgment).
 use Rattle.std.specs.Prelude.{◌≡◌, ℕ, List, [], ◌++◌, Bool, true, false, codes, if◌then◌else◌}
 use Rattle.rept_remote.specs.Escapes.{packet_of}
 use Rattle.rept_remote.specs.Frames.{Arrived, Arrives}
 use Rattle.rept_remote.specs.Frames.Arrived.{packet, broken, large, again, interrupt}
 use Rattle.rept_request.specs.Requests.{request_of}
-use Rattle.rept_request.specs.declared.request.Request.{Request}
-use Rattle.rept_request.specs.declared.request.Request.TheVariants as request
+use Rattle.rept_request.specs.declared.request.GdbRequest.{GdbRequest}
+use Rattle.rept_request.specs.declared.request.GdbRequest.TheVariants as request
 use Rattle.rept_session.specs.Shown.{SessionTold, Shown}
 use Rattle.rept_stub.specs.Answers.{IsStubAnswer, stand_after}
 use Rattle.rept_stub.specs.Replies.{error}
 use Rattle.rept_stub.specs.Standing.{start_of}
 use Rattle.rept_dialog.specs.declared.turn.Dialog.{Dialog}
 
--- a dialog as it begins, with each thread's cursor at its last point, thread 0 selected, and no breakpoints
+-- a dialog as it begins, with each thread's cursor at its last point, thread 0 selected, and no
+-- breakpoints
 abbrev pub start_at : Shown → Dialog
 start_at s = record { stand = start_of s (record { breaks = []; regions = [] }); acknowledges = true; last = []; is_over = false }
 
 -- packets are acknowledged until the debugger asks for none
-abbrev pub acknowledges_after : Bool → Request → Bool
+abbrev pub acknowledges_after : Bool → GdbRequest → Bool
 acknowledges_after before request.NoAcknowledgments = false
 acknowledges_after before _ = before
 
-abbrev pub is_last : Request → Bool
+abbrev pub is_last : GdbRequest → Bool
 is_last request.Detach = true
 is_last request.Kill = true
 is_last _ = false
 
 -- what is written in reply to a packet; nothing to `k`
-abbrev pub written_to : Request → List ℕ → List ℕ
+abbrev pub written_to : GdbRequest → List ℕ → List ℕ
 written_to request.Kill reply = []
 written_to _ reply = packet_of reply
 
@@ -44,8 +45,9 @@ after_packet t d bytes reply = record {
   is_over = is_last (request_of bytes);
 }
 
--- What is written at an arrival, and the dialog after it. A packet is acknowledged and, but for `k`, answered; one that is broken is refused; the last reply is
--- written again where it is wished for.
+-- What is written at an arrival, and the dialog after it. A packet is acknowledged and, but for
+-- `k`, answered; one that is broken is refused; the last reply is written again where it is wished
+-- for.
 abbrev pub IsTurn : SessionTold → ℕ → Dialog → Arrived → List ℕ → Dialog → Type 0
 IsTurn t signal d (packet bytes) text new = (reply : List ℕ) × IsStubAnswer t signal d.stand bytes reply × (text ≡ sign d (codes "+") ++ written_to (request_of bytes) reply) × (new ≡ after_packet t d bytes reply)
 IsTurn t signal d broken text new = (text ≡ sign d (codes "-")) × (new ≡ d)

@@ -9,14 +9,14 @@ ghost use Rattle.rept_dialog.specs.Dialog.{start_at};
 
 use crate::turn::{Dialog, begin, take_turn};
 use rept_ports::{Sink, Source, write_all};
-use rept_remote::{Ending, Packets};
+use rept_remote::{Ending, GdbPackets};
 use rept_session::Findings;
 use rept_stub::Setting;
 use std::alloc::Global;
 
 /// How a dialog ended.
 #[derive(Clone, Copy, Debug, PartialEq, Eq)]
-pub enum Conversed {
+pub enum SessionEnd {
     /// The debugger left.
     Left,
     /// Nothing arrives any more.
@@ -27,26 +27,26 @@ pub enum Conversed {
     OutOfMemory,
 }
 
-/// Answers what arrives, each before the next one is read, with each thread's cursor at its last point first. In each case the findings stay as they
-/// were.
+/// Answers what arrives, each before the next one is read, with each thread's cursor at its last
+/// point first. In each case the findings stay as they were.
 pub fn converse<F: Findings, S: Source, K: Sink>(
     alloc: Global,
     findings: &mut F,
     setting: Setting,
     input: &mut S,
     out: &mut K,
-) -> Conversed
+) -> SessionEnd
     ensures talk { Converses (parties_over (session_told (F.shown findings.old) setting.skipped (F.reasons findings.old)) setting.signal) (move (S.port input.old) (S.port input.new)) (move (K.port out.old) (K.port out.new)) result }
     ensures same { F.shown findings.new ≡ F.shown findings.old }
     ensures same_reasons { SameReasons (F.reasons findings.old) (F.reasons findings.new) }
 {
     match begin(alloc, findings) {
         Ok(dialog) => converse_on(alloc, findings, setting, dialog, input, out),
-        Err(_) => Conversed::OutOfMemory,
+        Err(_) => SessionEnd::OutOfMemory,
     }
 }
 
-/// The same of a dialog that begins.
+/// Answers what arrives in a dialog that begins.
 fn converse_on<F: Findings, S: Source, K: Sink>(
     alloc: Global,
     findings: &mut F,
@@ -54,7 +54,7 @@ fn converse_on<F: Findings, S: Source, K: Sink>(
     start: Dialog,
     input: &mut S,
     out: &mut K,
-) -> Conversed
+) -> SessionEnd
     requires start { start ≡ start_at (F.shown findings.old) }
     requires within { IsStandLawful (F.shown findings.old) start.stand }
     ensures talk { Converses (parties_over (session_told (F.shown findings.old) setting.skipped (F.reasons findings.old)) setting.signal) (move (S.port input.old) (S.port input.new)) (move (K.port out.old) (K.port out.new)) result }
@@ -62,11 +62,11 @@ fn converse_on<F: Findings, S: Source, K: Sink>(
     ensures same_reasons { SameReasons (F.reasons findings.old) (F.reasons findings.new) }
 {
     let mut dialog = start;
-    let mut packets = Packets::new();
+    let mut packets = GdbPackets::new();
     'dialog: loop {
         let arrival = match packets.next(input) {
             Ok(arrival) => arrival,
-            Err(why) => return Conversed::Ended(why),
+            Err(why) => return SessionEnd::Ended(why),
         };
         let text = match take_turn(
             alloc,
@@ -77,14 +77,14 @@ fn converse_on<F: Findings, S: Source, K: Sink>(
             packets.carried(),
         ) {
             Ok(text) => text,
-            Err(_) => return Conversed::OutOfMemory,
+            Err(_) => return SessionEnd::OutOfMemory,
         };
         match write_all(out, text.bytes()) {
             Ok(()) => {}
-            Err(_) => return Conversed::OutputFault,
+            Err(_) => return SessionEnd::OutputFault,
         }
         if dialog.is_over {
-            return Conversed::Left;
+            return SessionEnd::Left;
         }
     }
 }

@@ -4,5 +4,5 @@
 pub mod conversation;
 pub mod turn;
 
-pub use conversation::{Conversed, converse};
+pub use conversation::{SessionEnd, converse};
 pub use turn::{Dialog, begin, take_turn};

@@ -9,7 +9,7 @@ ghost use Rattle.rept_stub.specs.Standing.{IsStandLawful};
 ghost use Rattle.rept_dialog.specs.Dialog.{IsTurn, acknowledges_after, is_last, sign, start_at, written_to};
 
 use rept_remote::{Arrival, push_packet};
-use rept_request::{Request, parse};
+use rept_request::{GdbRequest, parse};
 use rept_session::Findings;
 use rept_stub::{Setting, Stand, answer_packet, start};
 use rept_word::{OutOfMemory, Text};
@@ -28,7 +28,8 @@ pub struct Dialog {
     pub is_over: bool,
 }
 
-/// A dialog that begins, with each thread's cursor at its last point and without breakpoints. The only refusal is out of memory.
+/// A dialog that begins, with each thread's cursor at its last point and without breakpoints. The
+/// only refusal is out of memory.
 pub fn begin<F: Findings>(alloc: Global, findings: &F) -> Result<Dialog, OutOfMemory>
     ensures dialog { IfOk result (λ dialog. dialog ≡ start_at (F.shown findings.now)) }
     ensures within { IfOk result (λ dialog. IsStandLawful (F.shown findings.now) dialog.stand) }
@@ -42,7 +43,8 @@ pub fn begin<F: Findings>(alloc: Global, findings: &F) -> Result<Dialog, OutOfMe
     })
 }
 
-/// What is written at an arrival. The only refusal is out of memory. In each case the findings stay as they were.
+/// What is written at an arrival. The only refusal is out of memory. In each case the findings stay
+/// as they were.
 pub fn take_turn<F: Findings>(
     alloc: Global,
     findings: &mut F,
@@ -91,11 +93,11 @@ fn answer<F: Findings>(
 }
 
 /// What is written in reply to a packet; nothing to `k`.
-fn written_to(alloc: Global, request: Request, reply: &[u8]) -> Result<Text, OutOfMemory>
+fn written_to(alloc: Global, request: GdbRequest, reply: &[u8]) -> Result<Text, OutOfMemory>
     ensures { IfOk result (λ text. text ≡ written_to request reply.now) }
 {
     match request {
-        Request::Kill => Ok(Text::new(alloc)),
+        GdbRequest::Kill => Ok(Text::new(alloc)),
         _ => packed(alloc, reply),
     }
 }
@@ -149,17 +151,17 @@ fn replied(alloc: Global, acknowledges: bool, written: &[u8]) -> Result<Text, Ou
     Ok(text)
 }
 
-fn acknowledges_after(acknowledges: bool, request: Request) -> bool
+fn acknowledges_after(acknowledges: bool, request: GdbRequest) -> bool
     ensures { result ≡ acknowledges_after acknowledges request }
 {
     match request {
-        Request::NoAcknowledgments => false,
+        GdbRequest::NoAcknowledgments => false,
         _ => acknowledges,
     }
 }
 
-fn is_last(request: Request) -> bool
+fn is_last(request: GdbRequest) -> bool
     ensures { result ≡ is_last request }
 {
-    matches!(request, Request::Detach | Request::Kill)
+    matches!(request, GdbRequest::Detach | GdbRequest::Kill)
 }

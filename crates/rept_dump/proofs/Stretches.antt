@@ -8,7 +8,8 @@ use Rattle.rept_elf.specs.Segments.{ElfSegment}
 use Rattle.rept_dump.specs.Stretch.{Sought, fits, found_at}
 use Rattle.rept_dump.proofs.SearchLemmas.{find-from}
 
--- at the addresses of the bounds, which have this one among them, the segments from an index on decide
+-- at the addresses of the bounds, which have this one among them, the segments from an index on
+-- decide
 pub record Narrowed (sought : Sought) (a i from to : ℕ) : Type 0 where
   pub first : from ≤ a
   pub last : a < to

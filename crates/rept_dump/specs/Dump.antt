@@ -1,4 +1,5 @@
--- What a dump borrows: the files of its program, the core file's segments, and the descriptor of the register note.
+-- What a dump borrows: the files of its program, the core file's segments, and the descriptor of
+-- the register note.
 use Rattle.std.specs.Prelude.{◌≡◌, ℕ, List, [], ◌∷◌, length, slice_get, Some, Result, Ok, Err, IfOk, IfErr}
 use Rattle.rept_elf.specs.Segments.{ElfSegment}
 use Rattle.rept_elf.specs.Image.{file_of, segments_of}
@@ -38,7 +39,8 @@ abbrev pub said_of : Result Dump CoreFault → Result (List ℕ) CoreFault
 said_of (Ok dump) = Ok (registers_of dump)
 said_of (Err fault) = Err fault
 
--- the dump, or the fault, is what the notes of a core file of so many bytes say, and they say nothing else
+-- the dump, or the fault, is what the notes of a core file of so many bytes say, and they say
+-- nothing else
 pub record AreRead (size : ℕ) (ss : List ElfSegment) (result : Result Dump CoreFault) : Type 0 where
   pub said : SaysRegisters size ss (said_of result)
   pub only : (said : Result (List ℕ) CoreFault) → SaysRegisters size ss said → said ≡ said_of result

@@ -8,7 +8,8 @@ use Rattle.rept_elf.specs.Symbols.{FunctionSymbol, symbol_at}
 use Rattle.rept_dump.specs.declared.search.Allowed.{Allowed}
 use Rattle.rept_dump.specs.declared.search.Allowed.TheVariants as allowed
 
--- the segment is part of memory, and the file has the bytes of these addresses, count bytes from a on
+-- the segment is part of memory, and the file has the bytes of these addresses, count bytes from a
+-- on
 abbrev pub holds : ℕ → ℕ → ElfSegment → Bool
 holds a count s = is_load s && (nat_le s.vaddr a && nat_le (a + count) (s.vaddr + length s.body))
 
@@ -16,9 +17,10 @@ holds a count s = is_load s && (nat_le s.vaddr a && nat_le (a + count) (s.vaddr 
 abbrev pub bytes_from : ℕ → ElfSegment → List ℕ
 bytes_from a s = drop (a - s.vaddr) s.body
 
--- What the files of a program hold of an address: a word and a half of code, the low byte first, a byte that the program could not
--- write, and the function that has the address; and where the image of the program ends. Each is known or not, for itself. Where the
--- files are those that the process had mapped, the core file lists each mapping with its permissions.
+-- What the files of a program hold of an address: a word and a half of code, the low byte first, a
+-- byte that the program could not write, and the function that has the address; and where the image
+-- of the program ends. Each is known or not, for itself. Where the files are those that the process
+-- had mapped, the core file lists each mapping with its permissions.
 pub record Contents : Type 0 where
   pub word : ℕ → Option ℕ
   pub half : ℕ → Option ℕ
@@ -51,17 +53,19 @@ of_executable file = held_by (segments file) (symbol_at file)
 abbrev pub saved_at : List ElfSegment → ℕ → Option ℕ
 saved_at core a = option_map (λ s. slice_index (bytes_from a s) 0) (find (holds a 1) core)
 
--- the segment is part of memory that the program could write, and has the address there, whatever was saved of it
+-- the segment is part of memory that the program could write, and has the address there, whatever
+-- was saved of it
 abbrev pub may_be_written : ℕ → ElfSegment → Bool
 may_be_written a s = is_load s && (is_writable s && (nat_le s.vaddr a && nat_lt a (s.vaddr + s.memsz)))
 
--- The byte at an address that the program could not write: that of its files. Of mapped files there is none where the core file has the
--- address in a segment that could be written, as a page that holds both text and data.
+-- The byte at an address that the program could not write: that of its files. Of mapped files there
+-- is none where the core file has the address in a segment that could be written, as a page that
+-- holds both text and data.
 abbrev pub kept_byte : Contents → List ElfSegment → ℕ → Option ℕ
 kept_byte program core a = if program.mapped && list_any (may_be_written a) core then None else program.kept a
 
--- the byte that memory had at an address when it crashed: the one that the core file saved, else the one that the program could not
--- write. Else it is not known.
+-- the byte that memory had at an address when it crashed: the one that the core file saved, else
+-- the one that the program could not write. Else it is not known.
 abbrev pub crash_byte : Contents → List ElfSegment → ℕ → Option ℕ
 crash_byte program core a = option_or (saved_at core a) (kept_byte program core a)
 

@@ -1,5 +1,6 @@
--- The note in which Linux keeps the registers of a thread: `NT_PRSTATUS`, whose descriptor is `struct elf_prstatus`
--- (include/linux/elfcore.h, and arch/riscv/include/uapi/asm/ptrace.h for the registers), with words of 32 bits.
+-- The note in which Linux keeps the registers of a thread: `NT_PRSTATUS`, whose descriptor is
+-- `struct elf_prstatus` (include/linux/elfcore.h, and arch/riscv/include/uapi/asm/ptrace.h for the
+-- registers), with words of 32 bits.
 use Rattle.std.specs.Prelude.{◌≡◌, ℕ, ◌+◌, ◌*◌, ◌⊎◌, List, [], ◌∷◌, length, Bool, ◌==◌, nat_lt, Option, Some, None, Result, Ok, Err, map, if◌then◌else◌}
 use Rattle.std.specs.List.{filter, list_any}
 use Rattle.rept_elf.specs.Header.{word_at}
@@ -42,8 +43,8 @@ abbrev pub first_short : List Note → Option ℕ
 first_short [] = None
 first_short (note ∷ notes) = first_of (short_size note.desc) (first_short notes)
 
--- The `pr_pid` of a descriptor: the thread's own number (its TID), which is that of the process for its first thread alone.
--- Elsewhere "the process" of a thread or a note is this number.
+-- The `pr_pid` of a descriptor: the thread's own number (its TID), which is that of the process for
+-- its first thread alone. Elsewhere "the process" of a thread or a note is this number.
 abbrev pub pid_of : List ℕ → ℕ
 pid_of desc = word_at desc 24
 

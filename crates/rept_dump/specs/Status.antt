@@ -1,5 +1,6 @@
--- The registers as a descriptor holds them (`struct elf_prstatus` with words of 32 bits): the signal at 12, at 24 `pr_pid`,
--- which is the thread's own number, and from 72 on the program counter and x1 to x31.
+-- The registers as a descriptor holds them (`struct elf_prstatus` with words of 32 bits): the
+-- signal at 12, at 24 `pr_pid`, which is the thread's own number, and from 72 on the program
+-- counter and x1 to x31.
 use Rattle.std.specs.Prelude.{◌≡◌, ℕ, ◌<◌, List, slice_index}
 use Rattle.rept_elf.specs.Header.{half_at}
 use Rattle.rept_dump.specs.Registers.{pid_of, saved_pc, saved_register}

@@ -1,4 +1,5 @@
--- Neighbouring addresses at which a search among segments answers alike, so that it need not be made again. This project's own.
+-- Neighbouring addresses at which a search among segments answers alike, so that it need not be
+-- made again. This project's own.
 use Rattle.std.specs.Prelude.{◌≡◌, ◌≤◌, ◌<◌, ℕ, List, Option, Bool, ◌&&◌}
 use Rattle.std.specs.List.{find}
 use Rattle.std.specs.Option.{option_map}
@@ -7,7 +8,7 @@ use Rattle.rept_elf.specs.Image.{segment_of}
 use Rattle.rept_dump.specs.Memory.{allows, holds}
 use Rattle.rept_dump.specs.declared.search.Allowed.{Allowed}
 use Rattle.rept_dump.specs.declared.search.Allowed.TheVariants.{All, ReadOnly, Executable}
-use Rattle.rept_dump.specs.declared.stretch.Stretch.{Stretch}
+use Rattle.rept_dump.specs.declared.stretch.SegmentStretch.{SegmentStretch}
 
 -- what is looked for: so many bytes in an allowed one of these segments
 pub record Sought : Type 0 where
@@ -23,8 +24,9 @@ fits sought a s = allows sought.allowed s && holds a sought.count s
 abbrev pub found_at : Sought → ℕ → Option ElfSegment
 found_at sought a = find (fits sought a) sought.segments
 
--- at each address of the stretch the answer is the segment that it names, or none where it names none
-abbrev pub AnswersAlike : Sought → Stretch → Type 0
+-- at each address of the stretch the answer is the segment that it names, or none where it names
+-- none
+abbrev pub AnswersAlike : Sought → SegmentStretch → Type 0
 AnswersAlike sought stretch = (a : ℕ) → stretch.from ≤ a → a < stretch.to → found_at sought a ≡ option_map segment_of stretch.segment
 
 -- a word of code

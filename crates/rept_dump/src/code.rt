@@ -9,7 +9,7 @@ ghost use Rattle.rept_dump.specs.Memory.{of_executable, allows, holds, bytes_fro
 ghost use Rattle.rept_dump.specs.Stretch.{AnswersAlike, sought_code, sought_half};
 
 use crate::search::{Allowed, held_bytes};
-use crate::stretch::{NOWHERE, Stretch, stretch_near};
+use crate::stretch::{NOWHERE, SegmentStretch, stretch_near};
 use rept_elf::{Image, Segment, Symbol, half, word};
 use std::alloc::{AllocError, Global};
 
@@ -33,8 +33,8 @@ fn half_in(segment: &Segment<'_>, a: u32) -> Option<u16>
 #[derive(Clone, Copy)]
 pub struct Code<'a> {
     exe: Image<'a>,
-    last: Stretch<'a>,
-    last_half: Stretch<'a>,
+    last: SegmentStretch<'a>,
+    last_half: SegmentStretch<'a>,
     ghost answers: { AnswersAlike (sought_code (segments_of exe)) last },
     ghost half_answers: { AnswersAlike (sought_half (segments_of exe)) last_half },
 }
@@ -61,8 +61,8 @@ impl<'a> Code<'a> {
         }
     }
 
-    /// The word of code at this address: the four bytes in the first `PT_LOAD` segment with `PF_X` whose bytes in the file have all
-    /// four. None exactly where there is none.
+    /// The word of code at this address: the four bytes in the first `PT_LOAD` segment with `PF_X`
+    /// whose bytes in the file have all four. None exactly where there is none.
     pub fn word_at(&self, a: u32) -> Option<u32>
         ensures { result ≡ (code_of self.now).word a }
     {
@@ -72,8 +72,8 @@ impl<'a> Code<'a> {
         }
     }
 
-    /// The half of code at this address: the two bytes in the first `PT_LOAD` segment with `PF_X` whose bytes in the file have
-    /// both. None exactly where there is none.
+    /// The half of code at this address: the two bytes in the first `PT_LOAD` segment with `PF_X`
+    /// whose bytes in the file have both. None exactly where there is none.
     pub fn half_at(&self, a: u32) -> Option<u16>
         ensures { result ≡ (code_of self.now).half a }
     {
@@ -101,7 +101,7 @@ impl<'a> Code<'a> {
         self.exe.symbols(alloc, addresses)
     }
 
-    /// The same code, which finds words near this address without a search among all segments.
+    /// This code, finding words near this address without a search among all segments.
     pub fn near(&self, a: u32) -> Code<'a>
         ensures { file_of result.exe ≡ file_of self.now.exe }
     {
@@ -110,7 +110,7 @@ impl<'a> Code<'a> {
         code
     }
 
-    /// The same for halves.
+    /// This code, finding halves near this address without a search among all segments.
     pub fn near_half(&self, a: u32) -> Code<'a>
         ensures { file_of result.exe ≡ file_of self.now.exe }
     {
@@ -120,15 +120,15 @@ impl<'a> Code<'a> {
     }
 
     /// The stretch of code of an address: the last one where it has the address.
-    fn stretch(&self, a: u32) -> Stretch<'a>
+    fn stretch(&self, a: u32) -> SegmentStretch<'a>
         ensures within { (result.from ≤ a) × (a < result.to) }
         ensures alike { AnswersAlike (sought_code (parts_of self.now)) result }
     {
         stretch_near(self.last, &self.exe, Allowed::Executable, a, 4)
     }
 
-    /// The same for halves.
-    fn half_stretch(&self, a: u32) -> Stretch<'a>
+    /// The stretch of an address of a half: the last one where it has the address.
+    fn half_stretch(&self, a: u32) -> SegmentStretch<'a>
         ensures within { (result.from ≤ a) × (a < result.to) }
         ensures alike { AnswersAlike (sought_half (parts_of self.now)) result }
     {

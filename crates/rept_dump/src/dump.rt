@@ -15,15 +15,15 @@ use crate::files::Files;
 use crate::notes::find_registers;
 use crate::search::{Allowed, may_be_written};
 use crate::status::{Status, read_status};
-use crate::stretch::{NOWHERE, Stretch, stretch_near};
+use crate::stretch::{NOWHERE, SegmentStretch, stretch_near};
 use crate::threads::{find_threads, search_core};
 use rept_elf::{Image, Symbol};
 use rept_mapped::Mapped;
 use rept_maps::{Images, Maps};
 use std::alloc::{AllocError, Global};
 
-/// An executable and the core file of its crash, whose notes are whole and have the registers of one thread, or of several. Threads are
-/// numbered from 0, in the order of their notes.
+/// An executable and the core file of its crash, whose notes are whole and have the registers of
+/// one thread, or of several. Threads are numbered from 0, in the order of their notes.
 #[derive(Clone, Copy)]
 pub struct Dump<'a> {
     files: Files<'a>,
@@ -31,7 +31,7 @@ pub struct Dump<'a> {
     registers: &'a [u8],
     threads: u32,
     // Where saved bytes were looked for last.
-    saved: Stretch<'a>,
+    saved: SegmentStretch<'a>,
     ghost has_registers: { status_size ≤ length registers.now },
     ghost saved_answers: { AnswersAlike (sought_saved (segments_of core)) saved },
     ghost are_threads: { ∥ AreThreadNotes (length (file_of core)) (segments_of core) registers.now threads ∥₁ },
@@ -61,8 +61,9 @@ impl<'a> Dump<'a> {
         Dump::join(Files::Executable(Executable::new(exe)), core)
     }
 
-    /// The two files together, with one register note of each thread. A fault comes exactly where the core file's notes have it first: a note that isn't whole, no register note, a
-    /// short one, more than 1,024, and two of one process. No memory is taken.
+    /// The two files together, with one register note of each thread. A fault comes exactly where
+    /// the core file's notes have it first: a note that isn't whole, no register note, a short one,
+    /// more than 1,024, and two of one process. No memory is taken.
     pub fn read_many(exe: Image<'a>, core: Image<'a>) -> Result<Dump<'a>, CoreFault>
         ensures ok { IfOk result (λ dump. (descs : List (List ℕ)) × SaysOfAll (length (file_of core.entry)) (segments_of core.entry) (Ok descs) × HasThreads dump descs × (slice_get descs 0 ≡ Some (registers_of dump)) × (threads_of dump ≡ length descs)) }
         ensures err { IfErr result (λ fault. SaysOfAll (length (file_of core.entry)) (segments_of core.entry) (Err fault)) }
@@ -76,7 +77,8 @@ impl<'a> Dump<'a> {
         Dump::join_many(Files::Executable(Executable::new(exe)), core)
     }
 
-    /// Mapped files with the core file that lists them, as `read` and, of `many` threads, `read_many` read the notes.
+    /// Mapped files with the core file that lists them, as `read` and, of `many` threads,
+    /// `read_many` read the notes.
     pub fn mapped(
         maps: Maps<'a>,
         images: &'a Images<'a>,
@@ -146,7 +148,8 @@ impl<'a> Dump<'a> {
         read_status(self.registers)
     }
 
-    /// Those of the thread of this number. The note of any but the first thread is looked for among all notes, at each call.
+    /// Those of the thread of this number. The note of any but the first thread is looked for among
+    /// all notes, at each call.
     pub fn status_of(&self, t: u32) -> Status
         requires { t < threads_of self.now }
         ensures { (descs : List (List ℕ)) → HasThreads self.now descs → (desc : List ℕ) × (slice_get descs t ≡ Some desc) × IsStatus desc result }
@@ -160,10 +163,11 @@ impl<'a> Dump<'a> {
         }
     }
 
-    /// The byte that memory had at this address when the core file was written: from the first `PT_LOAD` segment of the
-    /// core file whose bytes in the file have it, else from the first of the executable without `PF_W` whose bytes in the
-    /// file have it. Mapped files are asked only where no `PT_LOAD` segment of the core file with `PF_W` has the address in
-    /// memory. None exactly where there is neither.
+    /// The byte that memory had at this address when the core file was written: from the first
+    /// `PT_LOAD` segment of the core file whose bytes in the file have it, else from the first of
+    /// the executable without `PF_W` whose bytes in the file have it. Mapped files are asked only
+    /// where no `PT_LOAD` segment of the core file with `PF_W` has the address in memory. None
+    /// exactly where there is neither.
     pub fn byte(&self, a: u32) -> Option<u8>
         ensures { result ≡ crash_byte (contents (exe_of self.now)) (core_of self.now) a }
     {
@@ -183,38 +187,43 @@ impl<'a> Dump<'a> {
         self.files.kept(a)
     }
 
-    /// The word of code at this address: the four bytes in the first `PT_LOAD` segment of the executable with `PF_X` whose
-    /// bytes in the file have all four. None exactly where there is none.
+    /// The word of code at this address: the four bytes in the first `PT_LOAD` segment of the
+    /// executable with `PF_X` whose bytes in the file have all four. None exactly where there is
+    /// none.
     pub fn word_of_code(&self, a: u32) -> Option<u32>
         ensures { result ≡ (contents (exe_of self.now)).word a }
     {
         self.files.word(a)
     }
 
-    /// The half of code at this address: the two bytes in the first `PT_LOAD` segment of the executable with `PF_X` whose
-    /// bytes in the file have both. None exactly where there is none. It may be of another segment than the word there.
+    /// The half of code at this address: the two bytes in the first `PT_LOAD` segment of the
+    /// executable with `PF_X` whose bytes in the file have both. None exactly where there is none.
+    /// It may be of another segment than the word there.
     pub fn half_of_code(&self, a: u32) -> Option<u16>
         ensures { result ≡ (contents (exe_of self.now)).half a }
     {
         self.files.half(a)
     }
 
-    /// The end of the executable's image: the greatest `vaddr + memsz` of a `PT_LOAD` segment of it, 0 without one.
+    /// The end of the executable's image: the greatest `vaddr + memsz` of a `PT_LOAD` segment of
+    /// it, 0 without one.
     pub fn image_end(&self) -> u64
         ensures { result ≡ (contents (exe_of self.now)).end }
     {
         self.files.end()
     }
 
-    /// The function that has this address, as the executable names it (`Image::symbol`), and where it begins. None exactly where it names none.
+    /// The function that has this address, as the executable names it (`Image::symbol`), and where
+    /// it begins. None exactly where it names none.
     pub fn symbol(&self, a: u32) -> Option<Symbol<'a>>
         ensures { option_map symbol_of result ≡ (contents (exe_of self.now)).symbol a }
     {
         self.files.symbol(a)
     }
 
-    /// The functions that have these addresses, one answer for each, as `symbol` gives it. The symbol table of an executable is gone over once
-    /// for all of them, where `symbol` goes over it at each call. The only refusal is of memory.
+    /// The functions that have these addresses, one answer for each, as `symbol` gives it. The
+    /// symbol table of an executable is gone over once for all of them, where `symbol` goes over it
+    /// at each call. The only refusal is of memory.
     pub fn symbols(
         &self,
         alloc: Global,
@@ -225,7 +234,7 @@ impl<'a> Dump<'a> {
         self.files.symbols(alloc, addresses)
     }
 
-    /// The same dump, which finds words of code near this address without a search among all segments.
+    /// This dump, finding words of code near this address without a search among all segments.
     pub fn near_code(&self, a: u32) -> Dump<'a>
         ensures exe { exe_of result ≡ exe_of self.now }
         ensures core { core_of result ≡ core_of self.now }
@@ -236,7 +245,7 @@ impl<'a> Dump<'a> {
         dump
     }
 
-    /// The same dump, which finds halves of code near this address without a search among all segments.
+    /// This dump, finding halves of code near this address without a search among all segments.
     pub fn near_half(&self, a: u32) -> Dump<'a>
         ensures exe { exe_of result ≡ exe_of self.now }
         ensures core { core_of result ≡ core_of self.now }
@@ -247,7 +256,7 @@ impl<'a> Dump<'a> {
         dump
     }
 
-    /// The same dump, which finds bytes near this address without a search among all segments.
+    /// This dump, finding bytes near this address without a search among all segments.
     pub fn near_byte(&self, a: u32) -> Dump<'a>
         ensures exe { exe_of result ≡ exe_of self.now }
         ensures core { core_of result ≡ core_of self.now }
@@ -260,7 +269,7 @@ impl<'a> Dump<'a> {
     }
 
     /// The stretch of an address among saved bytes.
-    fn saved_near(&self, a: u32) -> Stretch<'a>
+    fn saved_near(&self, a: u32) -> SegmentStretch<'a>
         ensures within { (result.from ≤ a) × (a < result.to) }
         ensures alike { AnswersAlike (sought_saved (core_of self.now)) result }
     {

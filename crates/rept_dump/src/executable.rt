@@ -10,16 +10,17 @@ ghost use Rattle.rept_dump.specs.Stretch.{AnswersAlike, sought_kept};
 
 use crate::code::Code;
 use crate::search::{Allowed, held_bytes};
-use crate::stretch::{NOWHERE, Stretch, stretch_near};
+use crate::stretch::{NOWHERE, SegmentStretch, stretch_near};
 use rept_elf::{Image, Segment, Symbol};
 use std::alloc::{AllocError, Global};
 
-/// An executable, the end of its image, and where bytes of it that can't be written were looked for last.
+/// An executable, the end of its image, and where bytes of it that can't be written were looked for
+/// last.
 #[derive(Clone, Copy)]
 pub struct Executable<'a> {
     code: Code<'a>,
     end: u64,
-    kept: Stretch<'a>,
+    kept: SegmentStretch<'a>,
     ghost ends: { end ≡ (code_of code).end },
     ghost answers: { AnswersAlike (sought_kept (parts_of code)) kept },
 }
@@ -96,7 +97,7 @@ impl<'a> Executable<'a> {
         self.end
     }
 
-    /// The same executable, which finds words of code near this address without a search.
+    /// This executable, finding words of code near this address without a search.
     pub fn near_code(&self, a: u32) -> Executable<'a>
         ensures { program_in result ≡ program_in self.now }
     {
@@ -105,7 +106,7 @@ impl<'a> Executable<'a> {
         executable
     }
 
-    /// The same of halves.
+    /// This executable, finding halves of code near this address without a search.
     pub fn near_half(&self, a: u32) -> Executable<'a>
         ensures { program_in result ≡ program_in self.now }
     {
@@ -114,7 +115,7 @@ impl<'a> Executable<'a> {
         executable
     }
 
-    /// The same of bytes that can't be written.
+    /// This executable, finding bytes that can't be written near this address without a search.
     pub fn near_byte(&self, a: u32) -> Executable<'a>
         ensures { program_in result ≡ program_in self.now }
     {
@@ -124,7 +125,7 @@ impl<'a> Executable<'a> {
     }
 
     /// The stretch of an address among bytes that can't be written.
-    fn stretch(&self, a: u32) -> Stretch<'a>
+    fn stretch(&self, a: u32) -> SegmentStretch<'a>
         ensures within { (result.from ≤ a) × (a < result.to) }
         ensures alike { AnswersAlike (sought_kept (parts_of self.now.code)) result }
     {

@@ -96,7 +96,7 @@ impl<'a> Files<'a> {
         }
     }
 
-    /// The same files, where words of code near this address may be found faster.
+    /// These files, finding words of code near this address faster.
     pub fn near_code(&self, a: u32) -> Files<'a>
         ensures { program_of result ≡ program_of self.now }
     {
@@ -106,7 +106,7 @@ impl<'a> Files<'a> {
         }
     }
 
-    /// The same of halves.
+    /// These files, finding halves of code near this address faster.
     pub fn near_half(&self, a: u32) -> Files<'a>
         ensures { program_of result ≡ program_of self.now }
     {
@@ -116,7 +116,7 @@ impl<'a> Files<'a> {
         }
     }
 
-    /// The same of bytes that the program could not write.
+    /// These files, finding bytes near this address faster that the program could not write.
     pub fn near_byte(&self, a: u32) -> Files<'a>
         ensures { program_of result ≡ program_of self.now }
     {

@@ -1,5 +1,5 @@
-//! What an executable and the core file of its crash say: the registers, the bytes of memory that are known, and the words
-//! of code. Nothing is copied.
+//! What an executable and the core file of its crash say: the registers, the bytes of memory that
+//! are known, and the words of code. Nothing is copied.
 #![tactic(auto)]
 
 mod code;

@@ -11,7 +11,7 @@ ghost use Rattle.rept_dump.specs.Registers.{SaysRegisters, status_size, is_statu
 
 use crate::fault::CoreFault;
 use rept_elf::Image;
-use rept_notes::{Found, Note, find_notes, find_short};
+use rept_notes::{FoundNotes, Note, find_notes, find_short};
 
 /// The bytes of a register note's descriptor.
 pub const STATUS_SIZE: usize = 204;
@@ -20,7 +20,7 @@ pub const STATUS_SIZE: usize = 204;
 pub const NT_PRSTATUS: u32 = 1;
 
 /// The register notes of a core file.
-pub fn read_core<'a>(core: &Image<'a>) -> Result<Found<'a>, CoreFault>
+pub fn read_core<'a>(core: &Image<'a>) -> Result<FoundNotes<'a>, CoreFault>
     ensures ok { IfOk result (λ found. (notes : List NoteOf) × HaveNotes (length (file_of core.now)) (note_segments (segments_of core.now)) notes × AreFound found (filter is_status notes)) }
     ensures cut { IfErr result (λ fault. (offset : ℕ) × AreCutAt (length (file_of core.now)) (note_segments (segments_of core.now)) offset × (fault ≡ CoreFault.NotePastEnd offset)) }
 {
@@ -40,7 +40,8 @@ fn size_of(first: Option<Note<'_>>) -> Option<u64>
     }
 }
 
-/// The size of the first descriptor of a register note that doesn't have all registers, if there is one.
+/// The size of the first descriptor of a register note that doesn't have all registers, if there is
+/// one.
 pub fn first_short(core: &Image<'_>) -> Result<Option<u64>, CoreFault>
     ensures ok { IfOk result (λ size. (notes : List NoteOf) → HaveNotes (length (file_of core.now)) (note_segments (segments_of core.now)) notes → size ≡ first_short (filter is_status notes)) }
     ensures cut { IfErr result (λ fault. (offset : ℕ) × AreCutAt (length (file_of core.now)) (note_segments (segments_of core.now)) offset × (fault ≡ CoreFault.NotePastEnd offset)) }
@@ -52,7 +53,7 @@ pub fn first_short(core: &Image<'_>) -> Result<Option<u64>, CoreFault>
 }
 
 /// The descriptor of the only register note that was found, if it has all registers.
-fn only_one<'a>(found: &Found<'a>) -> Result<&'a [u8], CoreFault>
+fn only_one<'a>(found: &FoundNotes<'a>) -> Result<&'a [u8], CoreFault>
     ensures said { (statuses : List NoteOf) → AreFound found.now statuses → result_map_both (λ b. b.now) (λ e. e) result ≡ only_registers statuses }
     ensures enough { IfOk result (λ b. status_size ≤ length b.now) }
 {

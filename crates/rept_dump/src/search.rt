@@ -30,7 +30,8 @@ pub fn is_allowed(segment: &Segment<'_>, allowed: Allowed) -> bool
     }
 }
 
-/// The segment's bytes from an address on, where it is allowed and part of memory, and its file has so many of them.
+/// The segment's bytes from an address on, where it is allowed and part of memory, and its file has
+/// so many of them.
 pub fn held_bytes<'a>(
     segment: &Segment<'a>,
     allowed: Allowed,
@@ -50,7 +51,8 @@ pub fn held_bytes<'a>(
     Some(bytes)
 }
 
-/// Whether a segment is part of memory that could be written, and has this address there, whatever its file has of it.
+/// Whether a segment is part of memory that could be written, and has this address there, whatever
+/// its file has of it.
 fn is_written(segment: &Segment<'_>, a: u32) -> bool
     ensures { result ≡ may_be_written a (segment_of segment.now) }
 {

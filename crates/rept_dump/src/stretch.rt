@@ -10,7 +10,7 @@ use rept_elf::{Image, PT_LOAD, Segment};
 
 /// Neighbouring addresses at which the same segment is found, or none.
 #[derive(Clone, Copy)]
-pub struct Stretch<'a> {
+pub struct SegmentStretch<'a> {
     /// The first address.
     pub from: u64,
     /// The address after the last one.
@@ -20,7 +20,7 @@ pub struct Stretch<'a> {
 }
 
 /// A stretch without addresses.
-pub const NOWHERE: Stretch<'static> = Stretch {
+pub const NOWHERE: SegmentStretch<'static> = SegmentStretch {
     from: 0,
     to: 0,
     segment: None,
@@ -28,13 +28,19 @@ pub const NOWHERE: Stretch<'static> = Stretch {
 
 /// The addresses from one up to another, without that.
 #[derive(Clone, Copy)]
-struct Bounds {
+struct AddressBounds {
     from: u64,
     to: u64,
 }
 
 /// These addresses as far as this segment answers as at the given one.
-fn narrow(bounds: Bounds, segment: &Segment<'_>, allowed: Allowed, a: u32, count: u64) -> Bounds
+fn narrow(
+    bounds: AddressBounds,
+    segment: &Segment<'_>,
+    allowed: Allowed,
+    a: u32,
+    count: u64,
+) -> AddressBounds
     requires within { (bounds.from ≤ a) × (a < bounds.to) }
     requires few { count ≤ 4 }
     requires size { length segment.now.body.now < 2 ^ 32 }
@@ -49,24 +55,25 @@ fn narrow(bounds: Bounds, segment: &Segment<'_>, allowed: Allowed, a: u32, count
         return bounds;
     }
     if at < start {
-        return Bounds {
+        return AddressBounds {
             from: bounds.from,
             to: bounds.to.min(start),
         };
     }
     if at + count > end {
-        return Bounds {
+        return AddressBounds {
             from: bounds.from.max((end + 1).saturating_sub(count)),
             to: bounds.to,
         };
     }
-    Bounds {
+    AddressBounds {
         from: bounds.from.max(start),
         to: bounds.to.min(end + 1 - count),
     }
 }
 
-/// Whether a segment is allowed and part of memory, and its file has so many bytes from an address on.
+/// Whether a segment is allowed and part of memory, and its file has so many bytes from an address
+/// on.
 fn fits(segment: &Segment<'_>, allowed: Allowed, a: u32, count: u64) -> bool
     requires few { count ≤ 4 }
     requires size { length segment.now.body.now < 2 ^ 32 }
@@ -80,12 +87,12 @@ fn fits(segment: &Segment<'_>, allowed: Allowed, a: u32, count: u64) -> bool
 
 /// The stretch of an address in a search for so many bytes: the old one where it has the address.
 pub fn stretch_near<'a>(
-    old: Stretch<'a>,
+    old: SegmentStretch<'a>,
     image: &Image<'a>,
     allowed: Allowed,
     a: u32,
     count: u64,
-) -> Stretch<'a>
+) -> SegmentStretch<'a>
     requires few { count ≤ 4 }
     requires answers { AnswersAlike (record { allowed = allowed; count = count; segments = segments_of image.now }) old }
     ensures within { (result.from ≤ a) × (a < result.to) }
@@ -99,12 +106,12 @@ pub fn stretch_near<'a>(
 }
 
 /// The stretch of an address in a search for so many bytes.
-fn find_stretch<'a>(image: &Image<'a>, allowed: Allowed, a: u32, count: u64) -> Stretch<'a>
+fn find_stretch<'a>(image: &Image<'a>, allowed: Allowed, a: u32, count: u64) -> SegmentStretch<'a>
     requires few { count ≤ 4 }
     ensures within { (result.from ≤ a) × (a < result.to) }
     ensures alike { AnswersAlike (record { allowed = allowed; count = count; segments = segments_of image.now }) result }
 {
-    let mut bounds = Bounds {
+    let mut bounds = AddressBounds {
         from: 0,
         to: 1 << 32,
     };
@@ -112,14 +119,14 @@ fn find_stretch<'a>(image: &Image<'a>, allowed: Allowed, a: u32, count: u64) -> 
         let segment = image.segment(i);
         bounds = narrow(bounds, &segment, allowed, a, count);
         if fits(&segment, allowed, a, count) {
-            return Stretch {
+            return SegmentStretch {
                 from: bounds.from,
                 to: bounds.to,
                 segment: Some(segment),
             };
         }
     }
-    Stretch {
+    SegmentStretch {
         from: bounds.from,
         to: bounds.to,
         segment: None,

@@ -1,4 +1,5 @@
-//! The register notes of several threads, found one by one. None of it is kept: a note is looked for among all notes each time.
+//! The register notes of several threads, found one by one. None of it is kept: a note is looked
+//! for among all notes each time.
 
 ghost use Rattle.std.specs.Prelude.{◌≡◌, ◌==◌, ◌<◌, ◌≤◌, ℕ, List, length, map, slice_get, IfOk, IfErr, MatchOption, Some, Ok, Err};
 ghost use Rattle.std.specs.List.{list_any};

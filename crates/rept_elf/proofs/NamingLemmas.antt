@@ -9,7 +9,7 @@ use Rattle.std.proofs.lemmas.Option.{slice_get-get_or}
 use Rattle.rept_elf.specs.Symbols.{ElfSymbol, FunctionSymbol, SymbolTables, function_in, is_function_at, named, symbol_at, symbol_tables, symbols}
 use Rattle.rept_elf.specs.SectionParts.{entry_of}
 use Rattle.rept_elf.specs.Naming.{Asked, answered, asked_among, asked_of}
-use Rattle.rept_elf.specs.declared.naming.Sought.{Sought}
+use Rattle.rept_elf.specs.declared.naming.SymbolSearch.{SymbolSearch}
 
 pub map_two : {X Y Z : Type 0} → (f : Y → Z) (g : X → Y) → (xs : List X) → map f (map g xs) ≡ map (λ x. f (g x)) xs
 map_two f g [] = refl
@@ -51,23 +51,23 @@ one_symbol symbols i e addresses old new h at before step =
     ∙ ap (λ (front : List ElfSymbol). map (asked_among front) addresses) (sym (take_one symbols i e h at))
 
 -- how far addresses were answered: those in front have the symbol, the others are as they were
-pub record IsOffered (e : ElfSymbol) (i : ℕ) (old new : List Sought) : Type 0 where
+pub record IsOffered (e : ElfSymbol) (i : ℕ) (old new : List SymbolSearch) : Type 0 where
   pub front : map asked_of (take i new) ≡ map (answered e) (map asked_of (take i old))
   pub same : length new ≡ length old
   pub back : drop i new ≡ drop i old
 
-pub one_more : (e : ElfSymbol) (i : ℕ) (old now : List Sought) (d y : Sought) → i < length now → IsOffered e i old now → asked_of y ≡ answered e (asked_of (get_or now i d)) → IsOffered e (i + 1) old (set now i y)
+pub one_more : (e : ElfSymbol) (i : ℕ) (old now : List SymbolSearch) (d y : SymbolSearch) → i < length now → IsOffered e i old now → asked_of y ≡ answered e (asked_of (get_or now i d)) → IsOffered e (i + 1) old (set now i y)
 one_more e i old now d y h so step = record {
   front =
       ap (map asked_of) (take_more_set now i y h) ∙ map_push asked_of (take i now) y ∙ ap (λ (f : List Asked). f ++ asked_of y ∷ []) so.front ∙ ap (λ z. map (answered e) (map asked_of (take i old)) ++ z ∷ []) step
       ∙ sym
-      (ap (λ (f : List Sought). map (answered e) (map asked_of f)) (take_more old i d (omega (arith, h, so.same)) ∙ ap (λ z. take i old ++ z ∷ []) there)
+      (ap (λ (f : List SymbolSearch). map (answered e) (map asked_of f)) (take_more old i d (omega (arith, h, so.same)) ∙ ap (λ z. take i old ++ z ∷ []) there)
       ∙ ap (map (answered e)) (map_push asked_of (take i old) (get_or now i d)) ∙ map_push (answered e) (map asked_of (take i old)) (asked_of (get_or now i d)));
   same = length_set now i y ∙ so.same;
   back = drop-set-lt (i + 1) now i y (omega arith) ∙ next_drop now old i so.back;
 }
   where
-    length_set : (xs : List Sought) (k : ℕ) (z : Sought) → length (set xs k z) ≡ length xs
+    length_set : (xs : List SymbolSearch) (k : ℕ) (z : SymbolSearch) → length (set xs k z) ≡ length xs
     length_set [] k z = refl
     length_set (w ∷ ws) zero z = refl
     length_set (w ∷ ws) (suc k) z = ap suc (length_set ws k z)
@@ -76,17 +76,17 @@ one_more e i old now d y h so step = record {
     zero_more = omega arith
 
     there : get_or old i d ≡ get_or now i d
-    there = ap (λ k. get_or old k d) (sym zero_more) ∙ sym (get_or-drop i old 0 d) ∙ ap (λ (xs : List Sought). get_or xs 0 d) (sym so.back) ∙ get_or-drop i now 0 d ∙ ap (λ k. get_or now k d) zero_more
+    there = ap (λ k. get_or old k d) (sym zero_more) ∙ sym (get_or-drop i old 0 d) ∙ ap (λ (xs : List SymbolSearch). get_or xs 0 d) (sym so.back) ∙ get_or-drop i now 0 d ∙ ap (λ k. get_or now k d) zero_more
 
-    next_drop : (xs ys : List Sought) (k : ℕ) → drop k xs ≡ drop k ys → drop (k + 1) xs ≡ drop (k + 1) ys
+    next_drop : (xs ys : List SymbolSearch) (k : ℕ) → drop k xs ≡ drop k ys → drop (k + 1) xs ≡ drop (k + 1) ys
     next_drop xs ys k same = sym (drop-drop 1 k xs) ∙ ap (drop 1) same ∙ drop-drop 1 k ys
 
 -- the function that was found of an address
-abbrev pub name_of : List ℕ → Sought → Option FunctionSymbol
+abbrev pub name_of : List ℕ → SymbolSearch → Option FunctionSymbol
 name_of names s = option_and_then (named names) (option_map entry_of s.found)
 
 -- the functions of a table, from what was found among all of its symbols
-pub named_all : (tables : SymbolTables) (addresses : List ℕ) (all : List Sought) → map asked_of all ≡ map (asked_among (symbols tables.entries)) addresses → map (name_of tables.names) all ≡ map (function_in tables) addresses
+pub named_all : (tables : SymbolTables) (addresses : List ℕ) (all : List SymbolSearch) → map asked_of all ≡ map (asked_among (symbols tables.entries)) addresses → map (name_of tables.names) all ≡ map (function_in tables) addresses
 named_all tables addresses all are =
     let name : Asked → Option FunctionSymbol = λ s. option_and_then (named tables.names) s.found in
     sym (map_two name asked_of all) ∙ ap (map name) are ∙ map_two name (asked_among (symbols tables.entries)) addresses

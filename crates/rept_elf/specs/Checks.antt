@@ -16,7 +16,8 @@ abbrev pub first_failure : List Check → Option ElfFault
 first_failure [] = None
 first_failure (c ∷ cs) = if c.passes then first_failure cs else Some c.fault
 
--- the type is a wanted one: `ET_EXEC` is 2, `ET_DYN`, of a shared object or a position-independent executable, 3, `ET_CORE` 4
+-- the type is a wanted one: `ET_EXEC` is 2, `ET_DYN`, of a shared object or a position-independent
+-- executable, 3, `ET_CORE` 4
 abbrev pub is_wanted : Want → ℕ → Bool
 is_wanted Exec kind = kind == 2
 is_wanted Core kind = kind == 4

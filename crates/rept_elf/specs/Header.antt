@@ -1,5 +1,6 @@
--- The ELF header and the program headers of a file of 32 bits, little-endian: Tool Interface Standard (TIS) Executable and
--- Linking Format 1.2, book I, "ELF Header" and "Program Header"; for `EM_RISCV` the RISC-V ELF psABI.
+-- The ELF header and the program headers of a file of 32 bits, little-endian: Tool Interface
+-- Standard (TIS) Executable and Linking Format 1.2, book I, "ELF Header" and "Program Header"; for
+-- `EM_RISCV` the RISC-V ELF psABI.
 use Rattle.std.specs.Prelude.{ℕ, ◌+◌, ◌*◌, ◌≤◌, List, length, drop, slice_index}
 use Rattle.byteorder.specs.Endian.{little_number}
 

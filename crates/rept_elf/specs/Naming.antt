@@ -4,14 +4,14 @@ use Rattle.std.specs.List.{find}
 use Rattle.std.specs.Option.{option_map}
 use Rattle.rept_elf.specs.SectionParts.{entry_of}
 use Rattle.rept_elf.specs.Symbols.{ElfSymbol, is_function_at}
-use Rattle.rept_elf.specs.declared.naming.Sought.{Sought}
+use Rattle.rept_elf.specs.declared.naming.SymbolSearch.{SymbolSearch}
 
 -- an address, and the symbol of its function, where one was found
 pub record Asked : Type 0 where
   pub address : ℕ
   pub found : Option ElfSymbol
 
-abbrev pub asked_of : Sought → Asked
+abbrev pub asked_of : SymbolSearch → Asked
 asked_of s = record { address = s.address; found = option_map entry_of s.found }
 
 -- what is found of an address among these symbols

@@ -3,7 +3,7 @@ use Rattle.rept_elf.specs.Sections.{ElfSection}
 use Rattle.rept_elf.specs.Symbols.{ElfSymbol, SymbolTables}
 use Rattle.rept_elf.specs.declared.section.Section.{Section}
 use Rattle.rept_elf.specs.declared.symbol.TableEntry.{TableEntry}
-use Rattle.rept_elf.specs.declared.symbol.Tables.{Tables}
+use Rattle.rept_elf.specs.declared.symbol.SymbolBytes.{SymbolBytes}
 
 -- the fields of a section
 abbrev pub section_of : Section → ElfSection
@@ -14,5 +14,5 @@ abbrev pub entry_of : TableEntry → ElfSymbol
 entry_of s = record { name = s.name; value = s.value; size = s.size; info = s.info }
 
 -- the bytes of the two tables
-abbrev pub tables_of : Tables → SymbolTables
+abbrev pub tables_of : SymbolBytes → SymbolTables
 tables_of t = record { entries = t.entries.now; names = t.names.now }

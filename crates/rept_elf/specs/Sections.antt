@@ -1,5 +1,5 @@
--- The sections of a file, as its section headers list them: TIS ELF 1.2, book I, "ELF Header" and "Sections". A section
--- header has 40 bytes.
+-- The sections of a file, as its section headers list them: TIS ELF 1.2, book I, "ELF Header" and
+-- "Sections". A section header has 40 bytes.
 use Rattle.std.specs.Prelude.{ℕ, zero, suc, ◌+◌, ◌*◌, List, [], ◌∷◌, length, Bool, ◌==◌, nat_le, Option, None, Some, if◌then◌else◌}
 use Rattle.rept_elf.specs.Header.{half_at, word_at}
 use Rattle.rept_elf.specs.Segments.{part_of}
@@ -23,7 +23,8 @@ e_shnum file = half_at file 48
 abbrev pub section_offset : List ℕ → ℕ → ℕ
 section_offset file index = e_shoff file + 40 * index
 
--- the section whose header stands at an offset of the file: `sh_type`, `sh_offset`, `sh_size` and `sh_link`
+-- the section whose header stands at an offset of the file: `sh_type`, `sh_offset`, `sh_size` and
+-- `sh_link`
 abbrev pub section_from : List ℕ → ℕ → ElfSection
 section_from file header = record {
   kind = word_at file (header + 4);

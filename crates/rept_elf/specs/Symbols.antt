@@ -1,5 +1,5 @@
--- The symbols of a file: TIS ELF 1.2, book I, "Symbol Table" and "String Table". A symbol has 16 bytes. Only the first
--- symbol table is looked at (the project's own).
+-- The symbols of a file: TIS ELF 1.2, book I, "Symbol Table" and "String Table". A symbol has 16
+-- bytes. Only the first symbol table is looked at (the project's own).
 use Rattle.std.specs.Prelude.{ℕ, ◌+◌, ◌*◌, ◌/◌, ◌%◌, max, List, length, take, drop, slice_index, slice_get, Bool, ◌==◌, ◌&&◌, nat_le, nat_lt, Option}
 use Rattle.std.specs.List.{find, position}
 use Rattle.std.specs.Option.{option_map, option_and_then}
@@ -7,7 +7,8 @@ use Rattle.rept_elf.specs.Header.{word_at}
 use Rattle.rept_elf.specs.Sections.{ElfSection, sections, contents, entries_from, is_symbol_table}
 use Rattle.rept_elf.specs.declared.symbol.Symbol.{Symbol}
 
--- a symbol of a table: `st_name`, the offset of its name in the table of names, `st_value`, `st_size` and `st_info`
+-- a symbol of a table: `st_name`, the offset of its name in the table of names, `st_value`,
+-- `st_size` and `st_info`
 pub record ElfSymbol : Type 0 where
   pub name : ℕ
   pub value : ℕ
@@ -27,11 +28,13 @@ symbol_from table at = record {
 abbrev pub symbols : List ℕ → List ElfSymbol
 symbols table = entries_from (λ index. symbol_from table (16 * index)) 0 (length table / 16)
 
--- the symbol is a function's, `STT_FUNC`, and the address is the function's; a function of size 0 has one address
+-- the symbol is a function's, `STT_FUNC`, and the address is the function's; a function of size 0
+-- has one address
 abbrev pub is_function_at : ℕ → ElfSymbol → Bool
 is_function_at a s = (s.info % 16 == 2) && (nat_le s.value a && nat_lt a (s.value + max s.size 1))
 
--- the name at an offset of a table of names, without the zero byte that ends it; none where the table has no such byte
+-- the name at an offset of a table of names, without the zero byte that ends it; none where the
+-- table has no such byte
 abbrev pub name_at : List ℕ → ℕ → Option (List ℕ)
 name_at names offset = option_map (λ end. take end (drop offset names)) (position (λ b. b == 0) (drop offset names))
 

@@ -9,16 +9,17 @@ pub enum Want {
     Exec,
     /// A core file (`ET_CORE`).
     Core,
-    /// A file whose parts a program maps: an executable (`ET_EXEC`), or a shared object or position-independent
-    /// executable (`ET_DYN`).
+    /// A file whose parts a program maps: an executable (`ET_EXEC`), or a shared object or
+    /// position-independent executable (`ET_DYN`).
     Shared,
 }
 
-/// The first check that a file fails. The checks are made in the order of this list, the last three of them for each
-/// `PT_LOAD` segment in table order, before the next segment.
+/// The first check that a file fails. The checks are made in the order of this list, the last three
+/// of them for each `PT_LOAD` segment in table order, before the next segment.
 #[derive(Clone, Copy, Debug, PartialEq, Eq, Error)]
 pub enum ElfFault {
-    /// The file has fewer than the 52 bytes of a header, or begins with other bytes than `7f 45 4c 46`.
+    /// The file has fewer than the 52 bytes of a header, or begins with other bytes than
+    /// `7f 45 4c 46`.
     #[error("no ELF file")]
     NotElf,
     /// `EI_CLASS` is not `ELFCLASS32`.

@@ -23,7 +23,7 @@ pub fn word(bytes: &[u8], offset: usize) -> u32
     LittleEndian::read_u32(&bytes[offset..])
 }
 
-/// So many bytes from an offset on, as far as there are any.
+/// The bytes from an offset on, this many or as far as there are any.
 pub fn part(bytes: &[u8], offset: usize, size: usize) -> &[u8]
     ensures { result.now ≡ part_of bytes.now offset size }
 {

@@ -14,7 +14,8 @@ use crate::segment::{PT_LOAD, Segment};
 use crate::symbol::{Symbol, find_symbol};
 use std::alloc::{AllocError, Global};
 
-/// An executable or a core file whose header and segments passed the checks. It borrows the file's bytes.
+/// An executable or a core file whose header and segments passed the checks. It borrows the file's
+/// bytes.
 #[derive(Clone, Copy)]
 pub struct Image<'a> {
     bytes: &'a [u8],
@@ -27,8 +28,8 @@ impl<'a> Image<'a> {
     ghost use Rattle.rept_elf.specs.Symbols.{symbol_at, symbol_of};
     ghost use Rattle.std.specs.Option.{option_map};
 
-    /// The file of these bytes, as a file of the wanted kind. A fault comes exactly where it is that of the first check
-    /// that the file fails.
+    /// The file of these bytes, as a file of the wanted kind. A fault comes exactly where it is
+    /// that of the first check that the file fails.
     pub fn read(bytes: &'a [u8], want: Want) -> Result<Image<'a>, ElfFault>
         ensures fault { result_err result ≡ first_failure (checks want bytes.now) }
         ensures image { IfOk result (λ image. file_of image ≡ bytes.now) }
@@ -84,18 +85,19 @@ impl<'a> Image<'a> {
         end
     }
 
-    /// The symbol of the function that has this address, as the file gives it: the first symbol of the first symbol table
-    /// that is a function's and begins at or before the address, and ends after it; a function of size 0 has one address.
-    /// None exactly where there is no such symbol, or where the section headers, the symbol table, the table of its
-    /// names or the symbol's name up to its zero byte isn't whole in the file.
+    /// The symbol of the function that has this address, as the file gives it: the first symbol of
+    /// the first symbol table that is a function's and begins at or before the address, and ends
+    /// after it; a function of size 0 has one address. None exactly where there is no such symbol,
+    /// or where the section headers, the symbol table, the table of its names or the symbol's name
+    /// up to its zero byte isn't whole in the file.
     pub fn symbol(&self, vaddr: u32) -> Option<Symbol<'a>>
         ensures { option_map symbol_of result ≡ symbol_at (file_of self.now) vaddr }
     {
         find_symbol(self.bytes, vaddr)
     }
 
-    /// The symbols of the functions that have these addresses, one after the other, each as `symbol` answers it. The symbol table
-    /// is gone over once. The only refusal is of memory.
+    /// The symbols of the functions that have these addresses, one after the other, each as
+    /// `symbol` answers it. The symbol table is gone over once. The only refusal is of memory.
     pub fn symbols(
         &self,
         alloc: Global,

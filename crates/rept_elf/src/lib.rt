@@ -1,5 +1,5 @@
-//! Executables and core files in the ELF format, 32 bits, little-endian, for RISC-V. Nothing is copied: an image and its
-//! segments borrow the file's bytes.
+//! Executables and core files in the ELF format, 32 bits, little-endian, for RISC-V. Nothing is
+//! copied: an image and its segments borrow the file's bytes.
 #![tactic(auto)]
 
 mod checks;

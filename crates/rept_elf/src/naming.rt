@@ -8,13 +8,13 @@ ghost use Rattle.rept_elf.specs.SectionParts.{entry_of, tables_of};
 ghost use Rattle.rept_elf.specs.Symbols.{function_in, symbol_at, symbol_of, symbols};
 
 use crate::symbol::{
-    SYMBOL_SIZE, Symbol, TableEntry, Tables, find_tables, is_function_at, named, table_entry,
+    SYMBOL_SIZE, Symbol, SymbolBytes, TableEntry, find_tables, is_function_at, named, table_entry,
 };
 use std::alloc::{AllocError, Global};
 
 /// An address, and the first symbol of a function that has it, among those that were looked at.
 #[derive(Clone, Copy)]
-pub struct Sought {
+pub struct SymbolSearch {
     /// The address.
     pub address: u32,
     /// The symbol.
@@ -22,12 +22,12 @@ pub struct Sought {
 }
 
 /// Addresses of which nothing is found yet.
-fn unanswered(alloc: Global, addresses: &[u32]) -> Result<Vec<Sought>, AllocError>
+fn unanswered(alloc: Global, addresses: &[u32]) -> Result<Vec<SymbolSearch>, AllocError>
     ensures { IfOk result (λ asked. map asked_of asked.items ≡ map (asked_among []) addresses.now) }
 {
     let mut asked = Vec::new(alloc);
     for address in addresses {
-        asked.push(Sought {
+        asked.push(SymbolSearch {
             address: *address,
             found: None,
         })?;
@@ -36,14 +36,14 @@ fn unanswered(alloc: Global, addresses: &[u32]) -> Result<Vec<Sought>, AllocErro
 }
 
 /// Whether an address wants a symbol, and this is one of its function.
-fn wants(entry: &TableEntry, sought: &Sought) -> bool
+fn wants(entry: &TableEntry, sought: &SymbolSearch) -> bool
     ensures { result ≡ wants (entry_of entry.now) (asked_of sought.now) }
 {
     sought.found.is_none() && is_function_at(entry, sought.address)
 }
 
 /// Gives the symbol to an address that wants it.
-fn offer(entry: &TableEntry, sought: &mut Sought)
+fn offer(entry: &TableEntry, sought: &mut SymbolSearch)
     ensures { asked_of sought.new ≡ answered (entry_of entry.now) (asked_of sought.old) }
 {
     if wants(entry, sought) {
@@ -52,7 +52,7 @@ fn offer(entry: &TableEntry, sought: &mut Sought)
 }
 
 /// Gives the symbol to all addresses that want it.
-fn answer(entry: &TableEntry, asked: &mut [Sought])
+fn answer(entry: &TableEntry, asked: &mut [SymbolSearch])
     ensures { map asked_of asked.new ≡ map (answered (entry_of entry.now)) (map asked_of asked.old) }
 {
     for sought in asked.iter_mut() {
@@ -65,7 +65,7 @@ fn first_functions(
     alloc: Global,
     table: &[u8],
     addresses: &[u32],
-) -> Result<Vec<Sought>, AllocError>
+) -> Result<Vec<SymbolSearch>, AllocError>
     ensures { IfOk result (λ asked. map asked_of asked.items ≡ map (asked_among (symbols table.now)) addresses.now) }
 {
     let mut asked = unanswered(alloc, addresses)?;
@@ -79,7 +79,7 @@ fn first_functions(
 /// The functions of these addresses by a symbol table.
 fn symbols_in<'a>(
     alloc: Global,
-    tables: &Tables<'a>,
+    tables: &SymbolBytes<'a>,
     addresses: &[u32],
 ) -> Result<Vec<Option<Symbol<'a>>>, AllocError>
     ensures { IfOk result (λ found. map (option_map symbol_of) found.items ≡ map (function_in (tables_of tables.now)) addresses.now) }

@@ -19,7 +19,8 @@ pub const SYMBOL_SIZE: usize = 16;
 /// A function's name, and where it begins.
 #[derive(Clone, Copy, Debug)]
 pub struct Symbol<'a> {
-    /// The name, without the zero byte that ends it in the file. It may be empty, and of any bytes but zero.
+    /// The name, without the zero byte that ends it in the file. It may be empty, and of any bytes
+    /// but zero.
     pub name: &'a [u8],
     /// `st_value`: the address of the function's first byte, as the file gives it.
     pub value: u32,
@@ -40,7 +41,7 @@ pub struct TableEntry {
 
 /// The bytes of a symbol table, and those of the table of its names.
 #[derive(Clone, Copy)]
-pub struct Tables<'a> {
+pub struct SymbolBytes<'a> {
     /// The symbols.
     pub entries: &'a [u8],
     /// Their names.
@@ -103,7 +104,7 @@ pub fn named<'a>(names: &'a [u8], found: Option<TableEntry>) -> Option<Symbol<'a
 }
 
 /// The first symbol table of a file and the table of its names, where the file holds them.
-pub fn find_tables(bytes: &[u8]) -> Option<Tables<'_>>
+pub fn find_tables(bytes: &[u8]) -> Option<SymbolBytes<'_>>
     requires { header_size ≤ length bytes.now }
     ensures { option_map tables_of result ≡ symbol_tables bytes.now }
 {
@@ -114,7 +115,7 @@ pub fn find_tables(bytes: &[u8]) -> Option<Tables<'_>>
     }
     let linked = section_at(bytes, found.link);
     let names = contents(bytes, &linked)?;
-    Some(Tables { entries, names })
+    Some(SymbolBytes { entries, names })
 }
 
 /// The function of a file that has this address.

@@ -71,7 +71,8 @@ module _ (code : Code) (packets : List Packet) (wait : List Bool) (kept : List S
           bit = λ t. rw e (get_bit next all (after code q here).branches t branches_next);
         }
 
--- What a packet does in a stretch that stands at no inferred stop: it has one phase, and leaves no stop inferred.
+-- What a packet does in a stretch that stands at no inferred stop: it has one phase, and leaves no
+-- stop inferred.
 pub record Sends (code : Code) (packet : Packet) (before : ℕ) (phase : Phase) : Type 0 where
   pub admitted : admits code packet ≡ Ok 0
   pub phases : phases_of packet false before ≡ phase ∷ []
@@ -138,7 +139,8 @@ report_sends code (suc n) map before report h = record { admitted = refl; phases
 map_sends : (code : Code) (map before : ℕ) → Sends code (Map map) before (record { target = None; aim = aims.LastBit })
 map_sends code map before = record { admitted = refl; phases = refl; begun = refl; runs = refl; mark = λ x. refl }
 
--- The kept rows are walked by a report of the address of the row that they lead to, which is asked for.
+-- The kept rows are walked by a report of the address of the row that they lead to, which is asked
+-- for.
 module _ (code : Code) (packets : List Packet) (n map : ℕ) (row : StepRow) (kept : List StepRow) (here : StepRow) (rows : List StepRow) (c : Coded code packets (low_bits n map) (row ∷ kept) here rows) (placed : look code here.at ≡ Ok here.instr) where
   abbrev from : Place
   from = place code packets c.legs

@@ -4,7 +4,7 @@ use Rattle.std.proofs.Math.Nat.{pow-suc}
 use Rattle.std.proofs.lemmas.List.{append-nil}
 use Rattle.rept_isa.specs.declared.row.StepRow.{StepRow}
 use Rattle.rept_path.specs.Packets.{low_bits}
-use Rattle.rept_encode.specs.declared.bits.Bits.{Bits}
+use Rattle.rept_encode.specs.declared.bits.PendingBranches.{PendingBranches}
 use Rattle.rept_encode.specs.Bits.{passed, branch_row, bit_list}
 use Rattle.rept_encode.specs.State.{waiting_bits}
 
@@ -43,8 +43,8 @@ more (suc n) m b lt =
 pub low_more : (n m : ℕ) (b : Bool) → m < 2 ^ n → low_bits (n + 1) (m + cond b (2 ^ n) 0) ≡ low_bits n m ++ b ∷ []
 low_more n m b lt = let e : n + 1 ≡ suc n = add-one n in ap (λ (k : ℕ). low_bits k (m + cond b (2 ^ n) 0)) e ∙ more n m b lt
 
-pub with_bit : (bits : Bits) (row : StepRow) (worth : ℕ) → bits.map < 2 ^ bits.count → branch_row row ≡ true → worth ≡ cond (passed row) (2 ^ bits.count) 0 → low_bits (bits.count + 1) (bits.map + worth) ≡ waiting_bits bits ++ bit_list row
+pub with_bit : (bits : PendingBranches) (row : StepRow) (worth : ℕ) → bits.map < 2 ^ bits.count → branch_row row ≡ true → worth ≡ cond (passed row) (2 ^ bits.count) 0 → low_bits (bits.count + 1) (bits.map + worth) ≡ waiting_bits bits ++ bit_list row
 with_bit bits row worth lt branch e = ap (λ (x : ℕ). low_bits (bits.count + 1) (bits.map + x)) e ∙ low_more bits.count bits.map (passed row) lt ∙ rw branch refl
 
-pub without_bit : (bits : Bits) (row : StepRow) → branch_row row ≡ false → waiting_bits bits ≡ waiting_bits bits ++ bit_list row
+pub without_bit : (bits : PendingBranches) (row : StepRow) → branch_row row ≡ false → waiting_bits bits ≡ waiting_bits bits ++ bit_list row
 without_bit bits row plain = sym (rw plain (append-nil (waiting_bits bits)))

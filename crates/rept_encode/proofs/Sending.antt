@@ -22,7 +22,7 @@ use Rattle.rept_path.specs.Code.{look, flow_of, sum, branches, jumps_far}
 use Rattle.rept_path.specs.Packets.{low_bits, reported}
 use Rattle.rept_path.specs.Rows.{CarriesCode}
 use Rattle.rept_path.specs.Trace.{loses, IsPath}
-use Rattle.rept_encode.specs.declared.bits.Bits.{Bits}
+use Rattle.rept_encode.specs.declared.bits.PendingBranches.{PendingBranches}
 use Rattle.rept_encode.specs.declared.sender.Sender.{Sender}
 use Rattle.rept_encode.specs.Bits.{branch_row, bit_list}
 use Rattle.rept_encode.specs.Walkable.{alignment_by, calls, AreStraight, IsStepped}
@@ -121,7 +121,7 @@ report_told : (count map : ℕ) (report : Report) → IsReporting (report_packet
 report_told zero map report = tt
 report_told (suc count) map report = tt
 
-nothing_waits : (b : Bits) → b.count ≡ 0 → waiting_bits b ≡ []
+nothing_waits : (b : PendingBranches) → b.count ≡ 0 → waiting_bits b ≡ []
 nothing_waits b h = rw h (no_low b.map)
 
 -- A walk that stands has sent all.
@@ -163,7 +163,7 @@ unfolding reported
 map_reported map packets = refl
 
 -- A report was added, after which the walk stands.
-reported_stood : (run : SentRows) (i n most : ℕ) (old new : Sender) (b : Bits) (row : StepRow) (notify : Bool) (packets : List Packet) → IsTextOfPackets run i old.text packets → (AreStraight run.rows n → AreStraight run.rows i) → length old.text + 11 ≤ most → Begun (reverse packets) → reported packets ≡ old.reported → row.at % alignment_by run.halves ≡ 0 → slice_get run.rows n ≡ Some row → (r : IsReported run.halves old b new row.at notify n) → ((code : Code) → HasRows run code → sum (reported packets) r.difference ≡ row.at → Coded code (report_packet b.count b.map (said r.difference notify) ∷ packets) [] [] row (reverse (take n run.rows))) → Stood run n new most
+reported_stood : (run : SentRows) (i n most : ℕ) (old new : Sender) (b : PendingBranches) (row : StepRow) (notify : Bool) (packets : List Packet) → IsTextOfPackets run i old.text packets → (AreStraight run.rows n → AreStraight run.rows i) → length old.text + 11 ≤ most → Begun (reverse packets) → reported packets ≡ old.reported → row.at % alignment_by run.halves ≡ 0 → slice_get run.rows n ≡ Some row → (r : IsReported run.halves old b new row.at notify n) → ((code : Code) → HasRows run code → sum (reported packets) r.difference ≡ row.at → Coded code (report_packet b.count b.map (said r.difference notify) ∷ packets) [] [] row (reverse (take n run.rows))) → Stood run n new most
 reported_stood run i n most old new b row notify packets text back few begun last even get r lead =
     let to : sum (reported packets) r.difference ≡ row.at = rw last r.there in
     let more = longer run.halves old.text new.text (report_packet b.count b.map (said r.difference notify)) r.text in

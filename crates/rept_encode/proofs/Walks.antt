@@ -32,7 +32,8 @@ phase_leg code how aim past row leg limit m c last t stop fit = record {
   fits = fit;
 }
 
--- A jump stops the walk of a report that neither notifies nor leaves the discontinuity unsaid, and nothing else does.
+-- A jump stops the walk of a report that neither notifies nor leaves the discontinuity unsaid, and
+-- nothing else does.
 no_stop : (a b c : Bool) → c ≡ false → (c || (a && b && (false || not true))) ≡ false
 no_stop a b c h = rw (h, and-false) refl
 

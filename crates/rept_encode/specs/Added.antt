@@ -8,7 +8,8 @@ use Rattle.rept_encode.specs.declared.fault.StepFault.{StepFault}
 use Rattle.rept_encode.specs.declared.fault.StepFault.TheVariants.{NoStep, Full, OutOfMemory}
 use Rattle.rept_encode.specs.Walkable.{alignment_by, MayLead, IsStepped}
 
--- a step that is asked for: whether code may be compressed, the instruction where it stands, and the next address
+-- a step that is asked for: whether code may be compressed, the instruction where it stands, and
+-- the next address
 pub record AskedStep : Type 0 where
   pub halves : Bool
   pub site : Site
@@ -17,8 +18,9 @@ pub record AskedStep : Type 0 where
 abbrev pub asked_of : Bool → Site → ℕ → AskedStep
 asked_of halves site next = record { halves = halves; site = site; next = next }
 
--- A hart can make it: the instruction may lead there, stands where one may stand, and is short only where code may be compressed.
-pub record MayStep (asked : AskedStep) : Type 0 where
+-- A hart can make it: the instruction may lead there, stands where one may stand, and is short only
+-- where code may be compressed.
+pub record MayAddStep (asked : AskedStep) : Type 0 where
   pub lead : MayLead asked.halves (flow_of asked.site.instr) (record { at = asked.site.at; from = from_at asked.site.at asked.site.short; next = asked.next })
   pub aligned : asked.site.at % alignment_by asked.halves ≡ 0
   pub long : asked.halves ≡ false → asked.site.short ≡ false
@@ -39,6 +41,6 @@ pub record AddsStep (asked : AskedStep) (old new : List StepRow) : Type 0 where
 
 -- why it is not
 abbrev pub IsStepFault : AskedStep → List StepRow → StepFault → Type 0
-IsStepFault asked rows NoStep = MayStep asked → ⊥
+IsStepFault asked rows NoStep = MayAddStep asked → ⊥
 IsStepFault asked rows Full = length rows ≡ 65536
 IsStepFault asked rows OutOfMemory = Unit {0}

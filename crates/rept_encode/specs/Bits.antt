@@ -1,4 +1,5 @@
--- The branch bit of a row: 0 for a branch that was taken (Efficient Trace for RISC-V 2.0, the field branch_map).
+-- The branch bit of a row: 0 for a branch that was taken (Efficient Trace for RISC-V 2.0, the field
+-- branch_map).
 use Rattle.std.specs.Prelude.{ℕ, ◌==◌, Bool, true, false, not, List, [], ◌∷◌, if◌then◌else◌}
 use Rattle.rept_isa.specs.declared.row.StepRow.{StepRow}
 use Rattle.rept_isa.specs.Numbers.{plus}

@@ -27,8 +27,9 @@ use Rattle.rept_encode.specs.Walkable.{AreStraight, IsFirstJumpEnd}
 abbrev pub coded : Bool → Contents → Code
 coded halves contents = record { contents = contents; halves = halves }
 
--- The header says whether code may be compressed. In each such code that has the rows' instructions at their addresses, the path of the
--- trace from its first packet on to where the rows end is these rows, and no packet is skipped.
+-- The header says whether code may be compressed. In each such code that has the rows' instructions
+-- at their addresses, the path of the trace from its first packet on to where the rows end is these
+-- rows, and no packet is skipped.
 pub record TellsRows (halves : Bool) (trace : List ℕ) (rows : List StepRow) : Type 0 where
   pub rest : List ℕ
   pub layout : trace ≡ header halves ++ rest
@@ -52,8 +53,9 @@ abbrev pub AreReporting : List Packet → Type 0
 AreReporting [] = Unit {0}
 AreReporting (packet ∷ packets) = IsReporting packet × AreReporting packets
 
--- The packets, newest first, lead to the last of the rows, after all rows before it; and from where they leave the walk a gap leads over the last row to where it goes,
--- whatever the number of the next packet is.
+-- The packets, newest first, lead to the last of the rows, after all rows before it; and from where
+-- they leave the walk a gap leads over the last row to where it goes, whatever the number of the
+-- next packet is.
 pub record LeadsOver (code : Code) (packets : List Packet) (rows : List StepRow) : Type 0 where
   pub legs : List (List StepRow)
   pub route : Route code (alone 0) packets legs
@@ -61,8 +63,9 @@ pub record LeadsOver (code : Code) (packets : List Packet) (rows : List StepRow)
   pub all : rows ≡ reverse (last ∷ (place code packets legs).rows)
   pub cross : (s : Stand) (otherwise : PathFault) → s.bits ≡ bits code packets → s.place.at ≡ (place code packets legs).at → s.place.branches ≡ (place code packets legs).branches → length s.place.rows < s.room → gap code s (record { address = last.next; otherwise = otherwise }) ≡ Ok (last ∷ [])
 
--- The bytes are packets that follow the start packet at the first row, and no packet is lost. In each such code that has the rows' instructions, the packets with
--- the start packet lead to the last row. Where no row but the last is a call, each packet tells branches or an address.
+-- The bytes are packets that follow the start packet at the first row, and no packet is lost. In
+-- each such code that has the rows' instructions, the packets with the start packet lead to the
+-- last row. Where no row but the last is a call, each packet tells branches or an address.
 pub record TellsAfter (halves : Bool) (bytes : List ℕ) (rows : List StepRow) : Type 0 where
   pub first : StepRow
   pub begins : slice_get rows 0 ≡ Some first

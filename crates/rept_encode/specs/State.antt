@@ -1,4 +1,5 @@
--- What the writer keeps: packets that lead to a row, and how they stand in the text. These definitions speak of the code's own values.
+-- What the writer keeps: packets that lead to a row, and how they stand in the text. These
+-- definitions speak of the code's own values.
 use Rattle.std.specs.Prelude.{◌≡◌, ℕ, zero, suc, ◌+◌, ◌*◌, ◌%◌, ◌^◌, ◌<◌, ◌≤◌, List, [], ◌∷◌, ◌++◌, length, reverse, take, slice_get, Some, Ok, Bool, true, false, not, if◌then◌else◌}
 use Rattle.std.specs.List.{list_any}
 use Rattle.rept_path.specs.Code.{Code}
@@ -16,7 +17,7 @@ use Rattle.rept_path.specs.Moves.{Place, place_along}
 use Rattle.rept_path.specs.Route.{alone, Route, place, marked}
 use Rattle.rept_path.specs.Rows.{CarryCode}
 use Rattle.rept_path.specs.Trace.{starts, loses}
-use Rattle.rept_encode.specs.declared.bits.Bits.{Bits}
+use Rattle.rept_encode.specs.declared.bits.PendingBranches.{PendingBranches}
 use Rattle.rept_encode.specs.declared.sender.Sender.{Sender}
 use Rattle.rept_encode.specs.Bits.{passed, branch_row, count, bit_list}
 use Rattle.rept_encode.specs.Walkable.{alignment_by, calls, AreStraight, IsStepped, IsWalkable, IsJumpEnd}
@@ -35,7 +36,8 @@ pub record MovedRow (code : Code) (all : List Bool) (p : Place) (row : StepRow) 
   pub bit : branch_row row ≡ true → slice_get all p.branches ≡ Some (passed row)
   pub room : length p.rows < 65536
 
--- Each row is the step from the place after those before it, and none is an uninferable jump. Newest first.
+-- Each row is the step from the place after those before it, and none is an uninferable jump.
+-- Newest first.
 abbrev pub AreMoved : Code → List Bool → Place → List StepRow → Type 0
 AreMoved code all past [] = Unit {0}
 AreMoved code all past (row ∷ leg) = AreMoved code all past leg × MovedRow code all (place_along code past leg) row × (jumps_far (flow_of row.instr) ≡ false)
@@ -47,8 +49,9 @@ pub record StandsOnRoute (code : Code) (packets : List Packet) (legs : List (Lis
   pub plain : marked code packets legs ≡ false
   pub some : 0 < length packets
 
--- The packets lead to the place of a row, or so many rows before it: those rows are kept, and wait for further bits. The rows are all
--- that were executed before it. All lists are newest first, but for the bits.
+-- The packets lead to the place of a row, or so many rows before it: those rows are kept, and wait
+-- for further bits. The rows are all that were executed before it. All lists are newest first, but
+-- for the bits.
 pub record Coded (code : Code) (packets : List Packet) (wait : List Bool) (kept : List StepRow) (here : StepRow) (rows : List StepRow) : Type 0 where
   pub legs : List (List StepRow)
   pub stands : StandsOnRoute code packets legs
@@ -73,11 +76,11 @@ abbrev pub said : ℕ → Bool → Report
 said difference notify = record { difference = difference; notify = notify; updiscon = not notify; irreport = false }
 
 -- At most so many bits wait.
-pub record AreBits (b : Bits) (most : ℕ) : Type 0 where
+pub record AreBits (b : PendingBranches) (most : ℕ) : Type 0 where
   pub few : b.count ≤ most
   pub fits : b.map < 2 ^ b.count
 
-abbrev pub waiting_bits : Bits → List Bool
+abbrev pub waiting_bits : PendingBranches → List Bool
 waiting_bits b = low_bits b.count b.map
 
 -- rows, and whether their code may be compressed
@@ -88,8 +91,8 @@ pub record SentRows : Type 0 where
 abbrev pub sent_rows : Bool → List StepRow → SentRows
 sent_rows halves rows = record { halves = halves; rows = rows }
 
--- The text is the packets, newest first, but for the first one, the start packet at the first row. Where no row before this number is a call, each of them
--- tells branches or an address.
+-- The text is the packets, newest first, but for the first one, the start packet at the first row.
+-- Where no row before this number is a call, each of them tells branches or an address.
 pub record IsTextOfPackets (run : SentRows) (i : ℕ) (text : List ℕ) (packets : List Packet) : Type 0 where
   pub first : StepRow
   pub begins : slice_get run.rows 0 ≡ Some first
@@ -103,12 +106,14 @@ pub record HasRows (run : SentRows) (code : Code) : Type 0 where
   pub kind : code.halves ≡ run.halves
   pub placed : CarryCode code run.rows
 
--- The packets lead to row i, and from so many rows before it, in each code that has the rows' instructions.
-abbrev pub LeadTo : SentRows → List Packet → Bits → List StepRow → ℕ → Type 0
+-- The packets lead to row i, and from so many rows before it, in each code that has the rows'
+-- instructions.
+abbrev pub LeadTo : SentRows → List Packet → PendingBranches → List StepRow → ℕ → Type 0
 LeadTo run packets b kept i = (code : Code) (here : StepRow) → HasRows run code → slice_get run.rows i ≡ Some here → Coded code packets (waiting_bits b) kept here (reverse (take i run.rows))
 
--- What was sent where row i comes next. The walk that reads it stands at row `walked`. Row `base` is the last one up to row i that is a
--- branch, or that at which the walk stands; from there on no row is a call or an uninferable jump.
+-- What was sent where row i comes next. The walk that reads it stands at row `walked`. Row `base`
+-- is the last one up to row i that is a branch, or that at which the walk stands; from there on no
+-- row is a call or an uninferable jump.
 pub record Sent (run : SentRows) (i : ℕ) (s : Sender) : Type 0 where
   pub packets : List Packet
   pub text : IsTextOfPackets run i s.text packets
@@ -143,7 +148,7 @@ pub record IsBegunAt (s : Sender) (first : StepRow) : Type 0 where
   pub stands : StandsAt s first.at 0
 
 -- The report of an address was added, with these bits, after so much text and so an address.
-pub record IsReported (halves : Bool) (old : Sender) (b : Bits) (new : Sender) (to : ℕ) (notify : Bool) (n : ℕ) : Type 0 where
+pub record IsReported (halves : Bool) (old : Sender) (b : PendingBranches) (new : Sender) (to : ℕ) (notify : Bool) (n : ℕ) : Type 0 where
   pub difference : ℕ
   pub there : sum old.reported difference ≡ to
   pub text : Appends halves old.text new.text (report_packet b.count b.map (said difference notify))
@@ -151,7 +156,7 @@ pub record IsReported (halves : Bool) (old : Sender) (b : Bits) (new : Sender) (
 
 -- The report of a row's address was added, with the bits that wait and its own.
 pub record IsReportSent (halves : Bool) (old new : Sender) (next : StepRow) (notify : Bool) (n : ℕ) : Type 0 where
-  pub b : Bits
+  pub b : PendingBranches
   pub list : waiting_bits b ≡ waiting_bits old.bits ++ bit_list next
   pub report : IsReported halves old b new next.at notify n
 

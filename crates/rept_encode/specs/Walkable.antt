@@ -1,4 +1,5 @@
--- Rows that a hart can execute one after another, as far as their addresses tell (RISC-V unprivileged manual 20191213, chapters 1.5, 2.2,
+-- Rows that a hart can execute one after another, as far as their addresses tell (RISC-V
+-- unprivileged manual 20191213, chapters 1.5, 2.2,
 -- 2.5, 2.8 and 16). Whether code may be compressed is a Bool.
 use Rattle.std.specs.Prelude.{◌≡◌, ℕ, ◌+◌, ◌<◌, ◌≤◌, ◌%◌, Bool, true, false, List, length, slice_get, Some, ◌⊎◌, if◌then◌else◌}
 use Rattle.std.specs.List.{All}
@@ -13,8 +14,9 @@ use Rattle.rept_path.specs.Code.{flow_of, jumps_far}
 abbrev pub alignment_by : Bool → ℕ
 alignment_by halves = if halves then 2 else 4
 
--- An instruction with these addresses leads to the next one, for some values of the registers. An uninferable jump leads to each
--- address where an instruction may stand; a breakpoint leads nowhere.
+-- An instruction with these addresses leads to the next one, for some values of the registers. An
+-- uninferable jump leads to each address where an instruction may stand; a breakpoint leads
+-- nowhere.
 abbrev pub MayLead : Bool → Flow → Addresses → Type 0
 MayLead halves Plain a = a.next ≡ following a.from
 MayLead halves (Branch imm) a = (a.next ≡ plus a.at imm) ⊎ (a.next ≡ following a.from)
@@ -28,8 +30,8 @@ abbrev pub calls : Flow → Bool
 calls Call = true
 calls _ = false
 
--- The row stands where an instruction may stand, goes where its instruction may lead, and is marked as a call where it is one. It is short
--- only where code may be compressed.
+-- The row stands where an instruction may stand, goes where its instruction may lead, and is marked
+-- as a call where it is one. It is short only where code may be compressed.
 pub record IsStepped (halves : Bool) (row : StepRow) : Type 0 where
   pub aligned : row.at % alignment_by halves ≡ 0
   pub lead : MayLead halves (flow_of row.instr) (addresses_of row)

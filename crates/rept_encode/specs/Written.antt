@@ -1,5 +1,6 @@
--- The numbers whose bytes, the lowest first, are the payloads of packets (Efficient Trace for RISC-V 2.0, the tables of formats 3, 2 and
--- 1), and how payloads stand in a trace file. Past its fields a number goes on with copies of their last bit.
+-- The numbers whose bytes, the lowest first, are the payloads of packets (Efficient Trace for
+-- RISC-V 2.0, the tables of formats 3, 2 and 1), and how payloads stand in a trace file. Past its
+-- fields a number goes on with copies of their last bit.
 use Rattle.std.specs.Prelude.{◌≡◌, ◌≢◌, ℕ, ◌+◌, ◌-◌, ◌*◌, ◌/◌, ◌^◌, ◌<◌, ◌≤◌, nat_le, List, [], ◌∷◌, ◌++◌, length, take, slice_index, Bool, false, not, if◌then◌else◌}
 use Rattle.std.specs.Int.{w128, to_le_bytes}
 use Rattle.rept_trace.specs.declared.parameters.Parameters.{Parameters}
@@ -71,7 +72,8 @@ pub record Appends (halves : Bool) (old new : List ℕ) (packet : Packet) : Type
   pub spells : IsPacket (untimed halves) payload packet
   pub cut : IsPayloadCutShort payload
 
--- The bytes are these packets, each its length and its payload, sent in fields of these widths, and nothing else.
+-- The bytes are these packets, each its length and its payload, sent in fields of these widths, and
+-- nothing else.
 abbrev pub AreWritten : Parameters → List ℕ → List Packet → Type 0
 AreWritten widths bytes [] = bytes ≡ []
 AreWritten widths bytes (packet ∷ packets) = (payload : List ℕ) × (rest : List ℕ) × (bytes ≡ length payload ∷ (payload ++ rest)) × (0 < length payload) × IsPacket widths payload packet × AreWritten widths rest packets

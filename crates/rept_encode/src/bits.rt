@@ -9,17 +9,17 @@ use rept_isa::StepRow;
 
 /// Branch bits that wait to be sent: the low `count` bits of the map, the oldest the lowest.
 #[derive(Clone, Copy)]
-pub struct Bits {
+pub struct PendingBranches {
     pub count: u8,
     pub map: u32,
 }
 
 /// No bits.
-pub fn no_bits() -> Bits
+pub fn no_bits() -> PendingBranches
     ensures count { result.count ≡ 0 }
     ensures map { result.map ≡ 0 }
 {
-    Bits { count: 0, map: 0 }
+    PendingBranches { count: 0, map: 0 }
 }
 
 /// What the bit of this number is worth in a map.
@@ -31,7 +31,7 @@ fn worth(number: u8, set: bool) -> u32
 }
 
 /// The bits, and then that of the row if it is a branch.
-pub fn with_row(bits: Bits, row: &StepRow) -> Bits
+pub fn with_row(bits: PendingBranches, row: &StepRow) -> PendingBranches
     requires { AreBits bits 30 }
     ensures list { waiting_bits result ≡ waiting_bits bits ++ bit_list row.now }
     ensures few { AreBits result 31 }
@@ -41,7 +41,7 @@ pub fn with_row(bits: Bits, row: &StepRow) -> Bits
         return bits;
     }
     let worth = worth(bits.count, is_passed(row));
-    Bits {
+    PendingBranches {
         count: bits.count + 1,
         map: bits.map + worth,
     }

@@ -24,7 +24,8 @@ pub fn is_passed(row: &StepRow) -> bool
     }
 }
 
-/// The branch bit of a start packet at the row: false only where a branch stands there that was taken.
+/// The branch bit of a start packet at the row: false only where a branch stands there that was
+/// taken.
 pub fn start_bit(row: &StepRow) -> bool
     ensures { result ≡ start_bit row.now }
 {

@@ -24,7 +24,8 @@ fn copies(value: bool) -> u128
     if value { 0x7fff_ffff_ffff } else { 0 }
 }
 
-/// An address without its lowest bits, which aren't sent: one where code may be compressed, else two.
+/// An address without its lowest bits, which aren't sent: one where code may be compressed, else
+/// two.
 fn sent(halves: bool, address: u32) -> u128
     ensures number { result ≡ sent halves address }
     ensures below { result < 2 ^ 31 }
@@ -131,7 +132,8 @@ fn filler(before: u8) -> u8
     if before >= 128 { 255 } else { 0 }
 }
 
-/// A payload without the bytes at its end that are made of copies of the bit before them. It spells the same, whatever the widths of the fields are.
+/// A payload without the bytes at its end that are made of copies of the bit before them. It spells
+/// the same, whatever the widths of the fields are.
 pub fn cut(payload: &[u8]) -> &[u8]
     requires { 0 < length payload.now }
     ensures some { 0 < length result.now }

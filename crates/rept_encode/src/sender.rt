@@ -11,7 +11,7 @@ ghost use Rattle.rept_encode.specs.Encoded.{start_at};
 ghost use Rattle.rept_encode.specs.Walkable.{alignment_by};
 ghost use Rattle.rept_encode.specs.Written.{IsPacketSilent, Appends};
 
-use crate::bits::{Bits, no_bits, with_row};
+use crate::bits::{PendingBranches, no_bits, with_row};
 use crate::branch::{is_branch, start_bit};
 use crate::payload::push_packet;
 use rept_isa::StepRow;
@@ -27,16 +27,16 @@ pub struct Sender {
     /// The address that was reported last.
     pub reported: u32,
     /// The branch bits that wait.
-    pub bits: Bits,
+    pub bits: PendingBranches,
     /// The row at which a walk over the packets stands.
     pub walked: usize,
     /// The last row that is a branch, or the row at which the walk stands, if that is later.
     pub base: usize,
 }
 
-/// A report of an address that lies so far from the one before, with the bits. It notifies, or says that an uninferable jump
-/// led there.
-fn report_packet(bits: Bits, difference: u32, notify: bool) -> Packet
+/// A report of an address that lies so far from the one before, with the bits. It notifies, or says
+/// that an uninferable jump led there.
+fn report_packet(bits: PendingBranches, difference: u32, notify: bool) -> Packet
     requires { AreBits bits 31 }
     ensures packet { result ≡ report_packet bits.count bits.map (said difference notify) }
     ensures fits { (halves : Bool) → difference % alignment_by halves ≡ 0 → FieldsFit (untimed halves) result }

@@ -6,7 +6,7 @@ ghost use Rattle.rept_steps.specs.Linked.{EndBefore};
 ghost use Rattle.rept_isa.specs.Rows.{from_at};
 ghost use Rattle.rept_path.specs.Code.{flow_of};
 ghost use Rattle.rept_encode.specs.Walkable.{alignment_by, MayLead, IsStepped};
-ghost use Rattle.rept_encode.specs.Added.{AddsStep, IsAskedStep, IsStepFault, MayStep, asked_of};
+ghost use Rattle.rept_encode.specs.Added.{AddsStep, IsAskedStep, IsStepFault, MayAddStep, asked_of};
 
 use crate::fault::StepFault;
 use rept_isa::number::{following, plus};
@@ -14,7 +14,8 @@ use rept_isa::{Instr, StepRow, from_address, is_call};
 use rept_path::flow::{Flow, flow_of};
 use rept_steps::{PushFault, Steps};
 
-/// An instruction where it stands: its address, and whether it is the expansion of a compressed one, which takes two bytes.
+/// An instruction where it stands: its address, and whether it is the expansion of a compressed
+/// one, which takes two bytes.
 #[derive(Clone, Copy)]
 pub struct Site {
     pub at: u32,
@@ -53,11 +54,12 @@ fn may_stand(halves: bool, site: &Site) -> bool
     site.at % alignment(halves) == 0 && (halves || !site.short)
 }
 
-/// The step of an instruction to the next address, in code that may be compressed or may not. None exactly where the instruction can't lead
-/// there, stands at no multiple of 4 (of 2 where code may be compressed), or is short where code may not be compressed.
+/// The step of an instruction to the next address, in code that may be compressed or may not. None
+/// exactly where the instruction can't lead there, stands at no multiple of 4 (of 2 where code may
+/// be compressed), or is short where code may not be compressed.
 pub fn step_between(halves: bool, site: &Site, next: u32) -> Option<StepRow>
     ensures some { IfSome result (IsAskedStep (asked_of halves site.now next)) }
-    ensures none { IfNone result (MayStep (asked_of halves site.now next) → ⊥) }
+    ensures none { IfNone result (MayAddStep (asked_of halves site.now next) → ⊥) }
 {
     if !may_stand(halves, site) || !may_lead(halves, site, next) {
         return None;
@@ -73,9 +75,10 @@ pub fn step_between(halves: bool, site: &Site, next: u32) -> Option<StepRow>
     })
 }
 
-/// Adds the step of an instruction from where the steps end to the next address, in code that may be compressed or may not. `NoStep` comes
-/// exactly where the instruction can't lead there, stands at no multiple of 4 (of 2 where code may be compressed), or is short where code
-/// may not be compressed; `Full` where there are 65,536 steps. A refusal leaves the steps as they were.
+/// Adds the step of an instruction from where the steps end to the next address, in code that may
+/// be compressed or may not. `NoStep` comes exactly where the instruction can't lead there, stands
+/// at no multiple of 4 (of 2 where code may be compressed), or is short where code may not be
+/// compressed; `Full` where there are 65,536 steps. A refusal leaves the steps as they were.
 pub fn push_step(steps: &mut Steps, halves: bool, site: &Site, next: u32) -> Result<(), StepFault>
     requires steps { All (IsStepped halves) steps.old }
     requires ends { EndBefore steps.old site.now.at }

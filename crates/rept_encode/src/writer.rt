@@ -135,11 +135,13 @@ fn write_all(alloc: Global, halves: bool, rows: &[StepRow]) -> Result<Text, OutO
     Ok(trace)
 }
 
-/// A trace of the steps, as the bytes of a file: `rept_path::rebuild` reads it back as these steps, over each dump whose code has
-/// their instructions and whose program counter is where they end. `halves` says whether that code may be compressed: byte 5 of the header
-/// is 1 then, and addresses are sent with 31 bits in place of 30. There must be a step, and each must be one that a hart can make, short only
-/// where code may be compressed; `JumpEnds` comes exactly at the first call that directly follows an uninferable jump. Branches are sent 31 at
-/// a time, where nothing else need be told; payloads are cut short (Efficient Trace for RISC-V 2.0).
+/// A trace of the steps, as the bytes of a file: `rept_path::rebuild` reads it back as these steps,
+/// over each dump whose code has their instructions and whose program counter is where they end.
+/// `halves` says whether that code may be compressed: byte 5 of the header is 1 then, and addresses
+/// are sent with 31 bits in place of 30. There must be a step, and each must be one that a hart can
+/// make, short only where code may be compressed; `JumpEnds` comes exactly at the first call that
+/// directly follows an uninferable jump. Branches are sent 31 at a time, where nothing else need be
+/// told; payloads are cut short (Efficient Trace for RISC-V 2.0).
 pub fn encode(alloc: Global, halves: bool, steps: &Steps) -> Result<Text, EncodeFault>
     requires { IsWalkable halves steps.now }
     ensures tells { IfOk result (λ trace. TellsRows halves trace steps.now) }
@@ -157,8 +159,10 @@ pub fn encode(alloc: Global, halves: bool, steps: &Steps) -> Result<Text, Encode
     }
 }
 
-/// The packets of the steps after a start packet at the first one, for a writer of traces that sends the start packet itself. What `encode` asks for is asked for here, and what it
-/// refuses is refused. Where no step but the last is a call, no packet starts the trace or ends it, so that packets of such steps may follow one another in a stream.
+/// The packets of the steps after a start packet at the first one, for a writer of traces that
+/// sends the start packet itself. What `encode` asks for is asked for here, and what it refuses is
+/// refused. Where no step but the last is a call, no packet starts the trace or ends it, so that
+/// packets of such steps may follow one another in a stream.
 pub fn encode_after_start(alloc: Global, halves: bool, steps: &Steps) -> Result<Text, EncodeFault>
     requires { IsWalkable halves steps.now }
     ensures tells { IfOk result (λ bytes. TellsAfter halves bytes steps.now) }

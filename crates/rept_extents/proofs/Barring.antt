@@ -1,4 +1,4 @@
--- Which rows fall between a number that is before no row and each one that is next to it.
+-- Which rows may act between a number that is before no row and each one that is next to it.
 use mathlib.Core.Logic.{∥∥₁_elim}
 use Rattle.std.proofs.Props.{props}
 use Rattle.std.proofs.Common.{◌≡◌, ℕ, ◌&&◌, not, Bool, true, false, List, Option, Some, None, refl, sym, ap, ◌∙◌, subst}
@@ -11,9 +11,9 @@ use Rattle.rept_order.specs.Moments.Moment.{before}
 use Rattle.rept_reach.specs.Reaching.{IsBar}
 use Rattle.rept_course.specs.Names.{NoOwn}
 use Rattle.rept_course.specs.Numbered.{row_on}
-use Rattle.rept_course.proofs.Ends.{else_falls, ahead_back}
-use Rattle.rept_moments.specs.declared.course.Course.{Course}
-use Rattle.rept_moments.specs.declared.course.Course as courses
+use Rattle.rept_course.proofs.Ends.{else_may_act, ahead_back}
+use Rattle.rept_moments.specs.declared.course.NumberedRun.{NumberedRun}
+use Rattle.rept_moments.specs.declared.course.NumberedRun as courses
 use Rattle.rept_moments.specs.Numbers.{numbers_of, numbered}
 use Rattle.rept_moments.specs.Seen.{seen_many, IsRowAt}
 use Rattle.rept_moments.proofs.Apart.{are_numbers}
@@ -37,17 +37,18 @@ module _ (C : runs.Course) where
       let here : row_on C (point_of_row C r) ≡ r = row_point C r inside in
       none (point_of_row C r) (row_there C (row_on C (point_of_row C r)) (subst (λ (q : Row). IsRow C q) (sym here) inside)) (subst (λ (q : Row). (numbers_of C).name (before q) ≡ m) (sym here) before_is)
 
-  -- a row that may write, and is neither wholly before the number nor wholly after it, isn't wholly after a later one either
+  -- a row that may write, and is neither wholly before the number nor wholly after it, isn't wholly
+  -- after a later one either
   bar_sound : IsSoundCourse C → (i m : ℕ) → IsRowAt (seen_many C) m None → stores C (row_on C i) ≡ true → (numbered C).past i m ≡ false → (numbered C).ahead i m ≡ false → IsBar (numbered C) i m
   bar_sound sound i m none writes past ahead w next =
       let later : (numbered C).ahead i w ≡ false = not_so ((numbered C).ahead i w) (λ e. false≢true (sym ahead ∙ ahead_back C sound (numbers_of C) (are_numbers C sound) i m w writes next e)) in
-      sym (else_falls C sound (numbers_of C) (are_numbers C sound) m w i next (no_own m w none)) ∙ and_from (stores C (row_on C i)) (not ((numbered C).past i m) && not ((numbered C).ahead i w)) writes (and_from (not ((numbered C).past i m)) (not ((numbered C).ahead i w)) (ap not past) (ap not later))
+      sym (else_may_act C sound (numbers_of C) (are_numbers C sound) m w i next (no_own m w none)) ∙ and_from (stores C (row_on C i)) (not ((numbered C).past i m) && not ((numbered C).ahead i w)) writes (and_from (not ((numbered C).past i m)) (not ((numbered C).ahead i w)) (ap not past) (ap not later))
 
   -- that the course is sound may be a mere fact
   pub bar_is : ∥ IsSoundCourse C ∥₁ → (i m : ℕ) → IsRowAt (seen_many C) m None → stores C (row_on C i) ≡ true → (numbered C).past i m ≡ false → (numbered C).ahead i m ≡ false → IsBar (numbered C) i m
   bar_is t i m none writes past ahead w next = ∥∥₁_elim t (hlevel props) (λ sound. bar_sound sound i m none writes past ahead w next)
 
 -- a course whose rows that may write are listed is sound
-pub listed_sound : (c : Course) (list : List ℕ) → ∥ AreListed c list ∥₁ → ∥ IsSoundIn c ∥₁
+pub listed_sound : (c : NumberedRun) (list : List ℕ) → ∥ AreListed c list ∥₁ → ∥ IsSoundIn c ∥₁
 listed_sound (courses.TheVariants.One steps) list t = ∣ tt ∣₁
 listed_sound (courses.TheVariants.Many many) list t = sound_of many list t

@@ -3,27 +3,27 @@ use Rattle.std.proofs.Common.{◌/◌, ◌%◌, ◌*◌, ◌+◌, ◌^◌, ◌-�
 use Rattle.std.proofs.Math.Nat.{div-mul-le_self, lt-div-mul-add, div-lt_iff_lt-mul, le-div_iff_mul-le, pow-suc, mul_assoc, mul_comm, add-mul}
 use Rattle.std.proofs.lemmas.Bool.{cases_lt}
 use Rattle.std.proofs.lemmas.List.{get_or_append_left, get_or_push, get_or_past}
-use Rattle.rept_extents.specs.declared.hulls.Hull.{Hull}
+use Rattle.rept_extents.specs.declared.hulls.Bounds.{Bounds}
 use Rattle.rept_extents.specs.Hulls.{LiesIn, LieIn, AreBlocks, AreLevels}
 
 -- one block more
-module _ (list : List (Option Hull)) (blocks : List (Option Hull)) (h : Option Hull) where
-  pub blocks_more : (n : ℕ) → length blocks ≡ n → AreBlocks 4 blocks list → ((outer : Hull) → LiesIn h outer → LieIn list (record { from = n * 4; to = n * 4 + 4; outer = outer })) → AreBlocks 4 (blocks ++ h ∷ []) list
+module _ (list : List (Option Bounds)) (blocks : List (Option Bounds)) (h : Option Bounds) where
+  pub blocks_more : (n : ℕ) → length blocks ≡ n → AreBlocks 4 blocks list → ((outer : Bounds) → LiesIn h outer → LieIn list (record { from = n * 4; to = n * 4 + 4; outer = outer })) → AreBlocks 4 (blocks ++ h ∷ []) list
   blocks_more n count known new b outer lies =
       elim (cases_lt b n) [
-        | inl below ↦ known b outer (subst (λ (o : Option Hull). LiesIn o outer) (get_or_append_left blocks (h ∷ []) None b (omega arith)) lies)
+        | inl below ↦ known b outer (subst (λ (o : Option Bounds). LiesIn o outer) (get_or_append_left blocks (h ∷ []) None b (omega arith)) lies)
         | inr past ↦
             elim (cases_lt n b) [
-              | inl over ↦ absurd (subst (λ (o : Option Hull). LiesIn o outer) (get_or_past (blocks ++ h ∷ []) b None (omega (arith, length-append blocks (h ∷ [])))) lies)
+              | inl over ↦ absurd (subst (λ (o : Option Bounds). LiesIn o outer) (get_or_past (blocks ++ h ∷ []) b None (omega (arith, length-append blocks (h ∷ [])))) lies)
               | inr under ↦
                   let same : n ≡ b = omega arith in
-                  let here : LiesIn h outer = subst (λ (o : Option Hull). LiesIn o outer) (get_or_push blocks h None b (count ∙ same)) lies in
+                  let here : LiesIn h outer = subst (λ (o : Option Bounds). LiesIn o outer) (get_or_push blocks h None b (count ∙ same)) lies in
                   subst (λ (k : ℕ). LieIn list (record { from = k * 4; to = k * 4 + 4; outer = outer })) same (new outer here)
             ]
       ]
 
 -- blocks of four blocks are blocks of four times as many numbers
-module _ (above blocks list : List (Option Hull)) (size : ℕ) (some : 0 < size) where
+module _ (above blocks list : List (Option Bounds)) (size : ℕ) (some : 0 < size) where
   pub blocks_of_blocks : AreBlocks 4 above blocks → AreBlocks size blocks list → AreBlocks (4 * size) above list
   blocks_of_blocks wide known w outer lies k from to =
       let same : w * 4 * size ≡ w * (4 * size) = mul_assoc w 4 size in
@@ -80,17 +80,17 @@ begins_below index size from whole begins =
     begins ∙ ap (λ (s : ℕ). index * s) (sym whole ∙ mul_comm (size / 4) 4) ∙ sym (mul_assoc index 4 (size / 4))
 
 -- what the bounds of a block of a level lie within, those of each of its numbers lie within
-pub of_level : (levels : List (List (Option Hull))) (list : List (Option Hull)) (n index size from : ℕ) (outer : Hull) → AreLevels levels list → size ≡ 4 ^ n → from ≡ index * size → LiesIn (slice_index_or (slice_index_or levels n []) index None) outer → LieIn list (record { from = from; to = from + size; outer = outer })
+pub of_level : (levels : List (List (Option Bounds))) (list : List (Option Bounds)) (n index size from : ℕ) (outer : Bounds) → AreLevels levels list → size ≡ 4 ^ n → from ≡ index * size → LiesIn (slice_index_or (slice_index_or levels n []) index None) outer → LieIn list (record { from = from; to = from + size; outer = outer })
 of_level levels list n index size from outer known sized begins lies k since before =
     let same : index * size ≡ index * 4 ^ n = ap (λ (s : ℕ). index * s) sized in
     known n index outer lies k (omega (arith, same, begins, since)) (omega (arith, same, begins, sized, before))
 
 -- one level more
-module _ (levels : List (List (Option Hull))) (hulls next list : List (Option Hull)) (wide : AreBlocks 4 next hulls) (known : AreLevels (levels ++ hulls ∷ []) list) where
+module _ (levels : List (List (Option Bounds))) (hulls next list : List (Option Bounds)) (wide : AreBlocks 4 next hulls) (known : AreLevels (levels ++ hulls ∷ []) list) where
   next_is : (n : ℕ) → n ≡ length levels + 1 → AreBlocks (4 ^ n) next list
   next_is n last =
       let m : ℕ = length levels in
-      let here : AreBlocks (4 ^ m) hulls list = subst (λ (xs : List (Option Hull)). AreBlocks (4 ^ m) xs list) (get_or_push levels hulls [] m refl) (known m) in
+      let here : AreBlocks (4 ^ m) hulls list = subst (λ (xs : List (Option Bounds)). AreBlocks (4 ^ m) xs list) (get_or_push levels hulls [] m refl) (known m) in
       let size : 4 * 4 ^ m ≡ 4 ^ n = mul_comm 4 (4 ^ m) ∙ size_above m (4 ^ m) refl ∙ ap (λ (i : ℕ). 4 ^ i) (sym last) in
       subst (λ (s : ℕ). AreBlocks s next list) size (blocks_of_blocks next hulls list (4 ^ m) (omega (arith, level_below m)) wide here)
 
@@ -98,15 +98,15 @@ module _ (levels : List (List (Option Hull))) (hulls next list : List (Option Hu
   level_more n =
       let count : length (levels ++ hulls ∷ []) ≡ length levels + 1 = omega (arith, length-append levels (hulls ∷ [])) in
       elim (cases_lt n (length levels + 1)) [
-        | inl below ↦ subst (λ (xs : List (Option Hull)). AreBlocks (4 ^ n) xs list) (sym (get_or_append_left (levels ++ hulls ∷ []) (next ∷ []) [] n (omega (arith, count, below)))) (known n)
+        | inl below ↦ subst (λ (xs : List (Option Bounds)). AreBlocks (4 ^ n) xs list) (sym (get_or_append_left (levels ++ hulls ∷ []) (next ∷ []) [] n (omega (arith, count, below)))) (known n)
         | inr past ↦
             elim (cases_lt (length levels + 1) n) [
               | inl over ↦ λ b outer lies.
                   let none : slice_index_or ((levels ++ hulls ∷ []) ++ next ∷ []) n [] ≡ [] = get_or_past ((levels ++ hulls ∷ []) ++ next ∷ []) n [] (omega (arith, count, over, length-append (levels ++ hulls ∷ []) (next ∷ []))) in
-                  absurd (subst (λ (o : Option Hull). LiesIn o outer) (get_or_past [] b None (omega arith)) (subst (λ (xs : List (Option Hull)). LiesIn (slice_index_or xs b None) outer) none lies))
+                  absurd (subst (λ (o : Option Bounds). LiesIn o outer) (get_or_past [] b None (omega arith)) (subst (λ (xs : List (Option Bounds)). LiesIn (slice_index_or xs b None) outer) none lies))
               | inr under ↦
                   let last : n ≡ length levels + 1 = omega (arith, past, under) in
-                  subst (λ (xs : List (Option Hull)). AreBlocks (4 ^ n) xs list) (sym (get_or_push (levels ++ hulls ∷ []) next [] n (omega (arith, count, last)))) (next_is n last)
+                  subst (λ (xs : List (Option Bounds)). AreBlocks (4 ^ n) xs list) (sym (get_or_push (levels ++ hulls ∷ []) next [] n (omega (arith, count, last)))) (next_is n last)
             ]
       ]
 

@@ -1,5 +1,5 @@
 mod Barring
 mod Bounds
 mod Coming
-mod Falling
+mod Acting
 pub mod Going

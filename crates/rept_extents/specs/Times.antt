@@ -1,4 +1,5 @@
--- Before which times the moments of numbers don't come, and before which they do. This project's own.
+-- Before which times the moments of numbers don't come, and before which they do. This project's
+-- own.
 use Rattle.std.specs.Prelude.{◌≡◌, ℕ, suc, ◌+◌, ◌≤◌, ◌<◌, List, Option, Some, None, slice_get}
 use Rattle.rept_steps.specs.declared.slice.Slice.{Slice}
 use Rattle.rept_steps.specs.Course.{Course}
@@ -33,7 +34,8 @@ AllFrom C low count time = (j : ℕ) → low ≤ j → j < count → ComesFrom C
 abbrev pub AllBefore : Course → ℕ → ℕ → Type 0
 AllBefore C high time = (j : ℕ) → j < high → ComesBefore C ((numbers_of C).last j) time
 
--- for the last number below a count, the last two, and so on, a time before which none of their moments comes
+-- for the last number below a count, the last two, and so on, a time before which none of their
+-- moments comes
 abbrev pub AreBegins : Course → ℕ → List ℕ → Type 0
 AreBegins C count list = (k low time : ℕ) → slice_get list k ≡ Some time → low + suc k ≡ count → AllFrom C low count time
 

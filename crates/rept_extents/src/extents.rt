@@ -1,4 +1,4 @@
-//! Between which numbers each row falls.
+//! Between which numbers each row may act.
 
 ghost use Rattle.std.specs.Prelude.{◌≡◌, ◌≤◌, ◌<◌, ℕ, true, length, IfOk, IsSome};
 ghost use Rattle.rept_steps.specs.Course.{IsSoundCourse};
@@ -13,24 +13,25 @@ ghost use Rattle.rept_extents.specs.Times.{AreBegins, AreEndTimes};
 ghost use Rattle.rept_extents.specs.Extents.{AreExtents};
 
 use crate::times::{begins, ends, first_after, first_reaching, slice_end};
-use rept_moments::{Course, Many, Place};
+use rept_moments::{Many, NumberedRun, PointOfThread};
 use rept_order::{Edge, Order};
-use rept_reach::Window;
+use rept_reach::NumberWindow;
 use rept_steps::Run;
 use std::alloc::{AllocError as OutOfMemory, Global};
 use std::marker::Model;
 
-/// The numbers between which each row of several threads falls, by the points that rows lead from; of one thread alone none are kept.
+/// The numbers between which each row of several threads may act, by the points that rows lead
+/// from; of one thread alone none are kept.
 #[derive(Drop)]
 pub struct Extents {
-    windows: Vec<Window>,
+    windows: Vec<NumberWindow>,
 }
 
 impl Model for Extents {
     ghost use Rattle.std.specs.Prelude.{List};
-    ghost use Rattle.rept_reach.specs.declared.reaches.Window.{Window};
+    ghost use Rattle.rept_reach.specs.declared.reaches.NumberWindow.{NumberWindow};
 
-    ghost Value = { List Window };
+    ghost Value = { List NumberWindow };
 
     ghost view = { λ e. e.windows.items };
 }
@@ -44,7 +45,7 @@ fn from(order: Order<'_>, many: &Many<'_>, ends: &[u64], row: u32) -> u32
     requires few { length ends.now ≤ (seen_of many.now).moments.end }
     ensures { (j : ℕ) → j < result → (seen_of many.now).moments.ahead row j ≡ true }
 {
-    let Place { thread, step } = many.place(row);
+    let PointOfThread { thread, step } = many.place(row);
     let begin = order.begin(Edge {
         thread,
         step,
@@ -62,7 +63,7 @@ fn to(order: Order<'_>, many: &Many<'_>, begins: &[u64], row: u32) -> u32
     requires few { length begins.now ≤ (seen_of many.now).moments.end }
     ensures { (j : ℕ) → result ≤ j → j ≤ (seen_of many.now).moments.end → (seen_of many.now).moments.past row j ≡ true }
 {
-    let Place { thread, step } = many.place(row);
+    let PointOfThread { thread, step } = many.place(row);
     let last = Edge {
         thread,
         step,
@@ -74,8 +75,8 @@ fn to(order: Order<'_>, many: &Many<'_>, begins: &[u64], row: u32) -> u32
     }
 }
 
-/// The numbers between which a row falls, if one leads from the point.
-fn window(order: Order<'_>, many: &Many<'_>, begins: &[u64], ends: &[u64], row: u32) -> Window
+/// The numbers between which a row may act, if one leads from the point.
+fn window(order: Order<'_>, many: &Many<'_>, begins: &[u64], ends: &[u64], row: u32) -> NumberWindow
     requires sound { IsSoundCourse (course_in order) }
     requires course { many.now ≡ course_in order }
     requires begins { AreBegins many.now (seen_of many.now).moments.end begins.now }
@@ -87,14 +88,18 @@ fn window(order: Order<'_>, many: &Many<'_>, begins: &[u64], ends: &[u64], row: 
     if many.stores(row) {
         let from = from(order, many, ends, row);
         let to = to(order, many, begins, row);
-        Window { from, to }
+        NumberWindow { from, to }
     } else {
-        Window { from: 0, to: 0 }
+        NumberWindow { from: 0, to: 0 }
     }
 }
 
 /// Those of all rows of several threads.
-fn windows(alloc: Global, order: Order<'_>, many: &Many<'_>) -> Result<Vec<Window>, OutOfMemory>
+fn windows(
+    alloc: Global,
+    order: Order<'_>,
+    many: &Many<'_>,
+) -> Result<Vec<NumberWindow>, OutOfMemory>
     requires sound { IsSoundCourse (course_in order) }
     requires course { many.now ≡ course_in order }
     ensures { IfOk result (λ v. AreExtents (as_timeline (seen_of many.now)) v.items) }
@@ -109,40 +114,41 @@ fn windows(alloc: Global, order: Order<'_>, many: &Many<'_>) -> Result<Vec<Windo
 }
 
 impl Extents {
-    /// Those of a course, which must be that of a sound run. It takes memory for one entry a point, and while they are made for two a number; of one thread alone none.
-    pub fn new(alloc: Global, run: &Run, course: &Course<'_>) -> Result<Extents, OutOfMemory>
+    /// Those of a course, which must be that of a sound run. It takes memory for one entry a point,
+    /// and while they are made for two a number; of one thread alone none.
+    pub fn new(alloc: Global, run: &Run, course: &NumberedRun<'_>) -> Result<Extents, OutOfMemory>
         requires sound { IsSoundCourse (course_of run.now) }
         requires course { IsCourseOf (course_of run.now) course.now }
         ensures { IfOk result (λ e. AreExtents (time_of course.now) e) }
     {
         match course {
-            Course::One { .. } => Ok(Extents {
+            NumberedRun::One { .. } => Ok(Extents {
                 windows: Vec::new(alloc),
             }),
-            Course::Many(many) => Ok(Extents {
+            NumberedRun::Many(many) => Ok(Extents {
                 windows: windows(alloc, Order::new(run), many)?,
             }),
         }
     }
 
-    /// The numbers between which a row falls.
-    pub fn of(&self, course: &Course<'_>, row: u32) -> Window
+    /// The numbers between which a row may act.
+    pub fn of(&self, course: &NumberedRun<'_>, row: u32) -> NumberWindow
         requires extents { ∥ AreExtents (time_of course.now) self.now ∥₁ }
         requires laws { IsTimeline (time_of course.now) }
         requires row { IsSome ((time_of course.now).legs.row row) }
         ensures { IsExtent (time_of course.now).moments row result }
     {
         match course {
-            Course::One { .. } => Window {
+            NumberedRun::One { .. } => NumberWindow {
                 from: row + 1,
                 to: row + 1,
             },
-            Course::Many(many) => self.among(many, row),
+            NumberedRun::Many(many) => self.among(many, row),
         }
     }
 
-    /// Those between which a row of several threads falls.
-    fn among(&self, many: &Many<'_>, row: u32) -> Window
+    /// Those between which a row of several threads may act.
+    fn among(&self, many: &Many<'_>, row: u32) -> NumberWindow
         requires extents { ∥ AreExtents (as_timeline (seen_of many.now)) self.now ∥₁ }
         requires laws { IsTimeline (as_timeline (seen_of many.now)) }
         requires row { IsSome ((seen_of many.now).legs.row row) }
@@ -150,7 +156,7 @@ impl Extents {
     {
         match self.windows.get(row as usize) {
             Some(window) => *window,
-            None => Window {
+            None => NumberWindow {
                 from: 0,
                 to: many.end() + 1,
             },

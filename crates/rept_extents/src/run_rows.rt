@@ -8,13 +8,13 @@ ghost use Rattle.rept_timeline.specs.Times.{time_of};
 ghost use Rattle.rept_extents.specs.Extents.{AreExtents};
 ghost use Rattle.rept_extents.specs.Tables.{AreTables};
 
-use crate::bars::bars;
 use crate::extents::Extents;
-use crate::reaches::Tables;
+use crate::reaches::NextTables;
+use crate::surely_blocks::surely_blocks;
 use rept_isa::StepRow;
-use rept_reach::{Reaches, Window};
+use rept_reach::{NumberWindow, Reaches};
 use rept_report::Paths;
-use rept_report::paths::{Line, Strip};
+use rept_report::paths::{NumberChain, Strip};
 use rept_steps::Run;
 use rept_timeline::RunPaths;
 use std::alloc::{AllocError as OutOfMemory, Global};
@@ -24,14 +24,15 @@ use std::alloc::{AllocError as OutOfMemory, Global};
 pub struct RunRows<'a> {
     paths: &'a RunPaths<'a>,
     extents: Extents,
-    tables: Tables,
+    tables: NextTables,
     ghost extended: { ∥ AreExtents (time_of paths.now.ways) extents ∥₁ },
     ghost tabled: { ∥ AreTables (time_of paths.now.ways).moments tables ∥₁ },
 }
 
 impl<'a> RunRows<'a> {
-    /// Those of these paths, which are the paths of this run. The run must be sound. Of one thread in one slice, all of which is told, it takes no memory; else memory for
-    /// one entry a point and for a few a number.
+    /// Those of these paths, which are the paths of this run. The run must be sound. Of one thread
+    /// in one slice, all of which is told, it takes no memory; else memory for one entry a point
+    /// and for a few a number.
     pub fn new(
         alloc: Global,
         run: &Run,
@@ -42,7 +43,7 @@ impl<'a> RunRows<'a> {
         ensures { IfOk result (λ r. r.paths.now ≡ paths.now) }
     {
         let extents = Extents::new(alloc, run, paths.ways().course())?;
-        let tables = Tables::new(alloc, paths.ways())?;
+        let tables = NextTables::new(alloc, paths.ways())?;
         Ok(RunRows {
             paths,
             extents,
@@ -95,7 +96,7 @@ impl<'a> Paths for RunRows<'a> {
         self.paths.row_to(number, least)
     }
 
-    fn line_of(&self, number: u32) -> Line {
+    fn line_of(&self, number: u32) -> NumberChain {
         self.paths.line_of(number)
     }
 
@@ -111,12 +112,12 @@ impl<'a> Paths for RunRows<'a> {
         self.paths.former_from(number, least)
     }
 
-    fn falling_from(&self, number: u32, next: u32, least: u32) -> Option<u32> {
-        self.paths.falling_from(number, next, least)
+    fn acting_from(&self, number: u32, next: u32, least: u32) -> Option<u32> {
+        self.paths.acting_from(number, next, least)
     }
 
-    fn is_dark_between(&self, number: u32, next: u32) -> bool {
-        self.paths.is_dark_between(number, next)
+    fn is_untraced_between(&self, number: u32, next: u32) -> bool {
+        self.paths.is_untraced_between(number, next)
     }
 
     fn open_from(&self, number: u32, least: u32) -> Option<u32> {
@@ -143,41 +144,41 @@ impl<'a> Paths for RunRows<'a> {
         self.paths.is_later(row, other)
     }
 
-    fn is_dark(&self) -> bool {
-        self.paths.is_dark()
+    fn is_untraced(&self) -> bool {
+        self.paths.is_untraced()
     }
 
-    fn is_dark_past(&self, number: u32) -> bool {
-        self.paths.is_dark_past(number)
+    fn is_untraced_past(&self, number: u32) -> bool {
+        self.paths.is_untraced_past(number)
     }
 
-    fn is_dark_before(&self, row: u32) -> bool {
-        self.paths.is_dark_before(row)
+    fn is_untraced_before(&self, row: u32) -> bool {
+        self.paths.is_untraced_before(row)
     }
 }
 
 impl<'a> Reaches for RunRows<'a> {
-    fn falls(&self, row: u32, number: u32, next: u32) -> bool {
-        self.paths.ways().course().falls(row, number, next)
+    fn may_act(&self, row: u32, number: u32, next: u32) -> bool {
+        self.paths.ways().course().may_act(row, number, next)
     }
 
-    fn bars(&self, row: u32, number: u32) -> bool {
-        bars(self.paths.ways().course(), row, number)
+    fn surely_blocks(&self, row: u32, number: u32) -> bool {
+        surely_blocks(self.paths.ways().course(), row, number)
     }
 
-    fn extent(&self, row: u32) -> Window {
+    fn extent(&self, row: u32) -> NumberWindow {
         self.extents.of(self.paths.ways().course(), row)
     }
 
-    fn leaving_from(&self, least: u32, known: Window) -> u32 {
+    fn leaving_from(&self, least: u32, known: NumberWindow) -> u32 {
         self.tables.leaving_from(least, known)
     }
 
-    fn reached_up(&self, known: Window, most: u32) -> u32 {
+    fn reached_up(&self, known: NumberWindow, most: u32) -> u32 {
         self.tables.up(known, most)
     }
 
-    fn reached_down(&self, known: Window, least: u32) -> u32 {
+    fn reached_down(&self, known: NumberWindow, least: u32) -> u32 {
         self.tables.down(known, least)
     }
 }

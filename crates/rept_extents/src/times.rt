@@ -34,7 +34,8 @@ fn begin_at(order: Order<'_>, moment: Moment) -> u64
     }
 }
 
-/// The end of the slice in which a row's first event happens, or its last one, if it happens in one.
+/// The end of the slice in which a row's first event happens, or its last one, if it happens in
+/// one.
 pub fn slice_end(order: Order<'_>, edge: Edge) -> Option<u64>
     requires { IsSoundCourse (course_in order) }
     ensures { IfSome result (λ time. EndsBefore (event_slice (course_in order.entry) (edge_event (course_in order.entry) edge)) (suc time)) }
@@ -71,7 +72,8 @@ fn end_at(order: Order<'_>, moment: Moment) -> Option<u64>
     }
 }
 
-/// For the last number before the end, the last two, and so on, a time before which none of their moments comes: the least of their begins.
+/// For the last number before the end, the last two, and so on, a time before which none of their
+/// moments comes: the least of their begins.
 pub fn begins(alloc: Global, order: Order<'_>, many: &Many<'_>) -> Result<Vec<u64>, OutOfMemory>
     requires sound { IsSoundCourse (course_in order) }
     requires course { many.now ≡ course_in order }
@@ -89,7 +91,8 @@ pub fn begins(alloc: Global, order: Order<'_>, many: &Many<'_>) -> Result<Vec<u6
     Ok(list)
 }
 
-/// For the first number, the first two, and so on, a time up to which all their moments come: the greatest of the ends of their slices, as far as each is in one.
+/// For the first number, the first two, and so on, a time up to which all their moments come: the
+/// greatest of the ends of their slices, as far as each is in one.
 pub fn ends(alloc: Global, order: Order<'_>, many: &Many<'_>) -> Result<Vec<u64>, OutOfMemory>
     requires sound { IsSoundCourse (course_in order) }
     requires course { many.now ≡ course_in order }
@@ -108,7 +111,8 @@ pub fn ends(alloc: Global, order: Order<'_>, many: &Many<'_>) -> Result<Vec<u64>
     Ok(list)
 }
 
-/// How many of the first of a list whose last one lies on a side of a time, found by halves: less than it, it, or greater.
+/// How many of the first of a list whose last one lies on a side of a time, found by halves: less
+/// than it, it, or greater.
 fn count_to(times: &[u64], time: u64, side: Ordering) -> usize
     ensures few { result ≤ length times.now }
     ensures last { (k t : ℕ) → result ≡ suc k → slice_get times.now k ≡ Some t → MatchOrdering side (t < time) (t ≡ time) (time < t) }

@@ -1,4 +1,5 @@
--- A run that is one path, of one thread in one slice, all of which is told: it has the setting of that path, and the same is shown of it.
+-- A run that is one path, of one thread in one slice, all of which is told: it has the setting of
+-- that path, and the same is shown of it.
 use Rattle.std.proofs.Common.{◌≡◌, ℕ, zero, suc, ◌<◌, List, [], ◌∷◌, length, Option, None, Some, refl, sym, ap, ◌∙◌, subst, arith}
 use mathlib.Core.Path.{fun_ext}
 use Rattle.rept_elf.specs.Segments.{ElfSegment}
@@ -28,22 +29,22 @@ none_some e = cc
 
 -- one thread with these rows in this slice
 abbrev in_slice : List StepRow → Slice → Course
-in_slice rows s = record { threads = record { steps = rows; slices = s ∷ [] } ∷ []; dark = None }
+in_slice rows s = record { threads = record { steps = rows; slices = s ∷ [] } ∷ []; untraced = None }
 
-by_slices : (own : List StepRow) (slices : List Slice) (rows : List StepRow) → rows_in slices own ≡ Some rows → (s : Slice) × (◌≡◌ {A = Course} (record { threads = record { steps = own; slices = slices } ∷ []; dark = None }) (in_slice rows s))
+by_slices : (own : List StepRow) (slices : List Slice) (rows : List StepRow) → rows_in slices own ≡ Some rows → (s : Slice) × (◌≡◌ {A = Course} (record { threads = record { steps = own; slices = slices } ∷ []; untraced = None }) (in_slice rows s))
 by_slices own [] rows e = absurd (none_some e)
 by_slices own (s ∷ []) rows e = (s, ap (λ (xs : List StepRow). in_slice xs s) (same_rows e))
 by_slices own (s ∷ u ∷ slices) rows e = absurd (none_some e)
 
-by_threads : (threads : List ThreadRows) (dark : Option ℕ) (rows : List StepRow) → alone_by threads dark ≡ Some rows → (s : Slice) × (◌≡◌ {A = Course} (record { threads = threads; dark = dark }) (in_slice rows s))
-by_threads [] dark rows e = absurd (none_some e)
+by_threads : (threads : List ThreadRows) (untraced : Option ℕ) (rows : List StepRow) → alone_by threads untraced ≡ Some rows → (s : Slice) × (◌≡◌ {A = Course} (record { threads = threads; untraced = untraced }) (in_slice rows s))
+by_threads [] untraced rows e = absurd (none_some e)
 by_threads (thread ∷ []) None rows e = by_slices thread.steps thread.slices rows e
 by_threads (thread ∷ []) (Some d) rows e = absurd (none_some e)
-by_threads (thread ∷ other ∷ threads) dark rows e = absurd (none_some e)
+by_threads (thread ∷ other ∷ threads) untraced rows e = absurd (none_some e)
 
 -- so it is such a thread
-is_in_slice : (C : Course) (rows : List StepRow) → alone_by C.threads C.dark ≡ Some rows → (s : Slice) × (C ≡ in_slice rows s)
-is_in_slice C rows e = by_threads C.threads C.dark rows e
+is_in_slice : (C : Course) (rows : List StepRow) → alone_by C.threads C.untraced ≡ Some rows → (s : Slice) × (C ≡ in_slice rows s)
+is_in_slice C rows e = by_threads C.threads C.untraced rows e
 
 module _ {W : Type 0} (m : Means W) (rows : List StepRow) where
   -- in whichever slice it ran, its last values are those of the first note
@@ -81,12 +82,12 @@ module _ {W : Type 0} (m : Means W) (rows : List StepRow) where
       ∙ ap (λ (f : ℕ → ℕ). with all all.rows f one.place) (fun_ext (λ t. first_so s (whole_slice (length rows)) t))
       ∙ ap (λ (p : ℕ → ThreadPlace). with all all.rows all.first p) (fun_ext (λ k. place_so s (whole_slice (length rows)) k))
 
-  pub alone_setting : (crash : Crash) (C : Course) → alone_by C.threads C.dark ≡ Some rows → 0 < length crash.notes → setting m crash C ≡ path_setting (path_of m crash rows)
+  pub alone_setting : (crash : Crash) (C : Course) → alone_by C.threads C.untraced ≡ Some rows → 0 < length crash.notes → setting m crash C ≡ path_setting (path_of m crash rows)
   alone_setting crash C e some =
       let its = is_in_slice C rows e in
       subst (λ (D : Course). setting m crash D ≡ path_setting (path_of m crash rows)) (sym its.1) (setting_so crash.exe crash.core crash.notes its.0 some)
 
-  pub alone_shown : (crash : Crash) (C : Course) (K : Knowledge) (scene : Scene) → alone_by C.threads C.dark ≡ Some rows → 0 < length crash.notes → shown_on (route m crash C) K scene ≡ shown_of (path_of m crash rows) K scene
+  pub alone_shown : (crash : Crash) (C : Course) (K : Knowledge) (scene : Scene) → alone_by C.threads C.untraced ≡ Some rows → 0 < length crash.notes → shown_on (route m crash C) K scene ≡ shown_of (path_of m crash rows) K scene
   alone_shown crash C K scene e some =
       let its = is_in_slice C rows e in
       subst (λ (D : Course). shown_on (route m crash D) K scene ≡ shown_of (path_of m crash rows) K scene) (sym its.1) (shown_so crash.exe crash.core crash.notes its.0 K scene some)

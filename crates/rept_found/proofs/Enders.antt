@@ -1,4 +1,5 @@
--- The thread of a point, found thread by thread, and the values that registers have at the ends of threads.
+-- The thread of a point, found thread by thread, and the values that registers have at the ends of
+-- threads.
 use Rattle.std.proofs.Common.{◌≡◌, ℕ, zero, suc, ◌+◌, ◌-◌, ◌<◌, ◌≤◌, nat_lt, List, [], ◌∷◌, ◌++◌, length, Option, Some, None, slice_get, unwrap_or, inl, inr, refl, sym, ap, ◌∙◌, subst, arith, length-append}
 use Rattle.std.proofs.lemmas.Bool.{cases_lt, cases_order, cond-true, cond-false, lt-ltb, le-ltb}
 use Rattle.std.proofs.lemmas.Option.{slice_get_within}
@@ -49,13 +50,13 @@ module _ (C : Course) where
       ]
 
   -- where there is one thread, each number goes by it
-  pub values_same : (registers : ℕ → List ℕ) (p : ℕ) → 0 < length C.threads → values_by C registers (alone_by C.threads C.dark) p ≡ registers (thread_on C p)
-  values_same registers p some = by (alone_by C.threads C.dark) refl
+  pub values_same : (registers : ℕ → List ℕ) (p : ℕ) → 0 < length C.threads → values_by C registers (alone_by C.threads C.untraced) p ≡ registers (thread_on C p)
+  values_same registers p some = by (alone_by C.threads C.untraced) refl
     where
-      by : (o : Option (List StepRow)) → alone_by C.threads C.dark ≡ o → values_by C registers o p ≡ registers (thread_on C p)
+      by : (o : Option (List StepRow)) → alone_by C.threads C.untraced ≡ o → values_by C registers o p ≡ registers (thread_on C p)
       by None e = refl
       by (Some rows) e =
-          let one : length C.threads ≡ 1 = ap (λ (xs : List ThreadRows). length xs) (is_only C.threads C.dark rows e).is in
+          let one : length C.threads ≡ 1 = ap (λ (xs : List ThreadRows). length xs) (is_only C.threads C.untraced rows e).is in
           let inside = thread_inside p some in
           let first : 0 ≡ thread_on C p = omega arith in
           ap registers first

@@ -9,7 +9,7 @@ use Rattle.rept_order.specs.Legs.{points_before}
 use Rattle.rept_report.specs.Given.{Given}
 use Rattle.rept_span.specs.Ranges.{Legs}
 use Rattle.rept_report.specs.Moments.{Moments, AreMoments}
-use Rattle.rept_moments.specs.declared.course.Course as courses
+use Rattle.rept_moments.specs.declared.course.NumberedRun as courses
 use Rattle.rept_moments.specs.Courses.{first_in, seen_in, IsCourseOf}
 use Rattle.rept_report.specs.Timeline.{moment_by}
 use Rattle.rept_moments.specs.Seen.{SeenMoments, seen, moment_in}
@@ -22,7 +22,7 @@ use Rattle.rept_found.proofs.Settings.{points_are, seen_same}
 -- the first points of threads
 pub first_same : (C : Course) (c : courses.Course) → IsCourseOf C c → (t : ℕ) → t < length C.threads → first_in c t ≡ points_before C.threads t
 first_same C (courses.TheVariants.One steps) its t below =
-    let only = is_only C.threads C.dark steps.now its in
+    let only = is_only C.threads C.untraced steps.now its in
     let one : length C.threads ≡ 1 = ap (λ (xs : List ThreadRows). length xs) only.is in
     let none : t ≡ 0 = omega arith in
     sym (ap (λ (xs : List ThreadRows). points_before xs t) only.is ∙ ap (points_before (only.only ∷ [])) none)

@@ -16,7 +16,7 @@ use Rattle.rept_steps.specs.Course.{Course}
 use Rattle.rept_steps.specs.Runs.{course_of, run_of_one}
 use Rattle.rept_order.specs.Legs.{points_before}
 use Rattle.rept_course.proofs.Naming.{points_next}
-use Rattle.rept_moments.specs.declared.course.Course as courses
+use Rattle.rept_moments.specs.declared.course.NumberedRun as courses
 use Rattle.rept_moments.specs.Courses.{seen_in, IsCourseOf}
 use Rattle.rept_moments.specs.Points.{points_in}
 use Rattle.rept_moments.specs.Seen.{SeenMoments, seen, seen_by, alone_by}
@@ -127,12 +127,12 @@ values_long e ends some p =
 
 -- there is one point more than the number of the last one
 pub points_are : (C : Course) → 0 < length C.threads → suc (seen C).legs.count ≡ points_in C
-points_are C some = by (alone_by C.threads C.dark) refl
+points_are C some = by (alone_by C.threads C.untraced) refl
   where
-    by : (o : Option (List StepRow)) → alone_by C.threads C.dark ≡ o → suc (seen_by C o).legs.count ≡ points_in C
+    by : (o : Option (List StepRow)) → alone_by C.threads C.untraced ≡ o → suc (seen_by C o).legs.count ≡ points_in C
     by None e = let all = points_next C.threads 0 0 some (omega arith) in omega arith
     by (Some rows) e =
-        let only = is_only C.threads C.dark rows e in
+        let only = is_only C.threads C.untraced rows e in
         let own : length only.only.steps ≡ length rows = ap (λ (xs : List StepRow). length xs) only.own in
         let all : points_before (only.only ∷ []) 1 ≡ suc (length only.only.steps) = omega arith in
         let here : points_in C ≡ suc (length only.only.steps) = ap (λ (xs : List ThreadRows). points_before xs (length xs)) only.is ∙ all in

@@ -95,7 +95,7 @@ module _ {W : Type 0} (P : ThreadPath W) (K : Knowledge) (p a : ℕ) where
               | inr (inl low) ↦ record { later = lt-ltb k j low; apart = le-ltb j k (omega arith) }
               | inr (inr high) ↦ absurd (later k high under its.may)
             ];
-        dark = λ dark. absurd (false≢true dark);
+        untraced = λ untraced. absurd (false≢true untraced);
       }
 
       by : (b : Bool) → is_sure S K j ≡ b → IsWriter S K (spot p a) (cond b (writers.TheVariants.Writes j) (writers.TheVariants.MayWrite j))

@@ -74,8 +74,8 @@ module _ {W : Type 0} (m : Means W) (sets : AreLawfulSets m.sets) (moves : AreMo
   row_reached : (k a j : ℕ) → k ≤ Here.moments.end → IsCandidate Here K (spot k a) j → IsRowReached C (record { moment = last_on C k; address = a }) (row_on C j)
   row_reached k a j few its = by (Here.legs.row j) refl
     where
-      told : IsTold C (seen_by C (alone_by C.threads C.dark)) (last_by C (alone_by C.threads C.dark))
-      told = told_by C sound (alone_by C.threads C.dark) refl
+      told : IsTold C (seen_by C (alone_by C.threads C.untraced)) (last_by C (alone_by C.threads C.untraced))
+      told = told_by C sound (alone_by C.threads C.untraced) refl
 
       by : (o : Option StepRow) → Here.legs.row j ≡ o → IsRowReached C (record { moment = last_on C k; address = a }) (row_on C j)
       by (Some its_row) e =

@@ -9,7 +9,7 @@ use Rattle.rept_isa.specs.Operands.{is_call}
 use Rattle.rept_machine.specs.State.{State}
 use Rattle.rept_partial.specs.Sets.{AreLawful as AreLawfulSets}
 use Rattle.rept_reason.specs.declared.fact.Fact.{Fact}
-use Rattle.rept_reason.specs.declared.reason.Looked.{Looked}
+use Rattle.rept_reason.specs.declared.reason.RangePremise.{RangePremise}
 use Rattle.rept_reason.specs.declared.fact.Cell.{Cell}
 use Rattle.rept_reason.specs.declared.fact.Cell.TheVariants.{Register, Byte}
 use Rattle.rept_reason.specs.Facts.{Knowledge, register_known}
@@ -48,7 +48,8 @@ register_true K s p r v zero known e =
       | inr ne ↦ known (sym (cond-false (eqb r 0) (Some 0) (K p (Register r)) (ne_eqb r 0 ne)) ∙ e)
     ]
 
--- a word lies between the bounds of the values that are left, where it is one of those of the report
+-- a word lies between the bounds of the values that are left, where it is one of those of the
+-- report
 pub left_true : {W : Type 0} (m : Means W) → AreLawfulSets m.sets → (o : Option W) (v : ℕ) → v < 2 ^ 32 → ((set : W) → o ≡ Some set → m.sets.has set v ≡ true) → ((bounds m.sets o).lo ≤ v) × (v ≤ (bounds m.sets o).hi)
 left_true m laws None v small in_set = words_between v small
 left_true m laws (Some set) v small in_set = bounds_cover m.sets laws (Some set) v (in_set set refl)
@@ -92,7 +93,7 @@ module _ {W : Type 0} (P : ThreadPath W) where
   writer_true K states p a writers.TheVariants.None is h = λ k low w. let high = leb-true p k (h.1 k (step_row states k a w)) in omega (arith, low, high)
 
   -- so do ranges
-  ranges_true : (xs : List Looked) → All (RangeHoldsInRuns (path_setting P)) xs → All (RangeAlwaysHoldsOnPath P) xs
+  ranges_true : (xs : List RangePremise) → All (RangeHoldsInRuns (path_setting P)) xs → All (RangeAlwaysHoldsOnPath P) xs
   ranges_true xs h = All-weaker (RangeHoldsInRuns (path_setting P)) (RangeAlwaysHoldsOnPath P) (λ x holds states e. holds (run_of_states states) (runs states e)) xs h
 
 module _ {W : Type 0} (m : Means W) (sets : AreLawfulSets m.sets) (moves : AreMoves m.sets m.moves) (crash : Crash) (rows : List StepRow) (K : Knowledge) where

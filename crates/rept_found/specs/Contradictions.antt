@@ -1,4 +1,5 @@
--- Where a conflict is, as a session names it: at a point of a thread, of a byte at a moment. This project's own.
+-- Where a conflict is, as a session names it: at a point of a thread, of a byte at a moment. This
+-- project's own.
 use Rattle.std.specs.Prelude.{ℕ, length}
 use Rattle.rept_reason.specs.declared.fact.Cell.TheVariants.{Register, Byte}
 use Rattle.rept_report.specs.declared.conflict.ConflictKind.{ConflictKind}

@@ -1,4 +1,5 @@
--- What a crash leaves, and the analysis of a run that ends in it (ELF-32 Object File Format; Linux core notes of RISC-V).
+-- What a crash leaves, and the analysis of a run that ends in it (ELF-32 Object File Format; Linux
+-- core notes of RISC-V).
 use Rattle.std.specs.Prelude.{ℕ, ◌+◌, ◌*◌, List, [], map, ◌==◌, if◌then◌else◌, Option, Some, None, unwrap_or, slice_get}
 use Rattle.std.specs.List.{range_with_len}
 use Rattle.rept_elf.specs.Header.{word_at}
@@ -17,7 +18,8 @@ use Rattle.rept_steps.specs.Course.{Course}
 use Rattle.rept_order.specs.History.{Ending}
 use Rattle.rept_trip.specs.Trip.{Trip, setting_on}
 
--- a program and the core file of its crash: its files, the segments of the core file, and the descriptors of the register notes, one of each thread
+-- a program and the core file of its crash: its files, the segments of the core file, and the
+-- descriptors of the register notes, one of each thread
 pub record Crash : Type 0 where
   pub exe : Program
   pub core : List ElfSegment
@@ -44,7 +46,8 @@ pub record ThreadEnd : Type 0 where
   pub end_pc : ℕ
   pub process : ℕ
 
--- what a session tells of a crash besides what follows: how each thread ended, and the functions that the program's files name
+-- what a session tells of a crash besides what follows: how each thread ended, and the functions
+-- that the program's files name
 pub record Scene : Type 0 where
   pub threads : List ThreadEnd
   pub program : Program
@@ -68,7 +71,7 @@ last_value note r = if r == 0 then 0 else word_at note (72 + 4 * r)
 unfoldable pub last_values : List ℕ → List ℕ
 last_values note = map (last_value note) (range_with_len 0 32)
 
--- the sets as which values are followed, and what the rows let one draw
+-- the sets as which values are followed, and what the rows let one infer
 pub record Means (W : Type 0) : Type 0 where
   pub sets : Sets W
   pub moves : Moves W

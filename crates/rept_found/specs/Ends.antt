@@ -20,7 +20,7 @@ registers_in e t = registers_of_one (slice_get e.statuses t)
 
 -- the last values at a point of its thread
 abbrev pub last_values_in : Ends → ℕ → List ℕ
-last_values_in e p = values_by e.course (registers_in e) (alone_by e.course.threads e.course.dark) p
+last_values_in e p = values_by e.course (registers_in e) (alone_by e.course.threads e.course.untraced) p
 
 -- each has 32 registers
 abbrev pub AreWhole : List Status → Type 0

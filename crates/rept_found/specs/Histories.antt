@@ -1,4 +1,5 @@
--- What is told of a report of any number of threads holds in every execution of them that ends in the dump. This project's own.
+-- What is told of a report of any number of threads holds in every execution of them that ends in
+-- the dump. This project's own.
 use Rattle.std.specs.Prelude.{◌≡◌, ℕ, ◌<◌, ◌≤◌, ◌^◌, ⊤, All, List, Some, bit_and}
 use Rattle.rept_steps.specs.Course.{Course, Row, IsRow}
 use Rattle.rept_order.specs.History.{History}
@@ -8,7 +9,7 @@ use Rattle.rept_order.specs.Points.{thread_registers, memory_at}
 use Rattle.rept_order.specs.Writers.{CourseSpot, Writer, WriterHoldsInHistory}
 use Rattle.rept_order.specs.Writers.Writer.{writes, may_write, several, none}
 use Rattle.rept_reason.specs.declared.fact.Fact.{Fact}
-use Rattle.rept_reason.specs.declared.reason.Looked.{Looked}
+use Rattle.rept_reason.specs.declared.reason.RangePremise.{RangePremise}
 use Rattle.rept_reason.specs.Facts.{Knowledge}
 use Rattle.rept_report.specs.Why.{Because, IsReason, IsGiven}
 use Rattle.rept_analysis.specs.Logged.{IsLogOf}
@@ -20,7 +21,8 @@ use Rattle.rept_trip.specs.Executed.{IsHistoryOf, moment_named, writer_on}
 use Rattle.rept_found.specs.Crash.{Scene}
 use Rattle.rept_found.specs.Telling.{shown_on}
 
--- what an execution has in a register at a named point, and in memory at the moment that has a number
+-- what an execution has in a register at a named point, and in memory at the moment that has a
+-- number
 abbrev pub value_at : {W : Type 0} → Trip W → History → ThreadPoint → ℕ → ℕ
 value_at t h c r = thread_registers t.course h c.thread c.point r
 
@@ -43,8 +45,10 @@ WriterReaches C x (may_write r) = IsRowReached C x r
 WriterReaches C x several = ⊤
 WriterReaches C x none = ⊤
 
--- Of one execution of all threads: each value of a register and each byte that is told is the one that it has at the point or moment by whose name it is told, each register
--- lies between the bounds that are told and has the bits that are noted, and what is told of the row that last wrote a byte is so, which isn't one that comes after the moment.
+-- Of one execution of all threads: each value of a register and each byte that is told is the one
+-- that it has at the point or moment by whose name it is told, each register lies between the
+-- bounds that are told and has the bits that are noted, and what is told of the row that last wrote
+-- a byte is so, which isn't one that comes after the moment.
 pub record IsTrueIn {W : Type 0} (t : Trip W) (s : Shown) (h : History) : Type 0 where
   pub registers : (p r v : ℕ) → p < s.points → s.register p r ≡ Some v → value_at t h (s.point p) r ≡ v
   pub ranges : (p r : ℕ) → p < s.points → ((s.range p r).lo ≤ value_at t h (s.point p) r) × (value_at t h (s.point p) r ≤ (s.range p r).hi)
@@ -54,10 +58,11 @@ pub record IsTrueIn {W : Type 0} (t : Trip W) (s : Shown) (h : History) : Type 0
   pub reached : (m a : ℕ) → m < s.moments → WriterReaches t.course (spot_in t s m a) (writer_on t.course (s.writer m a))
 
 -- the register's value lies in the range in every execution
-abbrev pub RangeHoldsInAll : {W : Type 0} → Trip W → Looked → Type 0
+abbrev pub RangeHoldsInAll : {W : Type 0} → Trip W → RangePremise → Type 0
 RangeHoldsInAll t x = (h : History) → IsHistoryOf t h → (x.range.lo ≤ value_at t h (point_on t.course x.point) x.reg) × (value_at t h (point_on t.course x.point) x.reg ≤ x.range.hi)
 
--- Of a reason: the facts that it rests on are of the report, and the ranges that it lists hold in every execution.
+-- Of a reason: the facts that it rests on are of the report, and the ranges that it lists hold in
+-- every execution.
 pub record IsTrueBecause {W : Type 0} (t : Trip W) (K : Knowledge) (why : Because) : Type 0 where
   pub premises : All (IsGiven K) why.premises
   pub ranges : All (RangeHoldsInAll t) why.ranges

@@ -1,4 +1,5 @@
--- What is shown of a path of one thread, in its own words: its points and moments are one. This project's own.
+-- What is shown of a path of one thread, in its own words: its points and moments are one. This
+-- project's own.
 use Rattle.std.specs.Prelude.{◌≡◌, ℕ, zero, suc, ◌+◌, ◌≤◌, if◌then◌else◌, length}
 use Rattle.rept_reason.specs.Facts.{Knowledge}
 use Rattle.rept_report.specs.declared.writer.Writer.{Writer}
@@ -18,8 +19,8 @@ abbrev pub last_writer : {W : Type 0} → Setting W → Knowledge → ℕ → �
 last_writer S K zero a = writers.TheVariants.None
 last_writer S K (suc j) a = if may_write S K j a then writer_at S K j else last_writer S K j a
 
--- There is one thread with the steps of the path. Its points are the numbers from 0 on and the moments too, and a byte was last written by the greatest step before the point that may
--- write it.
+-- There is one thread with the steps of the path. Its points are the numbers from 0 on and the
+-- moments too, and a byte was last written by the greatest step before the point that may write it.
 pub record IsOneThread {W : Type 0} (P : ThreadPath W) (K : Knowledge) (s : Shown) : Type 0 where
   pub threads : s.threads ≡ 1
   pub rows : s.rows 0 ≡ P.given.rows

@@ -1,5 +1,6 @@
--- What a session tells of a report: what is known, and what follows from it. That of one path point p is p, its moment too, and the writer of a byte the greatest step before the point that may write it, says
--- `IsOneThread` of Single.antt. This project's own.
+-- What a session tells of a report: what is known, and what follows from it. That of one path point
+-- p is p, its moment too, and the writer of a byte the greatest step before the point that may
+-- write it, says `IsOneThread` of Single.antt. This project's own.
 use Rattle.std.specs.Prelude.{ℕ, ◌+◌, true, false, List, length, Option, Some, None}
 use Rattle.rept_steps.specs.Course.{rows_of}
 use Rattle.rept_order.specs.Legs.{points_before}
@@ -29,7 +30,8 @@ abbrev pub noted : {W : Type 0} → Moves W → Option W → Option (ℕ × ℕ)
 noted moves None = None
 noted moves (Some set) = moves.note set
 
--- how many steps, environment calls, known registers, and stores to known and to unknown addresses there are
+-- how many steps, environment calls, known registers, and stores to known and to unknown addresses
+-- there are
 abbrev pub counts_of : {W : Type 0} → Setting W → Knowledge → Counts
 counts_of S K = record {
   steps = rows_below S.legs S.legs.count;
@@ -39,8 +41,9 @@ counts_of S K = record {
   inexact = stores_below S.legs K false S.legs.count;
 }
 
--- What is shown of a report of a trip, where it ends in such a crash. Points have the numbers of all threads' points one after the other, and moments those of
--- their course; each is told by its name.
+-- What is shown of a report of a trip, where it ends in such a crash. Points have the numbers of
+-- all threads' points one after the other, and moments those of their course; each is told by its
+-- name.
 abbrev pub shown_on : {W : Type 0} → Trip W → Knowledge → Scene → Shown
 shown_on t K scene = record {
   threads = length t.course.threads;
@@ -66,7 +69,8 @@ shown_on t K scene = record {
 abbrev pub shown_of : {W : Type 0} → ThreadPath W → Knowledge → Scene → Shown
 shown_of P K scene = shown_on (trip_of P) K scene
 
--- a report, the order in which it was learnt, and what a session tells besides: of the crash, and how many packets were left out
+-- a report, the order in which it was learnt, and what a session tells besides: of the crash, and
+-- how many packets were left out
 pub record Account : Type 0 where
   pub known : Knowledge
   pub log : List Fact

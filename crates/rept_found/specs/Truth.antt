@@ -1,10 +1,11 @@
--- What is told of a report holds in every execution of the path that ends in the dump. This project's own.
+-- What is told of a report holds in every execution of the path that ends in the dump. This
+-- project's own.
 use Rattle.std.specs.Prelude.{◌≡◌, ℕ, ◌+◌, ◌<◌, ◌≤◌, ◌^◌, ⊤, All, List, length, Some, slice_get, bit_and}
 use Rattle.rept_isa.specs.declared.row.StepRow.{StepRow}
 use Rattle.rept_machine.specs.State.{State}
 use Rattle.rept_machine.specs.Execution.{Execution}
 use Rattle.rept_reason.specs.declared.fact.Fact.{Fact}
-use Rattle.rept_reason.specs.declared.reason.Looked.{Looked}
+use Rattle.rept_reason.specs.declared.reason.RangePremise.{RangePremise}
 use Rattle.rept_reason.specs.Facts.{Knowledge}
 use Rattle.rept_view.specs.Written.{Writes}
 use Rattle.rept_report.specs.declared.writer.Writer.{Writer}
@@ -35,17 +36,20 @@ pub record StepOfPathWrites {W : Type 0} (P : ThreadPath W) (run : ℕ → State
 abbrev pub NoneAfter : {W : Type 0} → ThreadPath W → (ℕ → State) → Spot → ℕ → Type 0
 NoneAfter P run x j = (k : ℕ) → j < k → k < x.moment → StepOfPathWrites P run k x.address → ⊥
 
--- Of an execution: step j, which is before the point, writes the byte, and no later step before the point does; or no step after step j, which is before the point, and before the point
--- does; or no step before the point does. Of several nothing is said, nor are they told of one path.
+-- Of an execution: step j, which is before the point, writes the byte, and no later step before the
+-- point does; or no step after step j, which is before the point, and before the point does; or no
+-- step before the point does. Of several nothing is said, nor are they told of one path.
 abbrev pub WriterHoldsOnPath : {W : Type 0} → ThreadPath W → (ℕ → State) → Spot → Writer → Type 0
 WriterHoldsOnPath P run x (writers.TheVariants.Writes j) = (j < x.moment) × StepOfPathWrites P run j x.address × NoneAfter P run x j
 WriterHoldsOnPath P run x (writers.TheVariants.MayWrite j) = (j < x.moment) × NoneAfter P run x j
 WriterHoldsOnPath P run x writers.TheVariants.Several = ⊤
 WriterHoldsOnPath P run x writers.TheVariants.None = (k : ℕ) → k < x.moment → StepOfPathWrites P run k x.address → ⊥
 
--- Of one execution: each value of a register and each byte that is told is the one that it has, each register lies between the
--- bounds that are told and has the bits that are noted, and what is told of the step that last wrote a byte is so: that step came before the point, wrote it and no later one did; it came before and no later
--- one did; or none did. `bytes` bounds no p, and needs none: a report has no byte past the last point.
+-- Of one execution: each value of a register and each byte that is told is the one that it has,
+-- each register lies between the bounds that are told and has the bits that are noted, and what is
+-- told of the step that last wrote a byte is so: that step came before the point, wrote it and no
+-- later one did; it came before and no later one did; or none did. `bytes` bounds no p, and needs
+-- none: a report has no byte past the last point.
 pub record IsTrueOf {W : Type 0} (P : ThreadPath W) (s : Shown) (run : ℕ → State) : Type 0 where
   pub registers : (p r v : ℕ) → p ≤ length P.given.rows → s.register p r ≡ Some v → (run p).register r ≡ v
   pub ranges : (p r : ℕ) → p ≤ length P.given.rows → ((s.range p r).lo ≤ (run p).register r) × ((run p).register r ≤ (s.range p r).hi)
@@ -54,10 +58,11 @@ pub record IsTrueOf {W : Type 0} (P : ThreadPath W) (s : Shown) (run : ℕ → S
   pub writers : (p a : ℕ) → p ≤ length P.given.rows → a < 2 ^ 32 → WriterHoldsOnPath P run (spot p a) (s.writer p a)
 
 -- the register's value lies in the range in every execution
-abbrev pub RangeAlwaysHoldsOnPath : {W : Type 0} → ThreadPath W → Looked → Type 0
+abbrev pub RangeAlwaysHoldsOnPath : {W : Type 0} → ThreadPath W → RangePremise → Type 0
 RangeAlwaysHoldsOnPath P x = (run : ℕ → State) → ExecutesPath P run → (x.range.lo ≤ (run x.point).register x.reg) × ((run x.point).register x.reg ≤ x.range.hi)
 
--- Of a reason: the facts that it rests on are of the report, and the ranges that it lists hold in every execution.
+-- Of a reason: the facts that it rests on are of the report, and the ranges that it lists hold in
+-- every execution.
 pub record IsTrueReason {W : Type 0} (P : ThreadPath W) (K : Knowledge) (why : Because) : Type 0 where
   pub premises : All (IsGiven K) why.premises
   pub ranges : All (RangeAlwaysHoldsOnPath P) why.ranges

@@ -8,7 +8,7 @@ use Rattle.rept_steps.specs.Course.{IsSoundCourse}
 use Rattle.rept_order.specs.History.{Ending}
 use Rattle.rept_report.specs.Closure.{IsReport}
 use Rattle.rept_timeline.specs.Times.{time_of}
-use Rattle.rept_versions.specs.OnLine.{Parts, store}
+use Rattle.rept_versions.specs.OnLine.{LineParts, store}
 use Rattle.rept_analysis.specs.State.{AnalysisState, Whole, Reader, reader, given_of, state_of}
 use Rattle.rept_analysis.specs.Kept.{answers}
 use Rattle.rept_analysis.specs.Logged.{IsLogOf}
@@ -18,9 +18,10 @@ use Rattle.rept_found.specs.Ends.{Ends, registers_in, last_values_in}
 use Rattle.rept_extents.specs.declared.run_rows.RunRows.{RunRows}
 use Rattle.rept_found.specs.declared.ends.RunEnds.{RunEnds}
 
--- the analysis, how the threads of its run ended, the files of the program, and the segments of the core file
+-- the analysis, how the threads of its run ended, the files of the program, and the segments of the
+-- core file
 pub record CrashView (W R : Type 0) : Type 0 where
-  pub analysis : Whole RunRows RunEnds Parts W R
+  pub analysis : Whole RunRows RunEnds LineParts W R
   pub ends : Ends
   pub program : Program
   pub core : List ElfSegment

@@ -5,13 +5,14 @@ ghost use Rattle.rept_steps.specs.Course as runs;
 ghost use Rattle.rept_moments.specs.Courses.{IsCourseOf};
 ghost use Rattle.rept_found.specs.Contradictions.{conflict_place, contradiction_on, point_place};
 
-use rept_moments::Course;
+use rept_moments::NumberedRun;
 use rept_places::{place_of, point_of};
 use rept_reason::Cell;
 use rept_report::ConflictKind;
 use rept_session::{Place, ThreadPlace};
 
-/// A contradiction among what follows from a run and a dump, and where it is, as a session names it.
+/// A contradiction among what follows from a run and a dump, and where it is, as a session names
+/// it.
 #[derive(Clone, Copy)]
 pub struct Contradiction {
     /// how many threads the run has
@@ -23,7 +24,7 @@ pub struct Contradiction {
 }
 
 /// The place of the point of a number.
-fn place_at(course: &Course<'_>, number: u32) -> ThreadPlace
+fn place_at(course: &NumberedRun<'_>, number: u32) -> ThreadPlace
     ensures { (C : runs.Course) → IsCourseOf C course.now → result ≡ point_place C number }
 {
     let point = point_of(course, number);
@@ -34,7 +35,7 @@ fn place_at(course: &Course<'_>, number: u32) -> ThreadPlace
 }
 
 /// Where a conflict is.
-fn place_of_kind(course: &Course<'_>, kind: &ConflictKind) -> ThreadPlace
+fn place_of_kind(course: &NumberedRun<'_>, kind: &ConflictKind) -> ThreadPlace
     ensures { (C : runs.Course) → IsCourseOf C course.now → result ≡ conflict_place C kind.now }
 {
     match kind {
@@ -48,7 +49,7 @@ fn place_of_kind(course: &Course<'_>, kind: &ConflictKind) -> ThreadPlace
 }
 
 /// A conflict of the closure of a run's rules, with its place by name.
-pub fn name_conflict(course: &Course<'_>, kind: ConflictKind) -> Contradiction
+pub fn name_conflict(course: &NumberedRun<'_>, kind: ConflictKind) -> Contradiction
     ensures { (C : runs.Course) → IsCourseOf C course.now → result ≡ contradiction_on C kind }
 {
     Contradiction {

@@ -16,7 +16,8 @@ use rept_word::OutOfMemory;
 use std::alloc::Global;
 use std::marker::Model;
 
-/// How each thread of a run ended: its process, and its registers. Contracts see the course of the run, and the list of these.
+/// How each thread of a run ended: its process, and its registers. Contracts see the course of the
+/// run, and the list of these.
 #[derive(Drop)]
 pub struct ThreadEnds<'a> {
     run: &'a Run,
@@ -75,7 +76,8 @@ fn statuses(alloc: Global, dump: &Dump<'_>) -> Result<Vec<Status>, OutOfMemory>
 }
 
 impl<'a> ThreadEnds<'a> {
-    /// The ends of the threads of a run, which are those of the notes of a dump. It takes memory for one entry a thread.
+    /// The ends of the threads of a run, which are those of the notes of a dump. It takes memory
+    /// for one entry a thread.
     pub fn new(alloc: Global, run: &'a Run, dump: &Dump<'_>) -> Result<ThreadEnds<'a>, OutOfMemory>
         requires threads { threads_of dump.now ≡ length run.now.threads }
         requires some { 0 < length run.now.threads }
@@ -88,7 +90,8 @@ impl<'a> ThreadEnds<'a> {
         Ok(ThreadEnds { run, statuses })
     }
 
-    /// For callers whose contracts speak of the ends: there is one of each thread, and at least one thread, and there are few points. The call does nothing.
+    /// For callers whose contracts speak of the ends: there is one of each thread, and at least one
+    /// thread, and there are few points. The call does nothing.
     pub fn account(&self)
         ensures ends { AreEnds self.now }
         ensures some { 0 < length self.now.course.threads }

@@ -25,16 +25,17 @@ use rept_versions::{ByteFacts, SpanFacts};
 use rept_view::RowRules;
 use std::marker::Model;
 
-/// What an analysis found out: the report of a run and the dump in which it ends, by one kind of sets of values and of rules.
+/// What an analysis found out: the report of a run and the dump in which it ends, by one kind of
+/// sets of values and of rules.
 #[derive(Drop)]
-pub struct Found<'a, W: Transfer, R: RowRules> {
+pub struct AnalysedCrash<'a, W: Transfer, R: RowRules> {
     pub(crate) analysis: Analysis<'a, RunRows<'a>, RunEnds<'a>, SpanFacts, W, R>,
     pub(crate) paths: &'a RunPaths<'a>,
     pub(crate) ends: &'a ThreadEnds<'a>,
     pub(crate) dump: &'a Dump<'a>,
 }
 
-impl<'a, W: Transfer, R: RowRules> Model for Found<'a, W, R> {
+impl<'a, W: Transfer, R: RowRules> Model for AnalysedCrash<'a, W, R> {
     ghost use Rattle.std.specs.Prelude.{◌≡◌, true};
     ghost use Rattle.rept_dump.specs.Dump.{exe_of, core_of};
     ghost use Rattle.rept_moments.specs.Courses.{IsCourseOf};
@@ -47,11 +48,13 @@ impl<'a, W: Transfer, R: RowRules> Model for Found<'a, W, R> {
     ghost invariant = { λ f. (f.analysis.complete ≡ true) × IsOfRun (record { analysis = f.analysis; ends = f.ends.now; program = exe_of f.dump.now; core = core_of f.dump.now }) × IsCourseOf f.ends.now.course f.paths.now.ways };
 }
 
-/// Learns all that follows. Where each moment leads on to the one of the next number alone, as of one thread in one slice, all of which is told, that takes no memory: it is Ok exactly where the
-/// closure of the rules has no conflict. Of any other run memory may run out. A conflict that is told is one of the closure, and then no execution of all threads ends in the dump.
+/// Learns all that follows. Where each moment leads on to the one of the next number alone, as of
+/// one thread in one slice, all of which is told, that takes no memory: it is Ok exactly where the
+/// closure of the rules has no conflict. Of any other run memory may run out. A conflict that is
+/// told is one of the closure, and then no execution of all threads ends in the dump.
 pub fn search<'a, W: Transfer, R: RowRules>(
     prepared: Prepared<'a, W, R>,
-) -> Result<Found<'a, W, R>, Stop>
+) -> Result<AnalysedCrash<'a, W, R>, Stop>
     ensures found { IfOk result (IsFoundIn (means W.sets W.moves R.rules) (trip_in (means W.sets W.moves R.rules) prepared.entry) (scene_in prepared.entry)) }
     ensures conflict { (kind : ConflictKind) → result ≡ Err (Stop.Conflict kind) → ClosureHas (setting_on (trip_in (means W.sets W.moves R.rules) prepared.entry)) kind }
     ensures impossible { (kind : ConflictKind) → result ≡ Err (Stop.Conflict kind) → HasNoHistory (trip_in (means W.sets W.moves R.rules) prepared.entry) }
@@ -65,7 +68,7 @@ pub fn search<'a, W: Transfer, R: RowRules>(
         dump,
     } = prepared;
     match refined(analysis) {
-        Ok(analysis) => Ok(Found {
+        Ok(analysis) => Ok(AnalysedCrash {
             analysis,
             paths,
             ends,

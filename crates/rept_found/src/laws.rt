@@ -1,4 +1,5 @@
-//! Laws of the definitions, for callers whose contracts speak of any run and crash. The calls do nothing.
+//! Laws of the definitions, for callers whose contracts speak of any run and crash. The calls do
+//! nothing.
 
 ghost use Rattle.std.specs.Prelude.{◌≡◌, ◌<◌, ℕ, List, [], ◌∷◌, length, Some};
 ghost use Rattle.rept_isa.specs.declared.row.StepRow.{StepRow};
@@ -24,8 +25,10 @@ use rept_report::{facts_have_reasons, reports_are_sound};
 use rept_span::Transfer;
 use rept_view::RowRules;
 
-/// What a session tells of a report holds in every execution of the path that ends in the crash, and its reasons rest on the report. Where the closure has a conflict, there is no such execution.
-/// The run of one thread is the trip of its path, so that the same is found and shown of it.
+/// What a session tells of a report holds in every execution of the path that ends in the crash,
+/// and its reasons rest on the report. Where the closure has a conflict, there is no such
+/// execution. The run of one thread is the trip of its path, so that the same is found and shown of
+/// it.
 pub fn reports_are_true<W: Transfer, R: RowRules>()
     ensures report { (crash : Crash) (rows : List StepRow) (K : Knowledge) → IsReport (path_setting (path_of (means W.sets W.moves R.rules) crash rows)) K → IsTrueReport (path_of (means W.sets W.moves R.rules) crash rows) K }
     ensures impossible { (crash : Crash) (rows : List StepRow) (kind : ConflictKind) → ClosureHas (path_setting (path_of (means W.sets W.moves R.rules) crash rows)) kind → HasNoExecutionOfPath (path_of (means W.sets W.moves R.rules) crash rows) }
@@ -35,8 +38,10 @@ pub fn reports_are_true<W: Transfer, R: RowRules>()
     facts_have_reasons::<W, R>();
 }
 
-/// Of a sound run of any number of threads: what a session tells of a report holds in every execution of all threads that ends so, and its reasons rest on the report. Where the closure has a
-/// conflict, there is no such execution. A row that is told as the last writer at a point of a thread came before it, and is told at each point since it came.
+/// Of a sound run of any number of threads: what a session tells of a report holds in every
+/// execution of all threads that ends so, and its reasons rest on the report. Where the closure has
+/// a conflict, there is no such execution. A row that is told as the last writer at a point of a
+/// thread came before it, and is told at each point since it came.
 pub fn trips_are_true<W: Transfer, R: RowRules>()
     ensures report { (C : Course) (D : Ending) (K : Knowledge) → IsSoundCourse C → 0 < length C.threads → IsReport (setting_on (trip_by (means W.sets W.moves R.rules) C D)) K → IsTrueTrip (trip_by (means W.sets W.moves R.rules) C D) K }
     ensures conflict { (C : Course) (D : Ending) (kind : ConflictKind) → IsSoundCourse C → 0 < length C.threads → ClosureHas (setting_on (trip_by (means W.sets W.moves R.rules) C D)) kind → HasNoHistory (trip_by (means W.sets W.moves R.rules) C D) }
@@ -51,8 +56,9 @@ pub fn paths_are_one_thread<W: Transfer>()
     ensures { (P : ThreadPath W) (K : Knowledge) (scene : Scene) → IsOneThread P K (shown_of P K scene) }
 {}
 
-/// A run that is one path, of one thread in one slice, all of which is told, has the setting of that path, and the same is shown of it, in whichever slice of time it ran.
+/// A run that is one path, of one thread in one slice, all of which is told, has the setting of
+/// that path, and the same is shown of it, in whichever slice of time it ran.
 pub fn runs_are_paths<W: Transfer, R: RowRules>()
-    ensures setting { (crash : Crash) (C : Course) (rows : List StepRow) → alone_by C.threads C.dark ≡ Some rows → 0 < length crash.notes → setting (means W.sets W.moves R.rules) crash C ≡ path_setting (path_of (means W.sets W.moves R.rules) crash rows) }
-    ensures shown { (crash : Crash) (C : Course) (rows : List StepRow) (K : Knowledge) (scene : Scene) → alone_by C.threads C.dark ≡ Some rows → 0 < length crash.notes → shown_on (route (means W.sets W.moves R.rules) crash C) K scene ≡ shown_of (path_of (means W.sets W.moves R.rules) crash rows) K scene }
+    ensures setting { (crash : Crash) (C : Course) (rows : List StepRow) → alone_by C.threads C.untraced ≡ Some rows → 0 < length crash.notes → setting (means W.sets W.moves R.rules) crash C ≡ path_setting (path_of (means W.sets W.moves R.rules) crash rows) }
+    ensures shown { (crash : Crash) (C : Course) (rows : List StepRow) (K : Knowledge) (scene : Scene) → alone_by C.threads C.untraced ≡ Some rows → 0 < length crash.notes → shown_on (route (means W.sets W.moves R.rules) crash C) K scene ≡ shown_of (path_of (means W.sets W.moves R.rules) crash rows) K scene }
 {}

@@ -1,4 +1,5 @@
-//! What an analysis finds out of a run of any number of threads and the dump in which they end, for the session that tells it.
+//! What an analysis finds out of a run of any number of threads and the dump in which they end, for
+//! the session that tells it.
 #![tactic(auto)]
 
 pub mod contradiction;
@@ -10,6 +11,6 @@ mod telling;
 
 pub use contradiction::{Contradiction, name_conflict};
 pub use ends::ThreadEnds;
-pub use found::{Found, search};
+pub use found::{AnalysedCrash, search};
 pub use laws::{paths_are_one_thread, reports_are_true, runs_are_paths, trips_are_true};
 pub use prepared::{Prepared, prepare};

@@ -19,7 +19,8 @@ use rept_word::OutOfMemory;
 use std::alloc::Global;
 use std::marker::Model;
 
-/// A run and the dump in which it ends, with the memory with which learning what follows begins. Nothing is learnt yet.
+/// A run and the dump in which it ends, with the memory with which learning what follows begins.
+/// Nothing is learnt yet.
 #[derive(Drop)]
 pub struct Prepared<'a, W: Transfer, R: RowRules> {
     pub(crate) analysis: Analysis<'a, RunRows<'a>, RunEnds<'a>, SpanFacts, W, R>,
@@ -40,7 +41,8 @@ impl<'a, W: Transfer, R: RowRules> Model for Prepared<'a, W, R> {
     ghost invariant = { λ p. IsOfRun (record { analysis = p.analysis; ends = p.ends.now; program = exe_of p.dump.now; core = core_of p.dump.now }) × IsCourseOf p.ends.now.course p.paths.now.ways };
 }
 
-/// Takes the memory with which learning what follows begins, from the paths of a sound run, the ends of its threads, and the dump in which they end, with values followed as sets of `W`.
+/// Takes the memory with which learning what follows begins, from the paths of a sound run, the
+/// ends of its threads, and the dump in which they end, with values followed as sets of `W`.
 /// `OutOfMemory` says that it can't be had.
 pub fn prepare<'a, W: Transfer, R: RowRules>(
     alloc: Global,

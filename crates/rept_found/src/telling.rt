@@ -5,12 +5,12 @@ ghost use Rattle.rept_reason.specs.Facts.{register_known};
 ghost use Rattle.rept_analysis.specs.Kept.{answers};
 ghost use Rattle.rept_analysis.specs.State.{reader, state_of};
 
-use crate::found::Found;
+use crate::found::AnalysedCrash;
 use rept_analysis::Analysis;
 use rept_elf::Symbol;
 use rept_isa::{Reg, StepRow};
 use rept_log::LastValues;
-use rept_moments::Course;
+use rept_moments::NumberedRun;
 use rept_partial::{Partial, Range};
 use rept_places::{place_of, point_of};
 use rept_reach::Reaches;
@@ -23,14 +23,14 @@ use rept_view::RowRules;
 use rept_word::OutOfMemory;
 use std::alloc::Global;
 
-impl<'a, W: Transfer, R: RowRules> Found<'a, W, R> {
+impl<'a, W: Transfer, R: RowRules> AnalysedCrash<'a, W, R> {
     ghost use Rattle.std.specs.Prelude.{◌<◌, ◌≤◌, length};
     ghost use Rattle.rept_moments.specs.Courses.{seen_in, IsCourseOf};
     ghost use Rattle.rept_moments.specs.Points.{points_in};
     ghost use Rattle.rept_report.specs.Moments.{AreMoments};
 
     /// The rows and moments of the run, by their numbers.
-    fn course(&self) -> &Course<'a>
+    fn course(&self) -> &NumberedRun<'a>
         ensures course { IsCourseOf self.now.ends.course result.now }
         ensures laws { AreMoments (seen_in result.now).legs (seen_in result.now).moments }
         ensures some { 0 < length self.now.ends.course.threads }
@@ -41,7 +41,7 @@ impl<'a, W: Transfer, R: RowRules> Found<'a, W, R> {
     }
 }
 
-impl<'a, W: Transfer, R: RowRules> Findings for Found<'a, W, R> {
+impl<'a, W: Transfer, R: RowRules> Findings for AnalysedCrash<'a, W, R> {
     ghost use Rattle.rept_report.specs.Why.{IsReason};
     ghost use Rattle.rept_analysis.specs.Kept.{answers};
     ghost use Rattle.rept_trip.specs.Trip.{setting_on};

@@ -1,4 +1,5 @@
-//! A crash for a debugger, as the remote end of `target remote |`: `rept_gdb EXE CORE TRACE [FROM]`.
+//! A crash for a debugger, as the remote end of `target remote |`:
+//! `rept_gdb EXE CORE TRACE [FROM]`.
 #![tactic(auto)]
 
 use rept_debug::run;

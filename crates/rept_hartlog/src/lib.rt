@@ -8,4 +8,4 @@ mod threads;
 
 pub use log::names_harts;
 pub use recorder::record;
-pub use refusal::Refusal;
+pub use refusal::HartLogRefusal;

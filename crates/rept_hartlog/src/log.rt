@@ -1,14 +1,14 @@
 //! The lines of a log of several harts: a hart, a thread and an address each.
 
 ghost use Rattle.std.specs.Prelude.{◌≡◌, ℕ, List, true, IfSome, IfNone};
-ghost use Rattle.rept_hartlog.specs.declared.log.Entry.{Entry};
+ghost use Rattle.rept_hartlog.specs.declared.log.HartLogLine.{HartLogLine};
 ghost use Rattle.rept_hartlog.specs.Log.{IsFirstSpace, IsLogWord, AreNumbers, IsHartEntry, NamesHarts};
 
 use rept_simlog::{LogEntry, address_of};
 
 /// A line of a log: its number, from 1 on, and what it gives.
 #[derive(Clone, Copy)]
-pub struct Entry {
+pub struct HartLogLine {
     pub line: u32,
     pub hart: u32,
     /// The number of the thread's process.
@@ -57,12 +57,12 @@ fn cut_word(text: &[u8]) -> Option<(&[u8], &[u8])>
 }
 
 /// The entry of three numbers.
-fn entry_by(hart: &[u8], thread: &[u8], address: &[u8], line: u32) -> Option<Entry>
+fn entry_by(hart: &[u8], thread: &[u8], address: &[u8], line: u32) -> Option<HartLogLine>
     ensures some { IfSome result (λ entry. AreNumbers hart.now thread.now address.now entry) }
     ensures line { IfSome result (λ entry. entry.line ≡ line) }
-    ensures none { IfNone result ((entry : Entry) → AreNumbers hart.now thread.now address.now entry → ⊥) }
+    ensures none { IfNone result ((entry : HartLogLine) → AreNumbers hart.now thread.now address.now entry → ⊥) }
 {
-    Some(Entry {
+    Some(HartLogLine {
         line,
         hart: address_of(hart)?,
         thread: address_of(thread)?,
@@ -70,10 +70,10 @@ fn entry_by(hart: &[u8], thread: &[u8], address: &[u8], line: u32) -> Option<Ent
     })
 }
 
-impl LogEntry for Entry {
+impl LogEntry for HartLogLine {
     ghost tells = { IsHartEntry };
 
-    fn of_line(line: &[u8], number: u32) -> Option<Entry> {
+    fn of_line(line: &[u8], number: u32) -> Option<HartLogLine> {
         let Some((hart, rest)) = cut_word(line) else {
             return None;
         };

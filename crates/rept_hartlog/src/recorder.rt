@@ -9,16 +9,16 @@ ghost use Rattle.rept_hartlog.specs.Log.{AreLines};
 ghost use Rattle.rept_hartlog.specs.Recorded.{IsTraceFault, RecordsSeveralHarts, IsNotRecorded, IsRecordedSeveralHarts, IsRefusedSeveralHarts};
 ghost use Rattle.rept_hartlog.specs.Stretches.{IsJumpEndAt};
 
-use crate::log::Entry;
-use crate::refusal::{Refusal, refusal_of};
+use crate::log::HartLogLine;
+use crate::refusal::{HartLogRefusal, refusal_of};
 use crate::threads::stretches_of;
-use rept_simlog::{Program, last_entries, read_log};
-use rept_weave::{Hart, Harts, Place, WeaveFault, weave};
+use rept_simlog::{LoggedProgram, last_entries, read_log};
+use rept_weave::{Hart, HartPlace, Harts, WeaveFault, weave};
 use rept_word::Text;
 use std::alloc::Global;
 
 /// The line of the step that ends a jump.
-fn line_of(harts: &Harts, place: Place) -> u32
+fn line_of(harts: &Harts, place: HartPlace) -> u32
     requires there { IsAtPlace harts.now place IsFirstJumpEnd }
     requires short { All (All (λ s. s.begin + length s.steps ≤ 2 ^ 32)) harts.now }
     ensures { IsJumpEndAt harts.now place result }
@@ -30,7 +30,7 @@ fn line_of(harts: &Harts, place: Place) -> u32
 }
 
 /// The trace of one stream of these stretches.
-fn trace_of(alloc: Global, halves: bool, stretches: Hart) -> Result<Text, Refusal>
+fn trace_of(alloc: Global, halves: bool, stretches: Hart) -> Result<Text, HartLogRefusal>
     requires walkable { All (λ s. IsWalkable halves s.steps) stretches }
     requires straight { All (λ s. AreStraight s.steps (length s.steps - 1)) stretches }
     requires short { All (λ s. s.begin + length s.steps ≤ 2 ^ 32) stretches }
@@ -39,14 +39,14 @@ fn trace_of(alloc: Global, halves: bool, stretches: Hart) -> Result<Text, Refusa
 {
     let mut harts = Harts::new(alloc);
     if let Err(_) = harts.push(stretches) {
-        return Err(Refusal::OutOfMemory);
+        return Err(HartLogRefusal::OutOfMemory);
     }
     match weave(alloc, halves, &harts) {
         Ok(trace) => Ok(trace),
         Err(fault) => match fault {
-            WeaveFault::JumpEnds(place) => Err(Refusal::JumpEnds(line_of(&harts, place))),
-            WeaveFault::TooLong(_) => Err(Refusal::TooLong),
-            WeaveFault::OutOfMemory => Err(Refusal::OutOfMemory),
+            WeaveFault::JumpEnds(place) => Err(HartLogRefusal::JumpEnds(line_of(&harts, place))),
+            WeaveFault::TooLong(_) => Err(HartLogRefusal::TooLong),
+            WeaveFault::OutOfMemory => Err(HartLogRefusal::OutOfMemory),
             WeaveFault::InnerCall(_) => unreachable!(),
             WeaveFault::HartCount => unreachable!(),
         },
@@ -54,7 +54,11 @@ fn trace_of(alloc: Global, halves: bool, stretches: Hart) -> Result<Text, Refusa
 }
 
 /// The trace of the steps of entries.
-fn record_entries(alloc: Global, program: &Program<'_>, entries: &[Entry]) -> Result<Text, Refusal>
+fn record_entries(
+    alloc: Global,
+    program: &LoggedProgram<'_>,
+    entries: &[HartLogLine],
+) -> Result<Text, HartLogRefusal>
     requires few { length entries.now ≤ 65537 }
     requires lines { AreLines entries.now }
     ensures ok { IfOk result (λ trace. RecordsSeveralHarts (program_of program.now) entries.now trace) }
@@ -65,22 +69,26 @@ fn record_entries(alloc: Global, program: &Program<'_>, entries: &[Entry]) -> Re
         Err(refusal) => return Err(refusal),
     };
     if stretches.all().is_empty() {
-        return Err(Refusal::NoSteps);
+        return Err(HartLogRefusal::NoSteps);
     }
     trace_of(alloc, program.halves, stretches)
 }
 
-/// The trace of the last 65,537 lines of a log over an executable. A line gives a hart, the number of a thread's process, and the address that was executed; lines stand in the order of
-/// execution, and the last one of each thread is where it stopped. All lines go into one stream, since the log has them in one order: a slice has the steps of lines that follow one another and are
-/// of one hart and one thread, up to a call, and its times are the numbers of its first and its last line. Code may be compressed where bit 0 of the executable's `e_flags` says so
-/// (`EF_RISCV_RVC`). A refusal names the first line that isn't three numbers, at which no instruction can have run, or from which the code can't go on; or a line that is a call after an uninferable jump; or
-/// no thread has two lines, or the packets take 2^32 bytes; or it is a want of memory.
-pub fn record(alloc: Global, exe: &[u8], log: &[u8]) -> Result<Text, Refusal>
+/// The trace of the last 65,537 lines of a log over an executable. A line gives a hart, the number
+/// of a thread's process, and the address that was executed; lines stand in the order of execution,
+/// and the last one of each thread is where it stopped. All lines go into one stream, since the log
+/// has them in one order: a slice has the steps of lines that follow one another and are of one
+/// hart and one thread, up to a call, and its times are the numbers of its first and its last line.
+/// Code may be compressed where bit 0 of the executable's `e_flags` says so (`EF_RISCV_RVC`). A
+/// refusal names the first line that isn't three numbers, at which no instruction can have run, or
+/// from which the code can't go on; or a line that is a call after an uninferable jump; or no
+/// thread has two lines, or the packets take 2^32 bytes; or it is a want of memory.
+pub fn record(alloc: Global, exe: &[u8], log: &[u8]) -> Result<Text, HartLogRefusal>
     requires { length log.now < 2 ^ 32 }
     ensures ok { IfOk result (λ trace. IsRecordedSeveralHarts exe.now log.now trace) }
     ensures err { IfErr result (λ refusal. IsRefusedSeveralHarts exe.now log.now refusal) }
 {
-    let log = match read_log::<Entry>(alloc, exe, log) {
+    let log = match read_log::<HartLogLine>(alloc, exe, log) {
         Ok(log) => log,
         Err(fault) => return Err(refusal_of(fault)),
     };

@@ -7,21 +7,21 @@ ghost use Rattle.rept_steps.specs.Linked.{EndBefore};
 ghost use Rattle.rept_encode.specs.Walkable.{IsStepped, IsWalkable};
 ghost use Rattle.rept_simlog.specs.Program.{program_of};
 ghost use Rattle.rept_hartlog.specs.Log.{AreLines};
-ghost use Rattle.rept_hartlog.specs.Steps.{AddsRow, next_address};
-ghost use Rattle.rept_hartlog.specs.Stretches.{AreStretchesOf, IsPiece};
+ghost use Rattle.rept_hartlog.specs.Steps.{AddsLoggedRow, next_address};
+ghost use Rattle.rept_hartlog.specs.Stretches.{AreStretchesOf, IsHartPiece};
 ghost use Rattle.rept_hartlog.specs.Recorded.{IsStepRefused, IsStepsFault};
 
-use crate::log::Entry;
-use crate::refusal::Refusal;
+use crate::log::HartLogLine;
+use crate::refusal::HartLogRefusal;
 use rept_encode::{StepFault, push_step};
 use rept_isa::StepRow;
-use rept_simlog::Program;
+use rept_simlog::LoggedProgram;
 use rept_steps::Steps;
-use rept_weave::{Hart, Stretch};
+use rept_weave::{Hart, HartStretch};
 use std::alloc::Global;
 
 /// The address of the thread's next entry. None of the last one, where the thread stopped.
-fn next_address(entries: &[Entry], thread: u32) -> Option<u32>
+fn next_address(entries: &[HartLogLine], thread: u32) -> Option<u32>
     ensures { result ≡ next_address entries.now thread }
 {
     for entry in entries {
@@ -33,32 +33,37 @@ fn next_address(entries: &[Entry], thread: u32) -> Option<u32>
 }
 
 /// Adds the step of an entry to this address, for which there is room.
-fn add_step(steps: &mut Steps, program: &Program<'_>, from: &Entry, to: u32) -> Result<(), Refusal>
+fn add_step(
+    steps: &mut Steps,
+    program: &LoggedProgram<'_>,
+    from: &HartLogLine,
+    to: u32,
+) -> Result<(), HartLogRefusal>
     requires steps { All (IsStepped program.now.halves) steps.old }
     requires ends { EndBefore steps.old from.now.address }
     requires few { length steps.old < 65536 }
     ensures steps { All (IsStepped program.now.halves) steps.new }
     ensures ends { OnOk result (EndBefore steps.new to) }
-    ensures ok { OnOk result (AddsRow (program_of program.now) steps.old steps.new from.now to) }
+    ensures ok { OnOk result (AddsLoggedRow (program_of program.now) steps.old steps.new from.now to) }
     ensures err { IfErr result (λ refusal. IsStepRefused (program_of program.now) from.now to refusal) }
 {
     let near = program.near(from.address);
     let site = match near.site_at(from.address) {
         Ok(site) => site,
-        Err(fault) => return Err(Refusal::NoInstruction(from.line, fault)),
+        Err(fault) => return Err(HartLogRefusal::NoInstruction(from.line, fault)),
     };
     match push_step(steps, program.halves, &site, to) {
         Ok(()) => Ok(()),
         Err(fault) => match fault {
-            StepFault::NoStep => Err(Refusal::NoStep(from.line)),
+            StepFault::NoStep => Err(HartLogRefusal::NoStep(from.line)),
             StepFault::Full => unreachable!(),
-            StepFault::OutOfMemory => Err(Refusal::OutOfMemory),
+            StepFault::OutOfMemory => Err(HartLogRefusal::OutOfMemory),
         },
     }
 }
 
 /// Whether two entries are of one hart and one thread.
-fn goes_on(entry: &Entry, other: &Entry) -> bool
+fn goes_on(entry: &HartLogLine, other: &HartLogLine) -> bool
     ensures { IsTrue result ↔ (entry.now.hart ≡ other.now.hart) × (entry.now.thread ≡ other.now.thread) }
 {
     entry.hart == other.hart && entry.thread == other.thread
@@ -72,16 +77,17 @@ fn ends_with_call(rows: &[StepRow]) -> bool
     rows[rows.len() - 1].call
 }
 
-/// The steps of the first entries that are of one hart and one thread, up to a call or the thread's last entry, and how many entries that are.
+/// The steps of the first entries that are of one hart and one thread, up to a call or the thread's
+/// last entry, and how many entries that are.
 fn steps_of(
     alloc: Global,
-    program: &Program<'_>,
-    entries: &[Entry],
-) -> Result<(Steps, usize), Refusal>
+    program: &LoggedProgram<'_>,
+    entries: &[HartLogLine],
+) -> Result<(Steps, usize), HartLogRefusal>
     requires some { 0 < length entries.now }
     requires few { length entries.now ≤ 65537 }
     requires lines { AreLines entries.now }
-    ensures piece { IfOk result (λ piece. IsPiece (program_of program.now) entries.now piece.0 piece.1) }
+    ensures piece { IfOk result (λ piece. IsHartPiece (program_of program.now) entries.now piece.0 piece.1) }
     ensures steps { IfOk result (λ piece. All (IsStepped program.now.halves) piece.0) }
     ensures err { IfErr result (λ refusal. IsStepsFault (program_of program.now) entries.now refusal) }
 {
@@ -105,7 +111,7 @@ fn steps_of(
 }
 
 /// The stretch of these steps, which begin at an entry.
-fn stretch_of(first: &Entry, steps: Steps) -> Stretch
+fn stretch_of(first: &HartLogLine, steps: Steps) -> HartStretch
     requires { 0 < length steps }
     ensures process { result.process ≡ first.now.thread }
     ensures begin { result.begin ≡ first.now.line }
@@ -114,7 +120,7 @@ fn stretch_of(first: &Entry, steps: Steps) -> Stretch
 {
     let begin = u64::from(first.line);
     let end = begin + u64::from(steps.len()) - 1;
-    Stretch {
+    HartStretch {
         process: first.thread,
         begin,
         end,
@@ -122,12 +128,13 @@ fn stretch_of(first: &Entry, steps: Steps) -> Stretch
     }
 }
 
-/// The stretches of the entries, in the order of the log. The time of a step is the number of its line.
+/// The stretches of the entries, in the order of the log. The time of a step is the number of its
+/// line.
 pub fn stretches_of(
     alloc: Global,
-    program: &Program<'_>,
-    entries: &[Entry],
-) -> Result<Hart, Refusal>
+    program: &LoggedProgram<'_>,
+    entries: &[HartLogLine],
+) -> Result<Hart, HartLogRefusal>
     requires few { length entries.now ≤ 65537 }
     requires lines { AreLines entries.now }
     ensures cut { IfOk result (λ stretches. AreStretchesOf (program_of program.now) entries.now stretches) }
@@ -148,7 +155,7 @@ pub fn stretches_of(
             continue;
         }
         if let Err(_) = stretches.push(stretch_of(first, steps)) {
-            return Err(Refusal::OutOfMemory);
+            return Err(HartLogRefusal::OutOfMemory);
         }
     }
     Ok(stretches)

@@ -1,5 +1,6 @@
--- The bytes that a system call may change, where ranges are known of its arguments and of its answer. What one call changes, with
--- its sources, is told in rept_machine's `Calls`; this is the same table over ranges, this project's own.
+-- The bytes that a system call may change, where ranges are known of its arguments and of its
+-- answer. What one call changes, with its sources, is told in rept_machine's `Calls`; this is the
+-- same table over ranges, this project's own.
 use Rattle.std.specs.Prelude.{◌≡◌, ℕ, ◌+◌, ◌-◌, ◌*◌, ◌^◌, ◌≤◌, nat_le, nat_lt, min, ◌==◌, ◌&&◌, ◌||◌, if◌then◌else◌, Option, Some, None, List, slice_index_or, ⊤}
 use Rattle.rept_partial.specs.declared.range.Range.{Range}
 use Rattle.rept_partial.specs.declared.flat.Flat.{Flat}
@@ -19,8 +20,9 @@ use Rattle.rept_machine.specs.Calls.{is_error, bad_address, call_of}
 abbrev pub every_byte : CallAccess
 every_byte = record { first = Some everywhere; second = None }
 
--- So many bytes from a base in a range on: from the lowest base up to the last byte of the highest one. None where there are none. Where
--- the highest one passes the end of the address space, every byte.
+-- So many bytes from a base in a range on: from the lowest base up to the last byte of the highest
+-- one. None where there are none. Where the highest one passes the end of the address space, every
+-- byte.
 abbrev pub interval : Range → ℕ → Option Access
 interval base size = if size == 0 then None else if nat_le (base.hi + size) (2 ^ 32) then Some (between base.lo (base.hi + size - 1)) else Some everywhere
 

@@ -17,11 +17,12 @@ const LEAST_ERROR: u32 = 0xffff_f001;
 /// The answer EFAULT: -14.
 const BAD_ADDRESS: u32 = 0xffff_fff2;
 
-/// The bytes that a system call may change (Linux on 32-bit RISC-V), from what is known of its number in x17 (a7), of its
-/// arguments in x10 to x15 (a0 to a5), and of its answer, which is in x10 after it. `image_end` is the address after the
-/// last byte of the program's own memory, where the heap begins. Each interval of bytes goes from the lowest base to the last byte
-/// that the highest base and length reach; one that passes the end of the address space is every byte. A call of a number that
-/// is unknown, or of one that isn't listed, may change every byte.
+/// The bytes that a system call may change (Linux on 32-bit RISC-V), from what is known of its
+/// number in x17 (a7), of its arguments in x10 to x15 (a0 to a5), and of its answer, which is in
+/// x10 after it. `image_end` is the address after the last byte of the program's own memory, where
+/// the heap begins. Each interval of bytes goes from the lowest base to the last byte that the
+/// highest base and length reach; one that passes the end of the address space is every byte. A
+/// call of a number that is unknown, or of one that isn't listed, may change every byte.
 pub fn havoc(number: Flat, args: &[Range; 6], answered: Range, image_end: u64) -> CallAccess
     ensures value { result ≡ changed number (argument args.now) answered image_end }
     ensures covers { (register : ℕ → ℕ) (answer a : ℕ) → IsNumber number (register 17) → MeetsArguments (argument args.now) register → Lies answer answered → may_change image_end register answer a ≡ true → call_hits result a ≡ true }
@@ -125,7 +126,7 @@ fn every_byte() -> CallAccess
     }
 }
 
-/// So many bytes from a base in a range on.
+/// The bytes from a base in a range on, this many.
 fn interval(base: Range, size: u64) -> Option<Access>
     ensures { result ≡ interval base size }
 {

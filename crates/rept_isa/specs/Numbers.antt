@@ -1,5 +1,5 @@
--- Values and addresses are 32-bit words, and sums of them are modulo 2 ^ 32 (RISC-V unprivileged manual 20191213,
--- chapter 2.4: overflow is ignored, and the result is the low 32 bits).
+-- Values and addresses are 32-bit words, and sums of them are modulo 2 ^ 32 (RISC-V unprivileged
+-- manual 20191213, chapter 2.4: overflow is ignored, and the result is the low 32 bits).
 use Rattle.std.specs.Prelude.{ℕ, suc, ◌+◌, ◌-◌, ◌%◌, ◌^◌, ℤ, pos, negsuc}
 
 -- the word of a signed number, in two's complement

@@ -1,5 +1,6 @@
--- Which registers an instruction reads and writes, its kind, and which way a branch went (RISC-V unprivileged manual
--- 20191213, chapters 2.2, 2.4 to 2.6, 7 and 8; RISC-V psABI, for the register of a call's answer).
+-- Which registers an instruction reads and writes, its kind, and which way a branch went (RISC-V
+-- unprivileged manual 20191213, chapters 2.2, 2.4 to 2.6, 7 and 8; RISC-V psABI, for the register
+-- of a call's answer).
 use Rattle.std.specs.Prelude.{ℕ, ◌==◌, Bool, true, false, Option, Some, None, if◌then◌else◌}
 use Rattle.rept_isa.specs.declared.instr.Instr.{Instr}
 use Rattle.rept_isa.specs.declared.instr.Instr.TheVariants.{Lui, Auipc, Jal, Jalr, Branch, Load, Store, Imm, Op, Amo, Fence, Ecall, Ebreak, Counter}
@@ -72,7 +73,8 @@ second_read (Op op rd rs1 rs2) = Some rs2
 second_read (Amo op rd rs1 rs2) = source_of op rs2
 second_read _ = None
 
--- The kind. A JALR from x0 goes to an address that its word gives; from any other register it is a far jump.
+-- The kind. A JALR from x0 goes to an address that its word gives; from any other register it is a
+-- far jump.
 abbrev pub kind_of : Instr → Kind
 kind_of (Lui rd imm) = kinds.TheVariants.Plain
 kind_of (Auipc rd imm) = kinds.TheVariants.Plain
@@ -89,7 +91,8 @@ kind_of Ecall = kinds.TheVariants.Call
 kind_of Ebreak = kinds.TheVariants.Stop
 kind_of (Counter rd csr) = kinds.TheVariants.Counter
 
--- Which way a branch with this target went, which the instruction four bytes from an address follows. Where both ways lead to one place, either.
+-- Which way a branch with this target went, which the instruction four bytes from an address
+-- follows. Where both ways lead to one place, either.
 abbrev pub way : ℕ → ℕ → ℕ → Turn
 way from target next = if target == following from then Either else if next == target then Taken else if next == following from then NotTaken else NoBranch
 

@@ -1,5 +1,6 @@
--- Which instructions have a word: each immediate is one that its format can hold (RISC-V unprivileged manual 20191213,
--- chapters 2.2 to 2.6; chapter 8 for the source of LR, 10 for the counters).
+-- Which instructions have a word: each immediate is one that its format can hold (RISC-V
+-- unprivileged manual 20191213, chapters 2.2 to 2.6; chapter 8 for the source of LR, 10 for the
+-- counters).
 use Rattle.std.specs.Prelude.{◌≡◌, ℕ, ◌-◌, ◌%◌, ◌^◌, ◌<◌, ℤ, pos, negsuc}
 use Rattle.rept_isa.specs.declared.instr.Instr.{Instr}
 use Rattle.rept_isa.specs.declared.instr.Instr.TheVariants.{Lui, Auipc, Jal, Jalr, Branch, Load, Store, Imm, Op, Amo, Fence, Ecall, Ebreak, Counter}

@@ -1,5 +1,5 @@
--- How a word is read, a device of the proofs: the operation that a function field names, and the instruction of each
--- opcode. What a word means is told by `Words`.
+-- How a word is read, a device of the proofs: the operation that a function field names, and the
+-- instruction of each opcode. What a word means is told by `Words`.
 use Rattle.std.specs.Prelude.{ℕ, ◌==◌, nat_lt, Bool, ◌||◌, ◌&&◌, Option, Some, None, option_map, if◌then◌else◌, pos}
 use Rattle.rept_isa.specs.declared.instr.Instr.{Instr}
 use Rattle.rept_isa.specs.declared.instr.Instr.TheVariants.{Lui, Auipc, Jal, Jalr, Branch, Load, Store, Imm, Op, Amo, Fence, Ecall, Ebreak, Counter}

@@ -1,8 +1,10 @@
--- The addresses of an executed step. An instruction takes four bytes, a compressed one two (RISC-V unprivileged manual 20191213, chapters 1.5 and 16.1).
+-- The addresses of an executed step. An instruction takes four bytes, a compressed one two (RISC-V
+-- unprivileged manual 20191213, chapters 1.5 and 16.1).
 use Rattle.std.specs.Prelude.{ℕ, Bool, ◌+◌, ◌-◌, ◌%◌, ◌^◌, if◌then◌else◌}
 use Rattle.rept_isa.specs.declared.row.StepRow.{StepRow}
 
--- the address of the instruction, the one four bytes before the instruction that follows it, and that of the next step
+-- the address of the instruction, the one four bytes before the instruction that follows it, and
+-- that of the next step
 pub record Addresses : Type 0 where
   pub at : ℕ
   pub from : ℕ

@@ -1,5 +1,5 @@
--- How an instruction is written (RISC-V assembly programmer's manual): registers by number, immediates in signed decimal,
--- the target of a jump or branch as its address.
+-- How an instruction is written (RISC-V assembly programmer's manual): registers by number,
+-- immediates in signed decimal, the target of a jump or branch as its address.
 use Rattle.std.specs.Prelude.{ℕ, ◌+◌, ◌/◌, ◌%◌, ◌^◌, List, [], ◌∷◌, ◌++◌, map, nat_lt, if◌then◌else◌, codes, ℤ, pos}
 use Rattle.std.specs.Fmt.{decimal, signed_decimal, digits}
 use Rattle.std.specs.Prelude.{false}

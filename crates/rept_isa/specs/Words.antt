@@ -1,5 +1,6 @@
--- Which instruction a word spells: RV32I, M, A, Zifencei and the counters of Zicsr (RISC-V unprivileged manual 20191213,
--- chapters 2.2 and 2.3 for the formats, 8 for A, 24 for the listing). Bit 0 is the least significant.
+-- Which instruction a word spells: RV32I, M, A, Zifencei and the counters of Zicsr (RISC-V
+-- unprivileged manual 20191213, chapters 2.2 and 2.3 for the formats, 8 for A, 24 for the listing).
+-- Bit 0 is the least significant.
 use Rattle.std.specs.Prelude.{◌≡◌, ℕ, suc, ◌+◌, ◌-◌, ◌*◌, ◌/◌, ◌%◌, ◌^◌, ◌<◌, nat_lt, ◌⊎◌, if◌then◌else◌, ℤ, pos, negsuc}
 use Rattle.rept_isa.specs.declared.instr.Instr.{Instr}
 use Rattle.rept_isa.specs.declared.instr.Instr.TheVariants.{Lui, Auipc, Jal, Jalr, Branch, Load, Store, Imm, Op, Amo, Fence, Ecall, Ebreak, Counter}
@@ -202,7 +203,8 @@ pub record IsRegister (function seven : ℕ) (word rd rs1 rs2 : ℕ) : Type 0 wh
   pub first : rs1 ≡ rs1_field word
   pub second : rs2 ≡ rs2_field word
 
--- opcode 0x2f, and funct3 2 for words of 32 bits. Bits 25 and 26 tell an order of memory accesses, and may be anything.
+-- opcode 0x2f, and funct3 2 for words of 32 bits. Bits 25 and 26 tell an order of memory accesses,
+-- and may be anything.
 pub record IsAmo (op : AmoOp) (word rd rs1 rs2 : ℕ) : Type 0 where
   pub form : opcode word ≡ 47
   pub operation : funct3 word ≡ 2
@@ -212,16 +214,19 @@ pub record IsAmo (op : AmoOp) (word rd rs1 rs2 : ℕ) : Type 0 where
   pub second : rs2 ≡ rs2_field word
   pub source : HasSource op rs2
 
--- The word asks for no order of memory accesses. So do the words that the encoder writes; a word that is read may ask for any.
+-- The word asks for no order of memory accesses. So do the words that the encoder writes; a word
+-- that is read may ask for any.
 abbrev pub IsUnordered : ℕ → Type 0
 IsUnordered word = field word 25 2 ≡ 0
 
--- FENCE and FENCE.I (opcode 0x0f): the other bits tell an order of memory accesses, or are reserved and ignored
+-- FENCE and FENCE.I (opcode 0x0f): the other bits tell an order of memory accesses, or are reserved
+-- and ignored
 pub record IsFence (word : ℕ) : Type 0 where
   pub form : opcode word ≡ 15
   pub operation : funct3 word < 2
 
--- 0x0ff0000f, the word of `fence iorw, iorw` (chapter 2.7): the one that the encoder writes for a fence
+-- 0x0ff0000f, the word of `fence iorw, iorw` (chapter 2.7): the one that the encoder writes for a
+-- fence
 abbrev pub full_fence : ℕ
 full_fence = 267386895
 

@@ -4,7 +4,8 @@ use Rattle.rept_isa.specs.declared.instr.Instr.{Instr}
 use Rattle.rept_isa.specs.declared.instr.Instr.TheVariants.{Lui, Auipc, Jal, Jalr, Branch, Load, Store, Imm, Op, Amo, Fence, Ecall, Ebreak, Counter}
 use Rattle.rept_isa.specs.Words.{IsWord, IsAmo, IsUnordered, full_fence}
 
--- it spells the instruction; an atomic one asks for no order of memory accesses, and a fence is the full one
+-- it spells the instruction; an atomic one asks for no order of memory accesses, and a fence is the
+-- full one
 abbrev pub IsWritten : ℕ → Instr → Type 0
 IsWritten word (Lui rd imm) = IsWord word (Lui rd imm)
 IsWritten word (Auipc rd imm) = IsWord word (Auipc rd imm)

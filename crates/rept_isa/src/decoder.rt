@@ -15,7 +15,8 @@ use crate::operation::{
     amo_named, branch_named, load_named, register_named, shift_named, store_named, wide_named,
 };
 
-/// The instruction that the word spells. None exactly where it spells none of RV32IMA, Zifencei and the reads of counters.
+/// The instruction that the word spells. None exactly where it spells none of RV32IMA, Zifencei and
+/// the reads of counters.
 pub fn decode(word: u32) -> Option<Instr>
     ensures some { IfSome result (λ i. IsWord word i) }
     ensures only { (i : Instr) → IsWord word i → result ≡ Some i }

@@ -12,8 +12,8 @@ use crate::instr::{AmoOp, BranchOp, ImmOp, Instr, LoadOp, RegOp, StoreOp};
 use crate::number::word;
 use crate::reg::Reg;
 
-/// The word that spells the instruction, and no other one. A fence is written as the full one, `fence iorw, iorw`: 0x0ff0000f, and an
-/// atomic instruction without an order of memory accesses.
+/// The word that spells the instruction, and no other one. A fence is written as the full one,
+/// `fence iorw, iorw`: 0x0ff0000f, and an atomic instruction without an order of memory accesses.
 /// Each immediate must be one that the instruction's format holds.
 pub fn encode(instr: &Instr) -> u32
     requires { InRange instr.now }
@@ -25,7 +25,7 @@ pub fn encode(instr: &Instr) -> u32
     spell(instr)
 }
 
-/// The same word, by what the encoder writes of each kind.
+/// The word of an instruction, by what the encoder writes of each kind.
 fn spell(instr: &Instr) -> u32
     requires { InRange instr.now }
     ensures { IsWritten result instr.now }

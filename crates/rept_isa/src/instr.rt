@@ -68,8 +68,9 @@ pub enum RegOp {
     Remu,
 }
 
-/// An operation on a word of memory (chapter 8): a load that reserves and a store that is conditional on the reservation, and the atomic memory
-/// operations, which read a word, write another one and leave no step between.
+/// An operation on a word of memory (chapter 8): a load that reserves and a store that is
+/// conditional on the reservation, and the atomic memory operations, which read a word, write
+/// another one and leave no step between.
 #[derive(Clone, Copy)]
 pub enum AmoOp {
     Lr,
@@ -85,8 +86,9 @@ pub enum AmoOp {
     Maxu,
 }
 
-/// An instruction of RV32IMA. `imm` is the immediate as the instruction uses it: a signed number, or for
-/// `Lui` and `Auipc` the upper 20 bits in place; for the three shifts it is the amount, 0 to 31.
+/// An instruction of RV32IMA. `imm` is the immediate as the instruction uses it: a signed number,
+/// or for `Lui` and `Auipc` the upper 20 bits in place; for the three shifts it is the amount, 0 to
+/// 31.
 #[derive(Clone, Copy)]
 pub enum Instr {
     Lui {

@@ -16,8 +16,8 @@ pub fn is_call(instr: &Instr) -> bool
     matches!(*instr, Instr::Ecall)
 }
 
-/// The register that the instruction writes. None where it has no destination, or names x0. The answer of an ECALL
-/// comes in x10 (a0).
+/// The register that the instruction writes. None where it has no destination, or names x0. The
+/// answer of an ECALL comes in x10 (a0).
 pub fn writes(instr: &Instr) -> Option<Reg>
     ensures { result ≡ written_by instr.now }
 {
@@ -42,8 +42,8 @@ fn destination(rd: Reg) -> Option<Reg>
     if rd.number() == 0 { None } else { Some(rd) }
 }
 
-/// The registers in the places of rs1 and rs2, x0 too. None where the instruction's form has no such place,
-/// as that of an LR has none for rs2.
+/// The registers in the places of rs1 and rs2, x0 too. None where the instruction's form has no
+/// such place, as that of an LR has none for rs2.
 pub fn reads(instr: &Instr) -> (Option<Reg>, Option<Reg>)
     ensures first { result.0 ≡ first_read instr.now }
     ensures second { result.1 ≡ second_read instr.now }
@@ -104,8 +104,9 @@ pub fn kind(instr: &Instr) -> Kind
     }
 }
 
-/// Which way the row went: a branch whose target is the next instruction is `Either`; another one is `Taken` where
-/// `next` is the target and `NotTaken` where it is the instruction that follows; all else is `NoBranch`.
+/// Which way the row went: a branch whose target is the next instruction is `Either`; another one
+/// is `Taken` where `next` is the target and `NotTaken` where it is the instruction that follows;
+/// all else is `NoBranch`.
 pub fn turn(row: &StepRow) -> Turn
     ensures { result ≡ turn_of row.now }
 {

@@ -47,7 +47,8 @@ pub fn store_named(funct3: u32) -> Option<StoreOp>
     }
 }
 
-/// An operation on a register and an immediate of 12 bits. The two numbers between are those of the shifts.
+/// An operation on a register and an immediate of 12 bits. The two numbers between are those of the
+/// shifts.
 pub fn wide_named(funct3: u32) -> Option<ImmOp>
     ensures { result ≡ wide_named funct3 }
 {
@@ -130,7 +131,8 @@ fn multiply_named(funct3: u32) -> Option<RegOp>
     }
 }
 
-/// The operation of bits 27 to 31. The number in the place of rs2 is `second`, which is 0 for an LR.
+/// The operation of bits 27 to 31. The number in the place of rs2 is `second`, which is 0 for an
+/// LR.
 pub fn amo_named(funct5: u32, second: u8) -> Option<AmoOp>
     ensures value { result ≡ amo_named funct5 second }
     ensures some { IfSome result (λ op. (funct5 ≡ amo_funct5 op) × HasSource op second) }

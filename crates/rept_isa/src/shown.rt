@@ -19,7 +19,8 @@ impl fmt::Display for Reg {
     }
 }
 
-/// An instruction at an address, written as assemblers write it: `addi x5,x6,-1`, `beq x1,x2,0x00010008`.
+/// An instruction at an address, written as assemblers write it: `addi x5,x6,-1`,
+/// `beq x1,x2,0x00010008`.
 #[derive(Clone, Copy)]
 pub struct Shown {
     pub at: u32,

@@ -1,4 +1,5 @@
--- The word of a set that is next to a bound, by its parts above and below the highest known bit in which the bound differs.
+-- The word of a set that is next to a bound, by its parts above and below the highest known bit in
+-- which the bound differs.
 use Rattle.std.proofs.Common.{◌≡◌, ◌≢◌, ℕ, zero, suc, ◌+◌, ◌-◌, ◌*◌, ◌/◌, ◌%◌, ◌^◌, ◌<◌, ◌≤◌, min, max, true, inl, inr, sym, ap, ◌∙◌, subst, arith}
 use Rattle.std.specs.Prelude.{bit_and, bit_or, bit_xor}
 use Rattle.std.specs.Int.{bit_at}

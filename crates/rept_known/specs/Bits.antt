@@ -1,5 +1,5 @@
--- Words of which some bits are known, as sets of values: the known bits of compilers (LLVM's KnownBits), the tristate numbers
--- of the Linux kernel (tnum).
+-- Words of which some bits are known, as sets of values: the known bits of compilers (LLVM's
+-- KnownBits), the tristate numbers of the Linux kernel (tnum).
 use Rattle.std.proofs.Common.{arith}
 use Rattle.std.specs.Prelude.{◌≡◌, ℕ, ◌+◌, ◌<◌, ◌^◌, Bool, ◌&&◌, nat_lt, ◌==◌, if◌then◌else◌, Option, Some, None, bit_and, bit_or, bit_xor}
 use Rattle.rept_known.specs.declared.bits.Bits.{Bits}

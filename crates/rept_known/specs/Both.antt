@@ -1,5 +1,6 @@
--- Known bits and a range together, as sets of values, kept reduced: the range goes from the least common word to the greatest
--- one, and a bit is open where two of the common words differ. This project's own.
+-- Known bits and a range together, as sets of values, kept reduced: the range goes from the least
+-- common word to the greatest one, and a bit is open where two of the common words differ. This
+-- project's own.
 use Rattle.std.specs.Prelude.{◌≡◌, ◌≢◌, ℕ, ◌+◌, ◌^◌, ◌<◌, ◌≤◌, min, Bool, true, ◌&&◌, Option, Some, None, bit_and, bit_xor, ◌↔◌}
 use Rattle.std.proofs.Common.{◌⊎◌, inl, inr, refl, sym, ◌∙◌, arith}
 use Rattle.std.specs.Int.{bit_at}
@@ -24,7 +25,8 @@ use Rattle.rept_known.specs.Least.{IsLeastFrom, IsGreatestTo, least_word, greate
 abbrev pub both_has : Both → ℕ → Bool
 both_has a v = range_has a.range v && bits_has a.bits v
 
--- the open bits of the words of a set from one of its words to another: those up to the highest bit in which the two differ
+-- the open bits of the words of a set from one of its words to another: those up to the highest bit
+-- in which the two differ
 abbrev pub open_between : Bits → ℕ → ℕ → ℕ
 open_between b lo hi = bit_and b.loose (cover (bit_xor lo hi))
 
@@ -38,7 +40,8 @@ alike_above lo hi i s t e = elim (cases_lt i (digits (bit_xor lo hi))) [
     zero_one : (n : ℕ) → n ≡ 0 → n ≡ 1 → ⊥
     zero_one n e f = omega arith
 
--- where a bit isn't open between two words, either the set knows it, or it is above all that tells the two apart
+-- where a bit isn't open between two words, either the set knows it, or it is above all that tells
+-- the two apart
 pub closed_between : (b : Bits) (lo hi i : ℕ) → bit_at (open_between b lo hi) i ≡ 0 → (bit_at b.loose i ≡ 0) ⊎ (bit_at (cover (bit_xor lo hi)) i ≡ 0)
 closed_between b lo hi i e = elim (bit_cases b.loose i) [
   | inl known ↦ inl known

@@ -1,5 +1,5 @@
--- What instructions make of a range and known bits together: each part's, and what the two have in common. These sets keep the laws
--- of sets that instructions change.
+-- What instructions make of a range and known bits together: each part's, and what the two have in
+-- common. These sets keep the laws of sets that instructions change.
 use Rattle.std.proofs.Common.{◌≡◌, ◌≢◌, ℕ, ◌%◌, ◌^◌, ◌<◌, ◌⊎◌, Bool, true, false, Option, Some, None, inl, inr, refl, sym, ap, subst, ◌∙◌, arith, lit<}
 use Rattle.std.specs.Prelude.{ℤ, ◌==◌, nat_lt, if◌then◌else◌}
 use Rattle.std.proofs.lemmas.Nat.{and_le_l, or_lt, xor_lt, shr_le}
@@ -69,8 +69,8 @@ abbrev pub first_common : Option (Range × Range) → Both → Both → Option (
 first_common (Some r) a b = with_second b (reduced r.0 a.bits)
 first_common None a b = None
 
--- what an instruction leaves of both parts of its operands: of a branch what both parts leave, of a JALR what its range leaves of
--- the base, and of any other all
+-- what an instruction leaves of both parts of its operands: of a branch what both parts leave, of a
+-- JALR what its range leaves of the base, and of any other all
 abbrev pub left_both : Instr → Option (Range × Range) → Option (Bits × Bits) → Both → Both → Option (Both × Both)
 left_both (Branch op rs1 rs2 imm) r k a b = both_common r k
 left_both (Jalr rd rs1 imm) r k a b = first_common r a b

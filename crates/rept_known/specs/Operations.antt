@@ -1,6 +1,7 @@
--- What each instruction makes of the known bits of its operands, as a table. A sum is the known-bits addition of compilers
--- (LLVM's KnownBits, tnum_add and tnum_sub of the Linux kernel); the other rows are this project's own. What the instructions do is
--- in the RISC-V unprivileged manual 20191213, chapters 2.4 to 2.6 and 7.
+-- What each instruction makes of the known bits of its operands, as a table. A sum is the
+-- known-bits addition of compilers (LLVM's KnownBits, tnum_add and tnum_sub of the Linux kernel);
+-- the other rows are this project's own. What the instructions do is in the RISC-V unprivileged
+-- manual 20191213, chapters 2.4 to 2.6 and 7.
 use Rattle.std.specs.Prelude.{ℕ, ◌+◌, ◌-◌, ◌*◌, ◌/◌, ◌%◌, ◌^◌, Bool, true, false, ◌==◌, bit_and, bit_or, bit_xor, if◌then◌else◌, Option, Some, None}
 use Rattle.rept_isa.specs.declared.instr.Instr.{Instr}
 use Rattle.rept_isa.specs.declared.instr.Instr.TheVariants.{Lui, Auipc, Jal, Jalr, Branch, Load, Store, Imm, Op, Amo, Fence, Ecall, Ebreak, Counter}
@@ -32,12 +33,13 @@ all_known v = outside v 0
 abbrev pub low_open : ℕ → Bits
 low_open k = outside 0 (2 ^ k - 1)
 
--- A sum: that of the values where no open bit is set, and another one where all are. A bit is open where either operand's is, or
--- where the two sums differ, as the carry into it is then open.
+-- A sum: that of the values where no open bit is set, and another one where all are. A bit is open
+-- where either operand's is, or where the two sums differ, as the carry into it is then open.
 abbrev pub sum_bits : Bits → Bits → Bits
 sum_bits a b = outside (word (a.value + b.value)) (bit_or (bit_xor (word (a.value + b.value + a.loose + b.loose)) (word (a.value + b.value))) (bit_or a.loose b.loose))
 
--- a difference: the greatest one has the open bits of the first operand set, and the least one those of the second
+-- a difference: the greatest one has the open bits of the first operand set, and the least one
+-- those of the second
 abbrev pub difference_bits : Bits → Bits → Bits
 difference_bits a b =
     outside (word (a.value + (2 ^ 32 - b.value)))
@@ -101,8 +103,9 @@ loaded_bits Lb = all_open
 loaded_bits Lh = all_open
 loaded_bits Lw = all_open
 
--- The table: the known bits of what the instruction that is followed four bytes from an address puts into its register, from those of rs1 and rs2. An immediate
--- is an operand that is known. An instruction without one, a call and a counter leave all bits open.
+-- The table: the known bits of what the instruction that is followed four bytes from an address
+-- puts into its register, from those of rs1 and rs2. An immediate is an operand that is known. An
+-- instruction without one, a call and a counter leave all bits open.
 abbrev pub applied_bits : Instr → ℕ → Bits → Bits → Bits
 applied_bits (Lui rd imm) from a b = all_known imm
 applied_bits (Auipc rd imm) from a b = all_known (beside from imm)

@@ -5,8 +5,9 @@ ghost use Rattle.std.specs.Prelude.{◌≡◌, ◌<◌, ◌+◌, ◌^◌, bit_an
 use crate::outside::outside;
 use rept_partial::Partial;
 
-/// The words that agree with one word outside some bits, which are called open: each of them may be 0 or 1, whatever the others
-/// are. Compilers call this known bits (LLVM's `KnownBits`), and the Linux kernel a tristate number (`tnum`).
+/// The words that agree with one word outside some bits, which are called open: each of them may be
+/// 0 or 1, whatever the others are. Compilers call this known bits (LLVM's `KnownBits`), and the
+/// Linux kernel a tristate number (`tnum`).
 #[derive(Clone, Copy, PartialEq, Eq, Debug)]
 pub struct Bits {
     value: u32,

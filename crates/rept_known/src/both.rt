@@ -8,8 +8,9 @@ use crate::bits::Bits;
 use crate::reduce::{common, whole};
 use rept_partial::{Partial, Range};
 
-/// The words that a range and known bits have in common. It is kept reduced: the range goes from the least of these words to the
-/// greatest one, and a bit is open exactly where two of them differ.
+/// The words that a range and known bits have in common. It is kept reduced: the range goes from
+/// the least of these words to the greatest one, and a bit is open exactly where two of them
+/// differ.
 #[derive(Clone, Copy, PartialEq, Eq, Debug)]
 pub struct Both {
     range: Range,

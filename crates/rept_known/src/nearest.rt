@@ -9,7 +9,8 @@ ghost use Rattle.rept_known.specs.Parts.{next_part};
 use crate::bits::Bits;
 use crate::outside::outside;
 
-/// The least word of `b` that is at least `lo`. None exactly where there is none. It takes a dozen operations.
+/// The least word of `b` that is at least `lo`. None exactly where there is none. It takes a dozen
+/// operations.
 pub fn least_from(b: Bits, lo: u32) -> Option<u32>
     ensures value { result ≡ least_word b lo }
     ensures some { IfSome result (λ v. IsLeastFrom b lo v) }

@@ -12,7 +12,8 @@ use crate::outside::outside;
 use rept_partial::{Partial, Range};
 
 impl Both {
-    /// The words that the range and the known bits have in common. None exactly where there is none.
+    /// The words that the range and the known bits have in common. None exactly where there is
+    /// none.
     pub fn new(range: Range, bits: Bits) -> Option<Both>
         ensures some { IfSome result (λ a. IsReduced range bits a) }
         ensures none { result ≡ None → (v : ℕ) → range_has range v ≡ true → bits_has bits v ≡ true → ⊥ }

@@ -1,4 +1,5 @@
--- Which of some rows is the last one, and what is said of the row that last wrote a byte. This project's own.
+-- Which of some rows is the last one, and what is said of the row that last wrote a byte. This
+-- project's own.
 use Rattle.std.specs.Prelude.{◌≡◌, ℕ, ◌<◌, Bool, true, false, ◌&&◌, Option, Some, None}
 use Rattle.rept_report.specs.Latest.{IsLatest, HasNone}
 use Rattle.rept_report.specs.Moments.{Moments}
@@ -6,9 +7,10 @@ use Rattle.rept_report.specs.Spots.{Spot, spot}
 use Rattle.rept_report.specs.Timeline.{Timeline, IsBegun}
 use Rattle.rept_report.specs.declared.writer.Writer.{Writer}
 use Rattle.rept_report.specs.declared.writer.Writer as writers
-use Rattle.rept_latest.specs.declared.sought.Sought.{Sought}
+use Rattle.rept_latest.specs.declared.sought.SoughtRows.{SoughtRows}
 
--- which rows may write the byte at an address, and which of them write each byte that they may write
+-- which rows may write the byte at an address, and which of them write each byte that they may
+-- write
 pub record Writes : Type 0 where
   pub may : ℕ → ℕ → Bool
   pub sure : ℕ → Bool
@@ -23,10 +25,11 @@ sought_by t writes m None i = IsBegun t m i
 sought_by t writes m (Some a) i = IsMaybe t writes (spot m a) i
 
 -- one of the rows of which the last one is sought
-abbrev pub IsSought : Timeline → Writes → Sought → ℕ → Type 0
+abbrev pub IsSought : Timeline → Writes → SoughtRows → ℕ → Type 0
 IsSought t writes x i = sought_by t writes x.moment x.address i
 
--- what is said of the row that last wrote, where each of some rows may have written and no other did: at most one of the four fits, and never the first
+-- what is said of the row that last wrote, where each of some rows may have written and no other
+-- did: at most one of the four fits, and never the first
 abbrev pub IsPossibleWriter : Moments → (ℕ → Type 0) → Writer → Type 0
 IsPossibleWriter moments Is (writers.TheVariants.Writes j) = ⊥
 IsPossibleWriter moments Is (writers.TheVariants.MayWrite j) = IsLatest moments Is j
@@ -50,5 +53,5 @@ IsGreatest Is None = (k : ℕ) → Is k → ⊥
 IsGreatest Is (Some j) = Is j × ((k : ℕ) → j < k → Is k → ⊥)
 
 -- each row can be asked, where the byte at an address is meant
-abbrev pub CanAsk : Timeline → (ℕ → Type 0) → Sought → Type 0
+abbrev pub CanAsk : Timeline → (ℕ → Type 0) → SoughtRows → Type 0
 CanAsk t ready x = (a : ℕ) → x.address ≡ Some a → (i : ℕ) → i < t.legs.count → ready i

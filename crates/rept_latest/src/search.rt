@@ -1,11 +1,12 @@
-//! The last of some rows, found by comparing each that isn't surely earlier with the best one so far.
+//! The last of some rows, found by comparing each that isn't surely earlier with the best one so
+//! far.
 
 ghost use Rattle.std.specs.Prelude.{◌≡◌, ◌≢◌, ◌<◌, ◌≤◌, ◌↔◌, if◌then◌else◌, ℕ, true, false, IfSome, IsSome};
 ghost use Rattle.rept_report.specs.Latest.{IsEarlierRow, IsLatest};
 ghost use Rattle.rept_report.specs.Timeline.{IsLeastFrom, IsGreatestTo, IsBegun, IsClose};
 ghost use Rattle.rept_latest.specs.Latest.{CanAsk, IsGreatest, IsPossibleWriter, IsSought};
 
-use crate::sought::Sought;
+use crate::sought::SoughtRows;
 use crate::writes::RowWrites;
 use rept_report::{Paths, Writer};
 
@@ -32,10 +33,10 @@ fn close_from<P: Paths>(paths: &P, row: u32, least: u32) -> Option<u32>
 /// Whether writers that aren't told, if there are any, lie wholly before a row.
 fn is_clear<P: Paths>(paths: &P, row: u32) -> bool
     requires { IsSome ((P.timeline paths.now).legs.row row) }
-    ensures { result ≡ (if (P.timeline paths.now).moments.is_dark then (P.timeline paths.now).moments.dark_before row else true) }
+    ensures { result ≡ (if (P.timeline paths.now).moments.is_untraced then (P.timeline paths.now).moments.untraced_before row else true) }
 {
-    if paths.is_dark() {
-        paths.is_dark_before(row)
+    if paths.is_untraced() {
+        paths.is_untraced_before(row)
     } else {
         true
     }
@@ -43,16 +44,16 @@ fn is_clear<P: Paths>(paths: &P, row: u32) -> bool
 
 /// Rows among which the last one is sought.
 #[derive(Drop)]
-pub struct Search<'k, P: Paths, M: RowWrites> {
+pub struct LastRowSearch<'k, P: Paths, M: RowWrites> {
     /// their moments
     pub paths: &'k P,
     /// which bytes they write
     pub rows: &'k M,
     /// which of them are meant
-    pub sought: Sought,
+    pub sought: SoughtRows,
 }
 
-impl<'k, P: Paths, M: RowWrites> Search<'k, P, M> {
+impl<'k, P: Paths, M: RowWrites> LastRowSearch<'k, P, M> {
     /// Whether a row that doesn't lie wholly after the moment is one of those that are sought.
     fn is_possible(&self, i: u32) -> bool
         requires inside { i < (P.timeline self.now.paths.now).legs.count }
@@ -95,8 +96,9 @@ impl<'k, P: Paths, M: RowWrites> Search<'k, P, M> {
         None
     }
 
-    /// One of these rows, and the one up to a number that lies wholly after all others, if one does: it takes the place of any that was found before it,
-    /// and none takes its place. The rows than which the one that was found is later needn't be looked at.
+    /// One of these rows, and the one up to a number that lies wholly after all others, if one
+    /// does: it takes the place of any that was found before it, and none takes its place. The rows
+    /// than which the one that was found is later needn't be looked at.
     fn newest(&self, top: u32) -> u32
         requires inside { top < (P.timeline self.now.paths.now).legs.count }
         requires top { IsSought (P.timeline self.now.paths.now) (M.writes self.now.rows.now) self.now.sought top }
@@ -118,7 +120,8 @@ impl<'k, P: Paths, M: RowWrites> Search<'k, P, M> {
         best
     }
 
-    /// Whether one of these rows, other than this one, doesn't lie wholly before it: none up to a number, or some.
+    /// Whether one of these rows, other than this one, doesn't lie wholly before it: none up to a
+    /// number, or some.
     fn has_rival(&self, best: u32, top: u32) -> bool
         requires best { IsSome ((P.timeline self.now.paths.now).legs.row best) }
         requires ready { CanAsk (P.timeline self.now.paths.now) (M.ready self.now.rows.now) self.now.sought }
@@ -138,7 +141,8 @@ impl<'k, P: Paths, M: RowWrites> Search<'k, P, M> {
         false
     }
 
-    /// Whether this one lies wholly after all others, of which none is past a number, and after writers that aren't told.
+    /// Whether this one lies wholly after all others, of which none is past a number, and after
+    /// writers that aren't told.
     fn is_latest(&self, best: u32, top: u32) -> bool
         requires best { IsSought (P.timeline self.now.paths.now) (M.writes self.now.rows.now) self.now.sought best }
         requires top { (k : ℕ) → top < k → IsSought (P.timeline self.now.paths.now) (M.writes self.now.rows.now) self.now.sought k → ⊥ }
@@ -148,13 +152,14 @@ impl<'k, P: Paths, M: RowWrites> Search<'k, P, M> {
         !self.has_rival(best, top) && is_clear(self.paths, best)
     }
 
-    /// What is said of the row that last wrote, where each of these rows may have written and no other did.
+    /// What is said of the row that last wrote, where each of these rows may have written and no
+    /// other did.
     pub fn writer(&self) -> Writer
         requires ready { CanAsk (P.timeline self.now.paths.now) (M.ready self.now.rows.now) self.now.sought }
         ensures { IsPossibleWriter (P.timeline self.now.paths.now).moments (IsSought (P.timeline self.now.paths.now) (M.writes self.now.rows.now) self.now.sought) result }
     {
         let Some(top) = self.greatest() else {
-            return if self.paths.is_dark() {
+            return if self.paths.is_untraced() {
                 Writer::Several
             } else {
                 Writer::None

@@ -4,17 +4,18 @@ ghost use Rattle.std.specs.Prelude.{◌≡◌, ◌<◌, ℕ, IsSome};
 ghost use Rattle.rept_report.specs.Spots.{spot};
 ghost use Rattle.rept_latest.specs.Latest.{CanAsk, IsLastWriter, IsPossibleWriter, IsSought, is_certain};
 
-use crate::search::Search;
-use crate::sought::Sought;
+use crate::search::LastRowSearch;
+use crate::sought::SoughtRows;
 use crate::writes::RowWrites;
 use rept_report::{Paths, Writer};
 
-/// What is said of the row that last wrote, where each of the rows that are sought may have written and no other did.
-pub fn possible_writer<P: Paths, M: RowWrites>(paths: &P, rows: &M, sought: Sought) -> Writer
+/// What is said of the row that last wrote, where each of the rows that are sought may have written
+/// and no other did.
+pub fn possible_writer<P: Paths, M: RowWrites>(paths: &P, rows: &M, sought: SoughtRows) -> Writer
     requires { CanAsk (P.timeline paths.now) (M.ready rows.now) sought }
     ensures { IsPossibleWriter (P.timeline paths.now).moments (IsSought (P.timeline paths.now) (M.writes rows.now) sought) result }
 {
-    let search = Search {
+    let search = LastRowSearch {
         paths,
         rows,
         sought,
@@ -37,7 +38,7 @@ pub fn last_writer<P: Paths, M: RowWrites>(paths: &P, rows: &M, moment: u32, a: 
     ensures { IsLastWriter (P.timeline paths.now) (M.writes rows.now) (spot moment a) result }
 {
     let address = Some(a);
-    match possible_writer(paths, rows, Sought { moment, address }) {
+    match possible_writer(paths, rows, SoughtRows { moment, address }) {
         Writer::MayWrite(row) => {
             if is_certain(paths, rows, row, moment) {
                 Writer::Writes(row)

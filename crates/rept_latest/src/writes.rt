@@ -3,8 +3,8 @@
 ghost use Rattle.std.specs.Prelude.{◌≡◌, ℕ};
 ghost use Rattle.rept_latest.specs.Latest.{Writes};
 
-/// Rows by their numbers, of which it can be asked which bytes they may write. `writes` names the answers as functions, and `ready` says of which
-/// rows it can be asked.
+/// Rows by their numbers, of which it can be asked which bytes they may write. `writes` names the
+/// answers as functions, and `ready` says of which rows it can be asked.
 pub trait RowWrites {
     ghost writes: { Self → Writes };
 

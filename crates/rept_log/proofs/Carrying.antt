@@ -4,9 +4,9 @@ use Rattle.std.proofs.lemmas.Bool.{cases_Bool, cases_eq, cond-true, cond-false, 
 use Rattle.rept_reason.specs.declared.fact.Fact.{Fact}
 use Rattle.rept_reason.specs.declared.fact.Cell.{Cell}
 use Rattle.rept_reason.specs.declared.fact.Cell.TheVariants.{Byte}
-use Rattle.rept_reason.specs.declared.reason.Looked.{Looked}
+use Rattle.rept_reason.specs.declared.reason.RangePremise.{RangePremise}
 use Rattle.rept_reason.specs.Facts.{Knowledge, told}
-use Rattle.rept_nearest.specs.declared.found.Found.{Found}
+use Rattle.rept_nearest.specs.declared.found.NearestValue.{NearestValue}
 use Rattle.rept_nearest.specs.Nets.{IsNearest}
 use Rattle.rept_report.specs.Setting.{Setting, HasLaws}
 use Rattle.rept_report.specs.Spots.{Passage, passage, spot}
@@ -17,9 +17,9 @@ use Rattle.rept_report.specs.Reasons.IsReached.{here as reached_here, onward as 
 use Rattle.rept_report.specs.Why.{Because, because, fact_of, looked_across, encloses, looked_below, looked_between, IsNearer, IsCarriedBecause}
 use Rattle.rept_report.specs.Why.IsCarriedBecause.{last_byte as by_dump, onward as by_onward, back as by_back}
 use Rattle.rept_report.proofs.Why.{carries_is}
-use Rattle.rept_origin.specs.declared.step.Way.{Way}
-use Rattle.rept_origin.specs.declared.step.Way.TheVariants.{Onward, Back}
-use Rattle.rept_origin.specs.declared.step.Step.{Step}
+use Rattle.rept_origin.specs.declared.step.Direction.{Direction}
+use Rattle.rept_origin.specs.declared.step.Direction.TheVariants.{Onward, Back}
+use Rattle.rept_origin.specs.declared.step.Carriage.{Carriage}
 use Rattle.rept_origin.specs.Bridges.{carries_by}
 use Rattle.rept_origin.specs.Logs.{time_of, byte_in, links_in}
 use Rattle.rept_origin.proofs.Reached.{as_soon, never}
@@ -71,16 +71,16 @@ module _ {W : Type 0} (f : FrontView W) (x : Fact) (a : ℕ) (cell : x.cell ≡ 
 
   module _ (laws : HasLaws (setting_in f)) where
     -- by a step to the next moment
-    pub onward_because : (step : Step) → step.way ≡ Onward → IsCarriedBy f (spot x.point a) step → (premise : Fact) → premise ≡ fact_of step.from x.cell x.value → (ranges : List Looked) → ranges ≡ looked_between (setting_in f) (told f.facts) (passage a step.from x.point) → (why : Because) → why ≡ because 5 (premise ∷ []) ranges → IsCarriedBecause (setting_in f) f.facts x why
+    pub onward_because : (step : Carriage) → step.way ≡ Onward → IsCarriedBy f (spot x.point a) step → (premise : Fact) → premise ≡ fact_of step.from x.cell x.value → (ranges : List RangePremise) → ranges ≡ looked_between (setting_in f) (told f.facts) (passage a step.from x.point) → (why : Because) → why ≡ because 5 (premise ∷ []) ranges → IsCarriedBecause (setting_in f) f.facts x why
     onward_because step way by premise same ranges listed why is =
-        let carries = subst (λ (w : Way). carries_by (time_of (setting_in f)) (byte_in (setting_in f) f.facts a) x.point (record { from = step.from; way = w }) ≡ true) way by.carries in
-        by_onward a step.from x.point refl cell (carries_is (setting_in f) laws (told f.facts) (passage a step.from x.point) carries) by.nearer (is ∙ ap (λ (l : List Looked). because 5 (premise ∷ []) l) listed ∙ ap (λ (y : Fact). because 5 (y ∷ []) (looked_between (setting_in f) (told f.facts) (passage a step.from x.point))) (same ∙ ap (λ (c : Cell). fact_of step.from c x.value) cell))
+        let carries = subst (λ (w : Direction). carries_by (time_of (setting_in f)) (byte_in (setting_in f) f.facts a) x.point (record { from = step.from; way = w }) ≡ true) way by.carries in
+        by_onward a step.from x.point refl cell (carries_is (setting_in f) laws (told f.facts) (passage a step.from x.point) carries) by.nearer (is ∙ ap (λ (l : List RangePremise). because 5 (premise ∷ []) l) listed ∙ ap (λ (y : Fact). because 5 (y ∷ []) (looked_between (setting_in f) (told f.facts) (passage a step.from x.point))) (same ∙ ap (λ (c : Cell). fact_of step.from c x.value) cell))
 
     -- by one from the next moment back
-    pub back_because : (step : Step) → step.way ≡ Back → IsCarriedBy f (spot x.point a) step → (premise : Fact) → premise ≡ fact_of step.from x.cell x.value → (ranges : List Looked) → ranges ≡ looked_between (setting_in f) (told f.facts) (passage a x.point step.from) → (why : Because) → why ≡ because 6 (premise ∷ []) ranges → IsCarriedBecause (setting_in f) f.facts x why
+    pub back_because : (step : Carriage) → step.way ≡ Back → IsCarriedBy f (spot x.point a) step → (premise : Fact) → premise ≡ fact_of step.from x.cell x.value → (ranges : List RangePremise) → ranges ≡ looked_between (setting_in f) (told f.facts) (passage a x.point step.from) → (why : Because) → why ≡ because 6 (premise ∷ []) ranges → IsCarriedBecause (setting_in f) f.facts x why
     back_because step way by premise same ranges listed why is =
-        let carries = subst (λ (w : Way). carries_by (time_of (setting_in f)) (byte_in (setting_in f) f.facts a) x.point (record { from = step.from; way = w }) ≡ true) way by.carries in
-        by_back a x.point step.from refl cell (carries_is (setting_in f) laws (told f.facts) (passage a x.point step.from) carries) by.nearer (is ∙ ap (λ (l : List Looked). because 6 (premise ∷ []) l) listed ∙ ap (λ (y : Fact). because 6 (y ∷ []) (looked_between (setting_in f) (told f.facts) (passage a x.point step.from))) (same ∙ ap (λ (c : Cell). fact_of step.from c x.value) cell))
+        let carries = subst (λ (w : Direction). carries_by (time_of (setting_in f)) (byte_in (setting_in f) f.facts a) x.point (record { from = step.from; way = w }) ≡ true) way by.carries in
+        by_back a x.point step.from refl cell (carries_is (setting_in f) laws (told f.facts) (passage a x.point step.from) carries) by.nearer (is ∙ ap (λ (l : List RangePremise). because 6 (premise ∷ []) l) listed ∙ ap (λ (y : Fact). because 6 (y ∷ []) (looked_between (setting_in f) (told f.facts) (passage a x.point step.from))) (same ∙ ap (λ (c : Cell). fact_of step.from c x.value) cell))
 
     -- it is reached by more uses than none, so a step is the last of them
     reached_why : (why : Because) → IsCarriedBecause (setting_in f) f.facts x why → ((x.point ≡ f.given.moments.end) × (f.given.dump a ≡ Some x.value)) ⊎ ((k : ℕ) × IsReached (setting_in f) f.facts a (suc k) x.point × ((j : ℕ) → j ≤ k → IsReached (setting_in f) f.facts a j x.point → ⊥))
@@ -104,7 +104,7 @@ module _ {W : Type 0} (f : FrontView W) (x : Fact) (a : ℕ) (cell : x.cell ≡ 
     ]
 
     -- where this one has it by itself, the dump's rule alone may
-    pub only_dump : (found : Found) → IsNearest (links_in (setting_in f) f.facts a) x.point (Some found) → found.links ≡ 0 → IsNotOfDump f x a → (why : Because) → IsCarriedBecause (setting_in f) f.facts x why → ⊥
+    pub only_dump : (found : NearestValue) → IsNearest (links_in (setting_in f) f.facts a) x.point (Some found) → found.links ≡ 0 → IsNotOfDump f x a → (why : Because) → IsCarriedBecause (setting_in f) f.facts x why → ⊥
     only_dump found near none not_dump why b = elim (reached_why why b) [
       | inl (at, byte) ↦ not_dump at byte
       | inr (k, reached, sooner) ↦ sooner 0 (omega arith) (subst (λ (j : ℕ). IsReached (setting_in f) f.facts a j x.point) none (as_soon (setting_in f) laws f.facts a x.point found near))

@@ -4,7 +4,7 @@ use Rattle.std.proofs.lemmas.Bool.{cases_eq, cond-true, cond-false, eq-eqb, ne_e
 use Rattle.rept_reason.specs.declared.fact.Fact.{Fact}
 use Rattle.rept_reason.specs.declared.fact.Cell.TheVariants.{Byte}
 use Rattle.rept_reason.specs.Facts.{told}
-use Rattle.rept_nearest.specs.declared.found.Found.{Found}
+use Rattle.rept_nearest.specs.declared.found.NearestValue.{NearestValue}
 use Rattle.rept_nearest.specs.Nets.{IsWithinLinks, IsNearest}
 use Rattle.rept_nearest.specs.Nets.IsWithinLinks.{here, onward as one_more}
 use Rattle.rept_report.specs.Setting.{Setting, HasLaws}
@@ -59,7 +59,7 @@ module _ {W : Type 0} (S : Setting W) (fs : List Fact) (a : ℕ) where
     ])
 
     -- the byte at the nearest moment is the one that stands, where one value stands
-    pub found_is : (m : ℕ) → m ≤ S.moments.end → ((v w : ℕ) → StandsIn S fs (fact_of m (Byte a) v) → StandsIn S fs (fact_of m (Byte a) w) → v ≡ w) → (found : Found) → IsNearest (links_in S fs a) m (Some found) → Some found.value ≡ byte_at S fs m a
+    pub found_is : (m : ℕ) → m ≤ S.moments.end → ((v w : ℕ) → StandsIn S fs (fact_of m (Byte a) v) → StandsIn S fs (fact_of m (Byte a) w) → v ≡ w) → (found : NearestValue) → IsNearest (links_in S fs a) m (Some found) → Some found.value ≡ byte_at S fs m a
     found_is m le single found near =
         let stands = within_stands m found.links found.number found.value near.1 (source_stands found.number found.value near.0) in
         let there = stands_found S laws fs a (fact_of m (Byte a) found.value) le stands refl in

@@ -4,8 +4,8 @@ use Rattle.rept_isa.specs.declared.row.StepRow.{StepRow}
 use Rattle.rept_partial.specs.Sets.{Sets}
 use Rattle.rept_span.specs.Moves.{Moves}
 use Rattle.rept_span.specs.Ranges.{Legs, AreLegs}
-use Rattle.rept_view.specs.declared.drawn.When.{When}
-use Rattle.rept_view.specs.declared.drawn.When.TheVariants.{Before, After}
+use Rattle.rept_view.specs.declared.inferred.When.{When}
+use Rattle.rept_view.specs.declared.inferred.When.TheVariants.{Before, After}
 use Rattle.rept_view.specs.Rules.{Rules}
 use Rattle.rept_report.specs.Moments.{Moments, AreMoments}
 use Rattle.rept_report.specs.Setting.{Setting}

@@ -8,13 +8,13 @@ use Rattle.rept_isa.specs.Numbers.{plus, beside}
 use Rattle.rept_isa.specs.Operands.{first_read}
 use Rattle.rept_reason.specs.declared.fact.Fact.{Fact}
 use Rattle.rept_reason.specs.declared.fact.Cell.TheVariants.{Register, Byte}
-use Rattle.rept_view.specs.declared.drawn.When.{When}
-use Rattle.rept_view.specs.declared.drawn.When.TheVariants.{Before, After}
-use Rattle.rept_view.specs.declared.drawn.Drawn.{Drawn}
-use Rattle.rept_view.specs.declared.drawn.Need.{Need}
-use Rattle.rept_view.specs.Rules.{Rules, AreLawful, HasSameCells, IsRowByte, IsRowCell, offset_of}
+use Rattle.rept_view.specs.declared.inferred.When.{When}
+use Rattle.rept_view.specs.declared.inferred.When.TheVariants.{Before, After}
+use Rattle.rept_view.specs.declared.inferred.Conclusion.{Conclusion}
+use Rattle.rept_view.specs.declared.inferred.Premise.{Premise}
+use Rattle.rept_view.specs.Rules.{Rules, AreLawfulRules, HasSameCells, IsRowByte, IsRowCell, offset_of}
 use Rattle.rept_view.specs.Seen.{Seen, IsLawful}
-use Rattle.rept_view.proofs.Alike.{drawn_alike, same_cells_back}
+use Rattle.rept_view.proofs.Alike.{inferred_alike, same_cells_back}
 use Rattle.rept_report.specs.Moments.{Moments}
 use Rattle.rept_report.specs.Views.{instant_of}
 use Rattle.rept_report.specs.Why.{fact_of, or_zero, premise_of}
@@ -22,7 +22,7 @@ use Rattle.rept_log.specs.declared.row_bytes.RowByte.{RowByte}
 use Rattle.rept_log.specs.RowBytes.{on_side, byte_among, row_byte, bytes_from, base_seen, bytes_from_base, row_bytes, with_bytes, with_bytes_lawful}
 
 -- what agrees on the elements of a list
-map_same : (f g : Need → Fact) (ns : List Need) → ((n : Need) → Contains ns n → f n ≡ g n) → map f ns ≡ map g ns
+map_same : (f g : Premise → Fact) (ns : List Premise) → ((n : Premise) → Contains ns n → f n ≡ g n) → map f ns ≡ map g ns
 map_same f g [] h = refl
 map_same f g (n ∷ ns) h = rw (h n (0, omega arith, refl)) (ap (λ (fs : List Fact). g n ∷ fs) (map_same f g ns (λ m (k, below, at). h m (suc k, omega (arith, below), at))))
 
@@ -91,25 +91,25 @@ module _ (rules : Rules) (row : StepRow) (s : Seen) where
   same_cells After (Byte a) own = own_byte After a own
 
   -- so the rules conclude the same by them
-  pub drawn_by_bytes : AreLawful rules → IsLawful s → (bytes : List RowByte) → bytes ≡ row_bytes rules row s → (d : Drawn) → Contains (rules.draw row (with_bytes s bytes)) d → Contains (rules.draw row s) d
-  drawn_by_bytes laws lawful bytes is d has =
+  pub inferred_by_bytes : AreLawfulRules rules → IsLawful s → (bytes : List RowByte) → bytes ≡ row_bytes rules row s → (d : Conclusion) → Contains (rules.infer row (with_bytes s bytes)) d → Contains (rules.infer row s) d
+  inferred_by_bytes laws lawful bytes is d has =
       let t = with_bytes s (row_bytes rules row s) in
-      drawn_alike rules row laws t s d (with_bytes_lawful s (row_bytes rules row s) lawful) lawful (same_cells_back rules row s t same_cells) (subst (λ (bs : List RowByte). Contains (rules.draw row (with_bytes s bs)) d) is has)
+      inferred_alike rules row laws t s d (with_bytes_lawful s (row_bytes rules row s) lawful) lawful (same_cells_back rules row s t same_cells) (subst (λ (bs : List RowByte). Contains (rules.infer row (with_bytes s bs)) d) is has)
 
-  pub bytes_are_enough : AreLawful rules → IsLawful s → (bytes : List RowByte) → bytes ≡ row_bytes rules row s → (d : Drawn) → Contains (rules.draw row s) d → Contains (rules.draw row (with_bytes s bytes)) d
+  pub bytes_are_enough : AreLawfulRules rules → IsLawful s → (bytes : List RowByte) → bytes ≡ row_bytes rules row s → (d : Conclusion) → Contains (rules.infer row s) d → Contains (rules.infer row (with_bytes s bytes)) d
   bytes_are_enough laws lawful bytes is d has =
       let t = with_bytes s (row_bytes rules row s) in
-      subst (λ (bs : List RowByte). Contains (rules.draw row (with_bytes s bs)) d) (sym is) (drawn_alike rules row laws s t d lawful (with_bytes_lawful s (row_bytes rules row s) lawful) same_cells has)
+      subst (λ (bs : List RowByte). Contains (rules.infer row (with_bytes s bs)) d) (sym is) (inferred_alike rules row laws s t d lawful (with_bytes_lawful s (row_bytes rules row s) lawful) same_cells has)
 
-  needs_by_bytes : AreLawful rules → (d : Drawn) → rules.needs row (with_bytes s (row_bytes rules row s)) d ≡ rules.needs row s d
+  needs_by_bytes : AreLawfulRules rules → (d : Conclusion) → rules.needs row (with_bytes s (row_bytes rules row s)) d ≡ rules.needs row s d
   needs_by_bytes laws d = laws.needs_told row s (with_bytes s (row_bytes rules row s)) d same_cells
 
-  same_premise : (moments : Moments) (i : ℕ) (n : Need) → IsRowCell rules row s n.when n.cell → premise_of moments (with_bytes s (row_bytes rules row s)) i n ≡ premise_of moments s i n
+  same_premise : (moments : Moments) (i : ℕ) (n : Premise) → IsRowCell rules row s n.when n.cell → premise_of moments (with_bytes s (row_bytes rules row s)) i n ≡ premise_of moments s i n
   same_premise moments i n own = ap (λ (v : Option ℕ). fact_of (instant_of moments i n.when n.cell) n.cell (or_zero v)) (same_cells n.when n.cell own)
 
   -- and rest on the same facts
-  pub premises_by_bytes : AreLawful rules → IsLawful s → (bytes : List RowByte) → bytes ≡ row_bytes rules row s → (d : Drawn) → Contains (rules.draw row s) d → (moments : Moments) (i : ℕ) → map (premise_of moments (with_bytes s bytes) i) (rules.needs row (with_bytes s bytes) d) ≡ map (premise_of moments s i) (rules.needs row s d)
+  pub premises_by_bytes : AreLawfulRules rules → IsLawful s → (bytes : List RowByte) → bytes ≡ row_bytes rules row s → (d : Conclusion) → Contains (rules.infer row s) d → (moments : Moments) (i : ℕ) → map (premise_of moments (with_bytes s bytes) i) (rules.needs row (with_bytes s bytes) d) ≡ map (premise_of moments s i) (rules.needs row s d)
   premises_by_bytes laws lawful bytes is d has moments i = rw is (
-      ap (λ (ns : List Need). map (premise_of moments (with_bytes s (row_bytes rules row s)) i) ns) (needs_by_bytes laws d)
+      ap (λ (ns : List Premise). map (premise_of moments (with_bytes s (row_bytes rules row s)) i) ns) (needs_by_bytes laws d)
       ∙ map_same (premise_of moments (with_bytes s (row_bytes rules row s)) i) (premise_of moments s i) (rules.needs row s d) (λ n needed. same_premise moments i n (laws.needs_own row s d n lawful has needed).0)
       )

@@ -9,8 +9,8 @@ use Rattle.rept_log.specs.Slots.{slot}
 abbrev pub IsSameAfter : List Fact → ℕ → ℕ → Type 0
 IsSameAfter log p r = told log p (Register r) ≡ told log (p + 1) (Register r)
 
--- A table has an entry for each register other than x0 at each point before the last one: whether the facts tell the same of it at
--- the point and at the one after it.
+-- A table has an entry for each register other than x0 at each point before the last one: whether
+-- the facts tell the same of it at the point and at the one after it.
 pub record AreCompared (last : ℕ) (log : List Fact) (same : List Bool) : Type 0 where
   pub size : length same ≡ last * 31
   pub entries : (p r : ℕ) → p < last → 0 < r → r < 32 → IsTrue (slice_index_or same (slot p r) true) ↔ IsSameAfter log p r

@@ -1,10 +1,11 @@
--- The bytes that a row's rules look at, as a list of what is seen of them before and after the row. This project's own.
+-- The bytes that a row's rules look at, as a list of what is seen of them before and after the row.
+-- This project's own.
 use Rattle.std.specs.Prelude.{ℕ, zero, suc, ◌==◌, if◌then◌else◌, min, List, [], ◌∷◌, ◌++◌, Option, Some, None}
 use Rattle.rept_isa.specs.declared.row.StepRow.{StepRow}
 use Rattle.rept_isa.specs.Numbers.{plus, beside}
 use Rattle.rept_isa.specs.Operands.{first_read}
-use Rattle.rept_view.specs.declared.drawn.When.{When}
-use Rattle.rept_view.specs.declared.drawn.When.TheVariants.{Before, After}
+use Rattle.rept_view.specs.declared.inferred.When.{When}
+use Rattle.rept_view.specs.declared.inferred.When.TheVariants.{Before, After}
 use Rattle.rept_view.specs.Rules.{Rules, offset_of}
 use Rattle.rept_view.specs.Seen.{Seen, IsLawful}
 use Rattle.rept_log.specs.declared.row_bytes.RowByte.{RowByte}

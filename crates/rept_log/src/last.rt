@@ -4,7 +4,8 @@ ghost use Rattle.std.specs.Prelude.{◌≡◌, ℕ, List, Some, slice_get};
 
 use rept_isa::Reg;
 
-/// The values of the registers x0 to x31 at the last point of each thread. `values` names them as a function of the point.
+/// The values of the registers x0 to x31 at the last point of each thread. `values` names them as a
+/// function of the point.
 pub trait LastValues {
     ghost values: { Self → ℕ → List ℕ };
 

@@ -1,5 +1,6 @@
--- What the operations compute (RISC-V unprivileged manual 20191213, chapters 2.4 to 2.6 for RV32I, 7 for M, 8 for A). Operands and
--- results are 32-bit words. `cast_signed w32 a` is a word's signed number in two's complement, `word z` the word of a number.
+-- What the operations compute (RISC-V unprivileged manual 20191213, chapters 2.4 to 2.6 for RV32I,
+-- 7 for M, 8 for A). Operands and results are 32-bit words. `cast_signed w32 a` is a word's signed
+-- number in two's complement, `word z` the word of a number.
 use Rattle.std.specs.Prelude.{ℕ, ◌+◌, ◌-◌, ◌*◌, ◌/◌, ◌%◌, ◌^◌, nat_lt, ◌==◌, Bool, not, if◌then◌else◌, ℤ, pos, ◌*ℤ◌, bit_and, bit_or, bit_xor, int_div, int_rem, int_lt}
 use Rattle.std.specs.Int.{cast_signed, cast_unsigned, int_shr}
 use mir.Syntax.{w32, w64}
@@ -27,9 +28,10 @@ below_signed a b = int_lt (signed_word a) (signed_word b)
 abbrev pub high_word : ℤ → ℕ
 high_word z = cast_unsigned w64 z / 2 ^ 32
 
--- The result of an operation on two registers. Shifts use the low five bits of the second operand. Division rounds
--- towards zero; by zero it has all ones as its quotient and the dividend as its remainder. The one signed quotient that
--- is too large, -2 ^ 31 by -1, wraps to -2 ^ 31, with remainder 0.
+-- The result of an operation on two registers. Shifts use the low five bits of the second operand.
+-- Division rounds towards zero; by zero it has all ones as its quotient and the dividend as its
+-- remainder. The one signed quotient that is too large, -2 ^ 31 by -1, wraps to -2 ^ 31, with
+-- remainder 0.
 abbrev pub computed : RegOp → ℕ → ℕ → ℕ
 computed Add a b = (a + b) % 2 ^ 32
 computed Sub a b = (a + (2 ^ 32 - b)) % 2 ^ 32
@@ -50,7 +52,8 @@ computed Divu a b = if b == 0 then 2 ^ 32 - 1 else a / b
 computed Rem a b = if b == 0 then a else word (int_rem (signed_word a) (signed_word b))
 computed Remu a b = if b == 0 then a else a % b
 
--- the operation on registers that does the same with the immediate, sign-extended, as its second operand
+-- the operation on registers that does the same with the immediate, sign-extended, as its second
+-- operand
 abbrev pub register_form : ImmOp → RegOp
 register_form Addi = Add
 register_form Slti = Slt
@@ -65,8 +68,10 @@ register_form Srai = Sra
 abbrev pub computed_imm : ImmOp → ℕ → ℤ → ℕ
 computed_imm op a imm = computed (register_form op) a (word imm)
 
--- What an atomic instruction leaves in memory where it writes, by the word that was there and the value of its source (chapter 8.4): the minimum and maximum of
--- signed numbers for MIN and MAX, of unsigned ones for MINU and MAXU. An SC writes its source (chapter 8.2), and an LR leaves the word as it is.
+-- What an atomic instruction leaves in memory where it writes, by the word that was there and the
+-- value of its source (chapter 8.4): the minimum and maximum of signed numbers for MIN and MAX, of
+-- unsigned ones for MINU and MAXU. An SC writes its source (chapter 8.2), and an LR leaves the word
+-- as it is.
 abbrev pub combined : AmoOp → ℕ → ℕ → ℕ
 combined atomic.Lr held source = held
 combined atomic.Sc held source = source

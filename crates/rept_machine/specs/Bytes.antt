@@ -1,4 +1,5 @@
--- What is kept of the registers and the memory: a list of words, and a map in which an address without an entry reads 0.
+-- What is kept of the registers and the memory: a list of words, and a map in which an address
+-- without an entry reads 0.
 use Rattle.std.specs.Prelude.{◌≡◌, ◌≢◌, ℕ, ◌<◌, ◌==◌, List, slice_index, slice_set, is_some, Bool, true, if◌then◌else◌}
 use Rattle.std.specs.Ordering.{nat_cmp}
 use Rattle.std.specs.BTreeMap.{get}

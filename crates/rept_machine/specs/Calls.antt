@@ -1,8 +1,8 @@
--- Which bytes a system call may change (Linux on 32-bit RISC-V: the numbers of asm-generic/unistd.h,
--- the arguments of syscall(2) and of each call's page in section 2 of the manual). The number comes
--- in x17 (a7), the arguments in x10 to x15 (a0 to a5), the answer in x10. The calls are the rows of
--- one table of data, `CALLS`; here stands what a row means. A call without a row may change every
--- byte.
+-- Which bytes a system call may change (Linux on 32-bit RISC-V: the numbers of
+-- asm-generic/unistd.h, the arguments of syscall(2) and of each call's page in section 2 of the
+-- manual). The number comes in x17 (a7), the arguments in x10 to x15 (a0 to a5), the answer in x10.
+-- The calls are the rows of one table of data, `CALLS`; here stands what a row means. A call
+-- without a row may change every byte.
 use Rattle.std.specs.Prelude.{◌≡◌, ℕ, ◌+◌, ◌*◌, ◌^◌, ◌==◌, nat_lt, nat_le, min, Bool, true, false, ◌&&◌, ◌||◌, if◌then◌else◌, List, [], ◌∷◌, Option, Some, None}
 use Rattle.rept_machine.specs.declared.calls.ByteCount.{ByteCount}
 use Rattle.rept_machine.specs.declared.calls.ByteCount.TheVariants.{Fixed, Register, Pages, Records}
@@ -11,7 +11,8 @@ use Rattle.rept_machine.specs.declared.calls.CallEffect.TheVariants.{Area, Read,
 use Rattle.rept_machine.specs.declared.calls.CallRow.{CallRow}
 use Rattle.rept_machine.specs.declared.calls.TheConstants.{CALLS}
 
--- So many bytes from base on. A range that passes the end of the address space counts as every byte.
+-- So many bytes from base on. A range that passes the end of the address space counts as every
+-- byte.
 abbrev pub within : ℕ → ℕ → ℕ → Bool
 within base size a = if size == 0 then false else if nat_le (base + size) (2 ^ 32) then nat_le base a && nat_lt a (base + size) else true
 
@@ -37,10 +38,10 @@ was_read base most answer a = if answer == bad_address then within base most a e
 -- Of a call with these registers and this answer, whether a part of what it may change has the byte
 -- at a. The image's end is where the program's own memory ends and the heap begins. brk isn't
 -- rounded to pages: the bytes from the image's end up to the answer may change, the answer not
--- included. Linux rounds (mm/mmap.c, PAGE_ALIGN): it maps whole pages, and so clears the last one to
--- its end, past the answer. What stands there differs from this table only where brk gave that page
--- back before and now takes it again in part. That a program doesn't do so in what is traced is a
--- premise. Where the answer is a multiple of 4096, rounding makes no difference.
+-- included. Linux rounds (mm/mmap.c, PAGE_ALIGN): it maps whole pages, and so clears the last one
+-- to its end, past the answer. What stands there differs from this table only where brk gave that
+-- page back before and now takes it again in part. That a program doesn't do so in what is traced
+-- is a premise. Where the answer is a multiple of 4096, rounding makes no difference.
 abbrev pub effect_has : ℕ → (ℕ → ℕ) → ℕ → CallEffect → ℕ → Bool
 effect_has image_end register answer (Area base count) a = within (register base) (counted register count) a
 effect_has image_end register answer (Read base most) a = was_read (register base) (register most) answer a

@@ -1,5 +1,5 @@
--- What the machine picks where the manual leaves a choice (a call answers 0 and changes no byte, a counter is 0, an SC succeeds), and
--- which instructions have a step or write memory.
+-- What the machine picks where the manual leaves a choice (a call answers 0 and changes no byte, a
+-- counter is 0, an SC succeeds), and which instructions have a step or write memory.
 use Rattle.std.specs.Prelude.{◌≡◌, ◌≢◌}
 use Rattle.rept_isa.specs.declared.instr.Instr.{Instr}
 use Rattle.rept_isa.specs.declared.instr.Instr.TheVariants.{Store, Amo, Ecall, Ebreak, Counter}

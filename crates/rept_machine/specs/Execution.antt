@@ -1,5 +1,6 @@
--- An execution of a path that ends in a dump: one state for each point, a step of the machine for each row, and in the
--- last state the registers and bytes that the dump has (RISC-V unprivileged manual 20191213, chapter 1.2).
+-- An execution of a path that ends in a dump: one state for each point, a step of the machine for
+-- each row, and in the last state the registers and bytes that the dump has (RISC-V unprivileged
+-- manual 20191213, chapter 1.2).
 use Rattle.std.specs.Prelude.{◌≡◌, ℕ, ◌+◌, ◌<◌, ◌≤◌, List, length, Option, Some, slice_get}
 use Rattle.rept_isa.specs.declared.row.StepRow.{StepRow}
 use Rattle.rept_machine.specs.State.{State, IsState}

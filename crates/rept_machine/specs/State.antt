@@ -1,5 +1,5 @@
--- The state of a hart: the integer registers and the memory, byte by byte (RISC-V unprivileged manual 20191213,
--- chapters 1.4 and 2.1).
+-- The state of a hart: the integer registers and the memory, byte by byte (RISC-V unprivileged
+-- manual 20191213, chapters 1.4 and 2.1).
 use Rattle.std.specs.Prelude.{◌≡◌, ℕ, ◌<◌, ◌^◌}
 
 pub record State : Type 0 where

@@ -1,5 +1,6 @@
--- What one instruction does to the state (RISC-V unprivileged manual 20191213, chapters 2.4 to 2.8, 7, 8, 10 and 24). Memory
--- is little-endian, and an access goes byte by byte, modulo 2 ^ 32. Only what is written changes.
+-- What one instruction does to the state (RISC-V unprivileged manual 20191213, chapters 2.4 to 2.8,
+-- 7, 8, 10 and 24). Memory is little-endian, and an access goes byte by byte, modulo 2 ^ 32. Only
+-- what is written changes.
 use Rattle.std.specs.Prelude.{◌≡◌, ◌≢◌, ◌⊎◌, ℕ, ◌*◌, ◌/◌, ◌<◌, ℤ, Bool, if◌then◌else◌}
 use Rattle.rept_isa.specs.declared.instr.Instr.{Instr}
 use Rattle.rept_isa.specs.declared.instr.Instr.TheVariants.{Lui, Auipc, Jal, Jalr, Branch, Load, Store, Imm, Op, Amo, Fence, Ecall, Ebreak, Counter}
@@ -55,7 +56,8 @@ pub record PutsWord (value base : ℕ) (s t : State) : Type 0 where
   pub written : (k : ℕ) → k < 4 → t.memory (beside base k) ≡ byte_of value k
   pub others : (b : ℕ) → ((k : ℕ) → k < 4 → b ≢ beside base k) → t.memory b ≡ s.memory b
 
--- in one step a register takes an answer and the memory at base a word; both are made of what was there before
+-- in one step a register takes an answer and the memory at base a word; both are made of what was
+-- there before
 pub record Exchanges (rd answer : ℕ) (value base : ℕ) (a : Addresses) (s t : State) : Type 0 where
   pub result : SetsRegister rd answer s t
   pub memory : PutsWord value base s t
@@ -69,8 +71,9 @@ pub record FailsToStore (rd : ℕ) (a : Addresses) (s t : State) : Type 0 where
   pub memory : SameMemory s t
   pub onward : a.next ≡ following a.from
 
--- Reservations aren't modelled: an SC may succeed, with 0, or fail, whatever was before. Chapter 8.2 lets it fail at any time, and chapter 8.3 promises of
--- some loops only that one of their tries succeeds in the end.
+-- Reservations aren't modelled: an SC may succeed, with 0, or fail, whatever was before. Chapter
+-- 8.2 lets it fail at any time, and chapter 8.3 promises of some loops only that one of their tries
+-- succeeds in the end.
 abbrev pub Tries : ℕ → ℕ → ℕ → Addresses → State → State → Type 0
 Tries rd value base a s t = Exchanges rd 0 value base a s t ⊎ FailsToStore rd a s t
 
@@ -78,8 +81,9 @@ Tries rd value base a s t = Exchanges rd 0 value base a s t ⊎ FailsToStore rd 
 abbrev pub Combines : AmoOp → ℕ → ℕ → ℕ → Addresses → State → State → Type 0
 Combines op rd value base a s t = Exchanges rd (word_at s.memory base) (combined op (word_at s.memory base) value) base a s t
 
--- What an atomic instruction with this destination, value of its source, and address does. One whose address isn't a multiple of 4 has a step here, too:
--- chapters 8.2 and 8.4 have it raise an exception, which an environment may answer by doing what the instruction says.
+-- What an atomic instruction with this destination, value of its source, and address does. One
+-- whose address isn't a multiple of 4 has a step here, too: chapters 8.2 and 8.4 have it raise an
+-- exception, which an environment may answer by doing what the instruction says.
 abbrev pub Acts : AmoOp → ℕ → ℕ → ℕ → Addresses → State → State → Type 0
 Acts atomic.Lr rd value base a s t = Computes rd (word_at s.memory base) a s t
 Acts atomic.Sc rd value base a s t = Tries rd value base a s t
@@ -116,10 +120,12 @@ pub record Calls (image_end : ℕ) (a : Addresses) (s t : State) : Type 0 where
 abbrev pub far_target : ℕ → ℤ → ℕ
 far_target base imm = plus base imm / 2 * 2
 
--- The effect of the instruction at `a.at`, which leads to `a.next`. Its pc is `a.at`: the targets of JAL and of branches are reckoned from it. What follows
--- it in memory is four bytes after `a.from`, which is `a.at` for a word and two bytes less for a compressed instruction (chapter 16.1). AUIPC adds to its pc
--- (chapter 2.4). It is written with `a.from`, which is the same: no compressed instruction expands to AUIPC, so `a.from` is `a.at` in each AUIPC of a path.
--- EBREAK has no step: no two states are those before and after one.
+-- The effect of the instruction at `a.at`, which leads to `a.next`. Its pc is `a.at`: the targets
+-- of JAL and of branches are reckoned from it. What follows it in memory is four bytes after
+-- `a.from`, which is `a.at` for a word and two bytes less for a compressed instruction (chapter
+-- 16.1). AUIPC adds to its pc (chapter 2.4). It is written with `a.from`, which is the same: no
+-- compressed instruction expands to AUIPC, so `a.from` is `a.at` in each AUIPC of a path. EBREAK
+-- has no step: no two states are those before and after one.
 abbrev pub HasEffect : Instr → ℕ → Addresses → State → State → Type 0
 HasEffect (Lui rd imm) image_end a s t = Computes rd imm a s t
 HasEffect (Auipc rd imm) image_end a s t = Computes rd (beside a.from imm) a s t
@@ -136,6 +142,7 @@ HasEffect Ecall image_end a s t = Calls image_end a s t
 HasEffect Ebreak image_end a s t = ⊥
 HasEffect (Counter rd csr) image_end a s t = ReadsCounter rd a s t
 
--- t is s after the row's instruction at the row's address, and the row's next address is that of the effect
+-- t is s after the row's instruction at the row's address, and the row's next address is that of
+-- the effect
 abbrev pub IsStep : ℕ → StepRow → State → State → Type 0
 IsStep image_end row s t = HasEffect row.instr image_end (addresses_of row) s t

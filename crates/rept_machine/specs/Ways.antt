@@ -6,7 +6,8 @@ use Rattle.rept_isa.specs.declared.class.Turn.TheVariants.{Taken, NotTaken, Eith
 use Rattle.rept_isa.specs.Numbers.{following}
 use Rattle.rept_isa.specs.Operands.{way}
 
--- A branch that was taken had a condition that holds, and one that wasn't had none. Where both ways lead to one place nothing is told, and no branch leads elsewhere.
+-- A branch that was taken had a condition that holds, and one that wasn't had none. Where both ways
+-- lead to one place nothing is told, and no branch leads elsewhere.
 abbrev pub TurnTells : Turn → Bool → Type 0
 TurnTells Taken holds = holds ≡ true
 TurnTells NotTaken holds = holds ≡ false

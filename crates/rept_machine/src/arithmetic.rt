@@ -59,8 +59,8 @@ pub fn register_form(op: ImmOp) -> RegOp
     }
 }
 
-/// What an atomic instruction leaves in memory where it writes, by the word that was there and the value of its source. An SC writes its source, and an LR
-/// leaves the word as it is.
+/// What an atomic instruction leaves in memory where it writes, by the word that was there and the
+/// value of its source. An SC writes its source, and an LR leaves the word as it is.
 pub fn combined(op: AmoOp, held: u32, source: u32) -> u32
     ensures { result ≡ combined op held source }
 {

@@ -39,8 +39,8 @@ pub enum CallEffect {
         count: ByteCount,
     },
     /// From the address in a register on what was read: no more bytes than another register says,
-    /// and no more than the answer. An answer that is an error leaves all as it was, but for EFAULT,
-    /// before which some may have been written.
+    /// and no more than the answer. An answer that is an error leaves all as it was, but for
+    /// EFAULT, before which some may have been written.
     Read {
         /// the register of the address
         base: u8,

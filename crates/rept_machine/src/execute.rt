@@ -15,8 +15,8 @@ use rept_isa::number::{following, plus};
 use rept_isa::{AmoOp, Instr, Reg, StoreOp};
 use std::alloc::AllocError;
 
-/// Does what the instruction of four bytes at this address does, and answers the next address. Where there is no memory for what is
-/// written nothing changes. An SC always succeeds.
+/// Does what the instruction of four bytes at this address does, and answers the next address.
+/// Where there is no memory for what is written nothing changes. An SC always succeeds.
 pub fn execute(
     registers: &mut [u32; 32],
     memory: &mut Memory,
@@ -82,8 +82,8 @@ fn put(registers: &mut [u32; 32], rd: Reg, value: u32, at: u32) -> u32
     following(at)
 }
 
-/// Does what an atomic instruction with this destination does; `operands` are its address and the value of its source. Where there is no memory for what
-/// is written nothing changes.
+/// Does what an atomic instruction with this destination does; `operands` are its address and the
+/// value of its source. Where there is no memory for what is written nothing changes.
 fn act(
     registers: &mut [u32; 32],
     memory: &mut Memory,
@@ -112,7 +112,8 @@ fn act(
     }
 }
 
-/// Writes an answer into a register and a value into the word at an address, and answers the next address.
+/// Writes an answer into a register and a value into the word at an address, and answers the next
+/// address.
 fn exchange(
     registers: &mut [u32; 32],
     memory: &mut Memory,

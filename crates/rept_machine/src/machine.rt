@@ -25,8 +25,8 @@ pub enum Halt {
     OutOfMemory,
 }
 
-/// A hart of RV32IMA with code that doesn't change. Memory has bytes at all 32-bit addresses, 0 at first, and takes room
-/// only where a store wrote.
+/// A hart of RV32IMA with code that doesn't change. Memory has bytes at all 32-bit addresses, 0 at
+/// first, and takes room only where a store wrote.
 #[derive(Drop)]
 pub struct Machine<'a> {
     code: &'a [u32],
@@ -44,8 +44,8 @@ impl<'a> Machine<'a> {
     ghost use Rattle.rept_machine.specs.declared.machine.Machine.{Machine};
     ghost use Rattle.rept_isa.specs.declared.row.StepRow.{StepRow};
 
-    /// A machine whose word i of code stands at `base + 4 * i`. Its registers are `regs`, but x0 is 0, and its memory is
-    /// all 0.
+    /// A machine whose word i of code stands at `base + 4 * i`. Its registers are `regs`, but x0 is
+    /// 0, and its memory is all 0.
     pub fn new(alloc: Global, code: &'a [u32], base: u32, pc: u32, regs: [u32; 32]) -> Machine<'a>
         requires aligned { base % 4 ≡ 0 }
         requires within { base + 4 * length code.now ≤ 2 ^ 32 }
@@ -67,7 +67,8 @@ impl<'a> Machine<'a> {
         }
     }
 
-    /// Makes one step and gives its row. A call answers 0 in x10 and changes no byte, and a counter reads as 0.
+    /// Makes one step and gives its row. A call answers 0 in x10 and changes no byte, and a counter
+    /// reads as 0.
     pub fn step(&mut self) -> Result<StepRow, Halt>
         ensures lawful { IfOk result (λ row. (image_end : ℕ) → IsStep image_end row (state_of self.old) (state_of self.new)) }
         ensures state { IsState (state_of self.new) }
@@ -103,8 +104,8 @@ impl<'a> Machine<'a> {
         })
     }
 
-    /// Makes so many steps, unless the machine halts before. The steps that it makes are an execution of the path of their rows, whatever
-    /// of the last registers and bytes a dump has.
+    /// Makes so many steps, unless the machine halts before. The steps that it makes are an
+    /// execution of the path of their rows, whatever of the last registers and bytes a dump has.
     pub fn run(&mut self, count: u32) -> Result<(), Halt>
         ensures ran { OnOk result ((rows : List StepRow) × (length rows ≡ count) × RunsOwnCode self.old self.new rows) }
         ensures halted { IfErr result (λ halt. (rows : List StepRow) × (mid : Machine) × (length rows < count) × RunsOwnCode self.old mid rows × Halts mid halt × IsUnchanged mid self.new) }

@@ -8,8 +8,8 @@ use crate::memory::Memory;
 use rept_isa::StoreOp;
 use std::alloc::AllocError;
 
-/// Writes the low bytes of the value from the base on, the lowest first, at addresses modulo 2^32. Where there is no
-/// memory for them no byte changes.
+/// Writes the low bytes of the value from the base on, the lowest first, at addresses modulo 2^32.
+/// Where there is no memory for them no byte changes.
 pub fn store(memory: &mut Memory, op: StoreOp, base: u32, value: u32) -> Result<(), AllocError>
     ensures ok { OnOk result (BytesWritten memory.old memory.new base value (store_width op)) }
     ensures err { OnErr result (SameBytes memory.old memory.new) }

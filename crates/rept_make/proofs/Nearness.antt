@@ -1,4 +1,5 @@
--- Each instruction of a made program keeps the data registers near their place, and goes to a slot of the code.
+-- Each instruction of a made program keeps the data registers near their place, and goes to a slot
+-- of the code.
 use Rattle.std.proofs.Common.{◌≡◌, ◌≢◌, ℕ, ◌+◌, ◌*◌, ◌%◌, ◌^◌, ◌<◌, ◌≤◌, ℤ, pos, negsuc, Bool, true, false, cond, refl, sym, ◌∙◌, subst, arith, inl, inr}
 use Rattle.std.proofs.lemmas.Bool.{cases_eq}
 use Rattle.std.proofs.lemmas.Nat.{and_le_r}

@@ -96,7 +96,8 @@ leads slot instr e at next s t p even h = elim (cases_eq slot 64) [
   ]
 ]
 
--- only the jump of slot 64 is uninferable, only slot 192 is a call, and no instruction is a breakpoint
+-- only the jump of slot 64 is uninferable, only slot 192 is a call, and no instruction is a
+-- breakpoint
 tame_stays : (instr : Instr) → IsTame instr → jumps_far (flow_of instr) ≡ false
 tame_stays (Imm op rd rs1 imm) f = refl
 tame_stays (Op op rd rs1 rs2) f = refl

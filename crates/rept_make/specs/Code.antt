@@ -50,8 +50,8 @@ made_instr seed i = slot_instr i (slot_of (drawn_times (11 + 5 * i) seed))
 abbrev pub IsFree : ℕ → Type 0
 IsFree rd = (5 ≤ rd) × (rd ≤ 15)
 
--- What a drawn instruction may be: it writes one of x5 to x15, or x21 or x22 so that x22 stays near x20; it reads and writes memory
--- at x22 alone.
+-- What a drawn instruction may be: it writes one of x5 to x15, or x21 or x22 so that x22 stays near
+-- x20; it reads and writes memory at x22 alone.
 abbrev pub IsTame : Instr → Type 0
 IsTame (Imm op rd rs1 imm) = IsFree rd ⊎ ((op ≡ Andi) × (rd ≡ 21) × (imm ≡ pos 1020))
 IsTame (Op op rd rs1 rs2) = IsFree rd ⊎ ((op ≡ Add) × (rd ≡ 22) × (rs1 ≡ 20) × (rs2 ≡ 21))

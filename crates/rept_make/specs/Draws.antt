@@ -1,5 +1,5 @@
--- The numbers that a made program is drawn from: a linear congruence modulo 2^32 (D. E. Knuth and H. W. Lewis, as Numerical Recipes
--- gives it). How they are used is this project's own.
+-- The numbers that a made program is drawn from: a linear congruence modulo 2^32 (D. E. Knuth and
+-- H. W. Lewis, as Numerical Recipes gives it). How they are used is this project's own.
 use Rattle.std.specs.Prelude.{ℕ, zero, suc, ◌+◌, ◌*◌, ◌/◌, ◌%◌, ◌^◌, ◌<◌, ◌≤◌}
 use Rattle.rept_make.specs.declared.draw.Slot.{Slot}
 

@@ -1,4 +1,5 @@
--- A memory laid over the bytes of a program: where the program's code stands it has those bytes, elsewhere what it had.
+-- A memory laid over the bytes of a program: where the program's code stands it has those bytes,
+-- elsewhere what it had.
 use Rattle.std.specs.Prelude.{ℕ, ◌-◌, List, slice_index, nat_le, nat_lt, ◌&&◌, if◌then◌else◌}
 use Rattle.rept_machine.specs.State.{State}
 

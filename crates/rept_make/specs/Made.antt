@@ -26,8 +26,9 @@ pub record AreSaved (registers data_bytes : List ℕ) (next : ℕ) (s : State) :
   pub size : length data_bytes ≡ 1024
   pub bytes : (i : ℕ) → i < 1024 → slice_index data_bytes i ≡ s.memory (131072 + i)
 
--- The files are those of a seed's code, 1,024 bytes to read and to run, and of its run of so many steps; the trace tells its rows, and none is skipped. The run, each of
--- whose memories is laid over the program's bytes, is an execution of the rebuilt path that ends in the dump.
+-- The files are those of a seed's code, 1,024 bytes to read and to run, and of its run of so many
+-- steps; the trace tells its rows, and none is skipped. The run, each of whose memories is laid
+-- over the program's bytes, is an execution of the rebuilt path that ends in the dump.
 pub record IsMade (seed steps : ℕ) (made : Made) : Type 0 where
   pub words : List ℕ
   pub code : IsCode seed words

@@ -1,5 +1,6 @@
--- The registers at the start of a made run: x5 to x15 are drawn, x17 (a7) is the number of getpid, x20 and x22 the address of
--- the data, and x23 where the jump of slot 64 leads. Memory is all 0. It is this project's own.
+-- The registers at the start of a made run: x5 to x15 are drawn, x17 (a7) is the number of getpid,
+-- x20 and x22 the address of the data, and x23 where the jump of slot 64 leads. Memory is all 0. It
+-- is this project's own.
 use Rattle.std.specs.Prelude.{ℕ, List, [], ◌∷◌}
 use Rattle.rept_make.specs.Draws.{drawn_times}
 

@@ -39,7 +39,8 @@ pub fn push_words(text: &mut Text, words: &[u32]) -> Result<(), OutOfMemory>
     Ok(())
 }
 
-/// The executable of these words of code, which are `size` bytes from 0x10000 on. Of the flags 4 is to read, 2 to write and 1 to run.
+/// The executable of these words of code, which are `size` bytes from 0x10000 on. Of the flags 4 is
+/// to read, 2 to write and 1 to run.
 pub fn executable(alloc: Global, size: u32, flags: u32, code: &[u32]) -> Result<Text, OutOfMemory>
     ensures { IfOk result (λ file. file ≡ executable size flags code.now) }
 {
@@ -50,7 +51,8 @@ pub fn executable(alloc: Global, size: u32, flags: u32, code: &[u32]) -> Result<
     Ok(file)
 }
 
-/// Adds the header of a core file: notes of so many bytes, and after them data of `size` bytes, which stand from 0x20000 on.
+/// Adds the header of a core file: notes of so many bytes, and after them data of `size` bytes,
+/// which stand from 0x20000 on.
 pub fn push_core_header(file: &mut Text, notes: u32, size: u32) -> Result<(), OutOfMemory>
     requires { notes ≤ 2 ^ 16 }
     ensures { OnOk result (file.new ≡ file.old ++ core_header notes size) }
@@ -63,7 +65,8 @@ pub fn push_core_header(file: &mut Text, notes: u32, size: u32) -> Result<(), Ou
     Ok(())
 }
 
-/// Adds the register note of a process up to its registers: the program counter and x1 to x31, after which a last word ends the note.
+/// Adds the register note of a process up to its registers: the program counter and x1 to x31,
+/// after which a last word ends the note.
 pub fn push_note_start(file: &mut Text, process: u8) -> Result<(), OutOfMemory>
     ensures { OnOk result (file.new ≡ file.old ++ note_start process) }
 {

@@ -10,7 +10,7 @@ ghost use Rattle.rept_make.specs.Words.{IsCode};
 
 use crate::code::{made_code, start_registers};
 use crate::files::{core_file, executable};
-use crate::run::{Run, make_run};
+use crate::run::{MachineRun, make_run};
 use rept_encode::{EncodeFault, encode};
 use rept_isa::register;
 use rept_machine::Machine;
@@ -42,7 +42,7 @@ fn saved_registers(machine: &Machine<'_>) -> [u32; 32]
     saved
 }
 
-/// So many bytes of data, from 0x20000 on.
+/// How many bytes of data there are, from 0x20000 on.
 pub fn saved_bytes(alloc: Global, machine: &Machine<'_>, count: u32) -> Result<Vec<u8>, AllocError>
     requires { count ≤ 2 ^ 16 }
     ensures size { IfOk result (λ bytes. length bytes.items ≡ count) }
@@ -55,7 +55,8 @@ pub fn saved_bytes(alloc: Global, machine: &Machine<'_>, count: u32) -> Result<V
     Ok(bytes)
 }
 
-/// The trace of steps of which no call directly follows an uninferable jump, so that nothing but memory can be wanting.
+/// The trace of steps of which no call directly follows an uninferable jump, so that nothing but
+/// memory can be wanting.
 fn trace_of(alloc: Global, steps: &Steps) -> Result<Text, OutOfMemory>
     requires walkable { IsWalkable false steps.now }
     requires entered { (i : ℕ) → IsJumpEnd steps.now i → ⊥ }
@@ -72,7 +73,7 @@ fn trace_of(alloc: Global, steps: &Steps) -> Result<Text, OutOfMemory>
 }
 
 /// The files of a run.
-fn save(alloc: Global, code: &[u32], run: &Run<'_>) -> Result<Made, OutOfMemory>
+fn save(alloc: Global, code: &[u32], run: &MachineRun<'_>) -> Result<Made, OutOfMemory>
     requires made { (seed : ℕ) × IsCode seed code.now × RanRows seed code.now run.now.machine run.now.steps }
     requires some { 0 < length run.now.steps }
     ensures { (seed : ℕ) → IsCode seed code.now → RanRows seed code.now run.now.machine run.now.steps → IfOk result (λ made. IsMade seed (length run.now.steps) made) }
@@ -85,10 +86,11 @@ fn save(alloc: Global, code: &[u32], run: &Run<'_>) -> Result<Made, OutOfMemory>
     Ok(Made { exe, core, trace })
 }
 
-/// The made crash of a seed: a program of 256 words from 0x10000 on that is drawn from it, the core file after so many of its steps,
-/// from 1 to 20,000, and the trace of these steps. The files are read back as the path of these steps, of which an execution exists
-/// that ends in the dump: the run itself. The code never halts, and the trace of each of its runs can be written: an `Err` is a want of memory
-/// and no other fault.
+/// The made crash of a seed: a program of 256 words from 0x10000 on that is drawn from it, the core
+/// file after so many of its steps, from 1 to 20,000, and the trace of these steps. The files are
+/// read back as the path of these steps, of which an execution exists that ends in the dump: the
+/// run itself. The code never halts, and the trace of each of its runs can be written: an `Err` is
+/// a want of memory and no other fault.
 pub fn make(alloc: Global, seed: u32, steps: u32) -> Result<Made, OutOfMemory>
     requires some { 1 ≤ steps }
     requires few { steps ≤ 20000 }

@@ -35,7 +35,7 @@ fn step(machine: &mut Machine<'_>, steps: &mut Steps) -> Result<(), OutOfMemory>
 
 /// A machine that has run, and its steps.
 #[derive(Drop)]
-pub struct Run<'a> {
+pub struct MachineRun<'a> {
     pub machine: Machine<'a>,
     pub steps: Steps,
 }
@@ -47,7 +47,7 @@ pub fn make_run<'a>(
     code: &'a [u32],
     registers: [u32; 32],
     count: u32,
-) -> Result<Run<'a>, OutOfMemory>
+) -> Result<MachineRun<'a>, OutOfMemory>
     requires code { IsCode seed code.now }
     requires registers { registers ≡ start_registers seed }
     requires few { count ≤ 65536 }
@@ -59,5 +59,5 @@ pub fn make_run<'a>(
     for i in 0..count {
         step(&mut machine, &mut steps)?;
     }
-    Ok(Run { machine, steps })
+    Ok(MachineRun { machine, steps })
 }

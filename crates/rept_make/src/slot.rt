@@ -98,7 +98,8 @@ fn drawn_instr(slot: &Slot) -> Instr
     }
 }
 
-/// The instruction of slot `i` of the code. Four slots have a fixed one, and the last but one never branches past the end.
+/// The instruction of slot `i` of the code. Four slots have a fixed one, and the last but one never
+/// branches past the end.
 pub fn slot_instr(i: usize, slot: Slot) -> Instr
     requires { IsSlot slot }
     ensures value { result ≡ slot_instr i slot }
@@ -127,7 +128,7 @@ pub fn slot_instr(i: usize, slot: Slot) -> Instr
     }
 }
 
-/// The same draws, but not of a branch.
+/// The draws of a slot, but not those of a branch.
 fn straight(slot: Slot) -> Slot
     requires { IsSlot slot }
     ensures value { result ≡ straight slot }

@@ -35,7 +35,8 @@ most_in_all = 536870912
 abbrev pub names_of : List ℕ → List (List ℕ)
 names_of desc = take (map_count desc) (names desc)
 
--- the names of a file note's entries that are loaded: the first 64 of them that differ, in table order, the empty one among them
+-- the names of a file note's entries that are loaded: the first 64 of them that differ, in table
+-- order, the empty one among them
 abbrev pub asked_names : List ℕ → List (List ℕ)
 asked_names desc = take most_names (distinct_from [] (names_of desc))
 
@@ -43,7 +44,8 @@ asked_names desc = take most_names (distinct_from [] (names_of desc))
 abbrev pub is_image : List ℕ → Bool
 is_image bytes = is_none (first_failure (checks Shared bytes))
 
--- what is kept of the file of a name: its bytes where it is there, is within the limit and has an image
+-- what is kept of the file of a name: its bytes where it is there, is within the limit and has an
+-- image
 abbrev pub kept_by : Files → ℕ → List ℕ → Option (List ℕ)
 kept_by files limit name = option_and_then (λ bytes. if nat_le (length bytes) limit && is_image bytes then Some bytes else None) (files name)
 
@@ -56,7 +58,8 @@ abbrev pub total : List (Option (List ℕ)) → ℕ
 total [] = 0
 total (k ∷ ks) = taken k + total ks
 
--- What is kept of these names, one after the other, with room for so many bytes: a file that doesn't fit in what is left of it is passed over.
+-- What is kept of these names, one after the other, with room for so many bytes: a file that
+-- doesn't fit in what is left of it is passed over.
 abbrev pub kept_all : Files → ℕ → List (List ℕ) → List (Option (List ℕ))
 kept_all files room [] = []
 kept_all files room (n ∷ ns) = kept_by files (min most_bytes room) n ∷ kept_all files (room - taken (kept_by files (min most_bytes room) n)) ns
@@ -77,13 +80,13 @@ as_image bytes = if is_image bytes then Some bytes else None
 abbrev pub image_at : List (List ℕ) → List (Option (List ℕ)) → List ℕ → Option (List ℕ)
 image_at names kept name = option_and_then as_image (kept_at names kept name)
 
--- how many loads a shelf was asked for, after so many more
+-- how many loads a file store was asked for, after so many more
 abbrev pub loads_after : ℕ → ℕ → ℕ
 loads_after zero loads = loads
 loads_after (suc count) loads = next_count (loads_after count loads)
 
--- Why the files of so many names aren't all loaded: the load of the one at this place failed, where a fault was counted, and no other was asked for after it; or memory
--- ran out.
+-- Why the files of so many names aren't all loaded: the load of the one at this place failed, where
+-- a fault was counted, and no other was asked for after it; or memory ran out.
 abbrev pub StopsAtFile : ℕ → LoadStop → PortMove Shelved → Type 0
-StopsAtFile names (stops.Failed place) shelf = (place < names) × (shelf.after.loads ≡ loads_after (suc place) shelf.before.loads) × Rose shelf.before.faults shelf.after.faults
-StopsAtFile names stops.OutOfMemory shelf = (count : ℕ) × (count ≤ names) × (shelf.after.loads ≡ loads_after count shelf.before.loads)
+StopsAtFile names (stops.Failed place) file_store = (place < names) × (file_store.after.loads ≡ loads_after (suc place) file_store.before.loads) × Rose file_store.before.faults file_store.after.faults
+StopsAtFile names stops.OutOfMemory file_store = (count : ℕ) × (count ≤ names) × (file_store.after.loads ≡ loads_after count file_store.before.loads)

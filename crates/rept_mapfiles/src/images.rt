@@ -35,7 +35,8 @@ fn image_of<'a>(name: &str, names: &[&str], kept: &'a [Option<Vec<u8>>]) -> Opti
     }
 }
 
-/// The images of the list's entries, by place: those of the files that were kept of these names. Its only refusal is of memory.
+/// The images of the list's entries, by place: those of the files that were kept of these names.
+/// Its only refusal is of memory.
 pub fn images_of<'a>(
     alloc: Global,
     maps: &Maps<'_>,

@@ -26,7 +26,8 @@ pub(crate) fn place_of(name: &str, names: &[&str]) -> Option<usize>
     position_of(name, names)
 }
 
-/// The names that are loaded: the first 64 of the list that differ, in table order. Its only refusal is of memory.
+/// The names that are loaded: the first 64 of the list that differ, in table order. Its only
+/// refusal is of memory.
 pub fn asked_names<'a>(alloc: Global, maps: &Maps<'a>) -> Result<Vec<&'a str>, AllocError>
     ensures { IfOk result (λ names. map (λ n. n.now) names.items ≡ asked_of (desc_of maps.now)) }
 {

@@ -15,7 +15,7 @@ use Rattle.rept_mapped.proofs.Searches.{slice_get-mappings}
 use Rattle.rept_mapped.specs.Mapped.{Mapping, mapped_symbol, mappings}
 use Rattle.rept_mapped.specs.Naming.{AskedMapped, asked_in, file_at, found_of, in_the_end, is_in, named_at, named_in, or_named, own_of, so_far, some_in, with_file}
 use Rattle.rept_mapped.specs.Views.{asked_of}
-use Rattle.rept_mapped.specs.declared.naming.Sought.{Sought}
+use Rattle.rept_mapped.specs.declared.naming.FunctionSearch.{FunctionSearch}
 use Rattle.rept_mapped.specs.declared.naming.Home.{Home}
 
 some_same : {X : Type 0} {x y : X} → Some x ≡ Some y → x ≡ y
@@ -172,7 +172,7 @@ pub file_of_image : (desc : List ℕ) (images : List (Option Image)) (i : ℕ) (
 file_of_image desc images i image at = ap (option_and_then (λ (m : Mapping). m.file)) (slice_get-mappings desc images i image at)
 
 -- one address more is asked
-pub one_asked : (file : List ℕ) (mapping i : ℕ) (asked : List Sought) (more : List Sought) (named : List (Option Symbol)) (s r : Sought) (n : Option Symbol)
+pub one_asked : (file : List ℕ) (mapping i : ℕ) (asked : List FunctionSearch) (more : List FunctionSearch) (named : List (Option Symbol)) (s r : FunctionSearch) (n : Option Symbol)
     → map (option_map symbol_of) named ≡ map (symbol_at file) (map own_of (map asked_of asked)) → slice_get asked i ≡ Some s → slice_get named i ≡ Some n
     → asked_of r ≡ or_named mapping (asked_of s) (option_map symbol_of n) → map asked_of more ≡ map (asked_in file mapping) (map asked_of (take i asked))
     → map asked_of (more ++ r ∷ []) ≡ map (asked_in file mapping) (map asked_of (take (i + 1) asked))
@@ -185,17 +185,17 @@ one_asked file mapping i asked more named s r n are at there is before =
     ∙ sym (map_push (asked_in file mapping) (map asked_of (take i asked)) (asked_of s)) ∙ ap (map (asked_in file mapping)) (sym (map_push asked_of (take i asked) s)) ∙ ap (λ xs. map (asked_in file mapping) (map asked_of xs)) (sym further)
 
 -- the same of what a call answers
-pub some_with_image : (ms : List Mapping) (i : ℕ) (file : List ℕ) (result : Result (Vec Sought Global) AllocError) (asked lent : List Sought) → file_at ms i ≡ Some file → lent ≡ asked
+pub some_with_image : (ms : List Mapping) (i : ℕ) (file : List ℕ) (result : Result (Vec FunctionSearch Global) AllocError) (asked lent : List FunctionSearch) → file_at ms i ≡ Some file → lent ≡ asked
     → IfOk result (λ more. map asked_of more.items ≡ map (asked_in file i) (map asked_of lent)) → IfOk result (λ more. map asked_of more.items ≡ map (with_file ms i) (map asked_of asked))
 some_with_image ms i file (Ok more) asked lent is same are = with_image ms i file (map asked_of asked) (map asked_of more.items) is (are ∙ ap (λ xs. map (asked_in file i) (map asked_of xs)) same)
 some_with_image ms i file (Err e) asked lent is same are = tt
 
 -- there are as many answers as addresses
-pub as_many : (file : List ℕ) (asked : List Sought) (named : List (Option Symbol)) → map (option_map symbol_of) named ≡ map (symbol_at file) (map own_of (map asked_of asked)) → length named ≡ length asked
+pub as_many : (file : List ℕ) (asked : List FunctionSearch) (named : List (Option Symbol)) → map (option_map symbol_of) named ≡ map (symbol_at file) (map own_of (map asked_of asked)) → length named ≡ length asked
 as_many file asked named are = sym (length-map named (option_map symbol_of)) ∙ ap length are ∙ length-map (map own_of (map asked_of asked)) (symbol_at file) ∙ length-map (map asked_of asked) own_of ∙ length-map asked asked_of
 
 -- what is answered in the end
-pub all_named : (ms : List Mapping) (n : ℕ) (asked lent : List Sought) (addresses : List ℕ) (result : Result (Vec (Option Symbol) Global) AllocError) → length ms ≤ n → lent ≡ asked
+pub all_named : (ms : List Mapping) (n : ℕ) (asked lent : List FunctionSearch) (addresses : List ℕ) (result : Result (Vec (Option Symbol) Global) AllocError) → length ms ≤ n → lent ≡ asked
     → IfOk result (λ found. map (option_map symbol_of) found.items ≡ map found_of (map asked_of lent)) → map found_of (map asked_of asked) ≡ map (so_far ms n) (map asked_of asked)
     → map (in_the_end ms) (map asked_of asked) ≡ map (mapped_symbol ms) addresses → IfOk result (λ found. map (option_map symbol_of) found.items ≡ map (mapped_symbol ms) addresses)
 all_named ms n asked lent addresses (Ok found) enough same are far ends =

@@ -8,9 +8,9 @@ use Rattle.rept_elf.specs.Image.{file_of}
 use Rattle.rept_elf.specs.declared.image.Image.{Image}
 use Rattle.rept_maps.specs.FileMap.{entry_at}
 use Rattle.rept_mapped.specs.Mapped.{mapping_by, mappings_from, mappings, only_with, has_some, has_all}
-use Rattle.rept_mapped.specs.declared.find.Bounds.{Bounds}
+use Rattle.rept_mapped.specs.declared.find.NumberBounds.{NumberBounds}
 
-module _ {X : Type 0} (bounds : X → Bounds) (count a : ℕ) (xs : List X) (i : ℕ) where
+module _ {X : Type 0} (bounds : X → NumberBounds) (count a : ℕ) (xs : List X) (i : ℕ) where
   abbrev pub is_met : X → Bool
   is_met x = has_some count a (bounds x)
 

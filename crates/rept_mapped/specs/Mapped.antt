@@ -1,6 +1,6 @@
--- What the mapped files of a process hold at an address: an entry maps its addresses, one after the other, from its offset in the
--- file on (mmap(2)). Where several entries have an address, or several segments an offset, the first one in table order counts (the
--- project's own).
+-- What the mapped files of a process hold at an address: an entry maps its addresses, one after the
+-- other, from its offset in the file on (mmap(2)). Where several entries have an address, or
+-- several segments an offset, the first one in table order counts (the project's own).
 use Rattle.std.specs.Prelude.{ℕ, ◌+◌, ◌-◌, ◌%◌, ◌^◌, List, [], ◌∷◌, length, drop, slice_index, Bool, ◌&&◌, not, nat_le, nat_lt, Option, None, Some, if◌then◌else◌}
 use Rattle.std.specs.List.{find}
 use Rattle.std.specs.Option.{option_map, option_and_then}
@@ -10,10 +10,10 @@ use Rattle.rept_elf.specs.Segments.{ElfSegment, segments, is_load, is_writable, 
 use Rattle.rept_elf.specs.Symbols.{FunctionSymbol, symbol_at}
 use Rattle.rept_elf.specs.declared.image.Image.{Image}
 use Rattle.rept_maps.specs.FileMap.{MapEntry, entry_at}
-use Rattle.rept_mapped.specs.declared.find.Bounds.{Bounds}
+use Rattle.rept_mapped.specs.declared.find.NumberBounds.{NumberBounds}
 
--- a mapped part of a file: its addresses, from start to before end, its offset in the file in bytes, and the file's bytes where its
--- image is there
+-- a mapped part of a file: its addresses, from start to before end, its offset in the file in
+-- bytes, and the file's bytes where its image is there
 pub record Mapping : Type 0 where
   pub start : ℕ
   pub end : ℕ
@@ -34,22 +34,23 @@ abbrev pub mappings : List ℕ → List (Option Image) → List Mapping
 mappings desc images = mappings_from desc 0 images
 
 -- some of so many numbers from one on are in the bounds, or all
-abbrev pub has_some : ℕ → ℕ → Bounds → Bool
+abbrev pub has_some : ℕ → ℕ → NumberBounds → Bool
 has_some count a b = nat_lt b.from b.to && (nat_lt b.from (a + count) && nat_lt a b.to)
 
-abbrev pub has_all : ℕ → ℕ → Bounds → Bool
+abbrev pub has_all : ℕ → ℕ → NumberBounds → Bool
 has_all count a b = nat_le b.from a && nat_le (a + count) b.to
 
 -- the first one whose bounds have some of so many numbers from one on, if they have all
-abbrev pub only_with : {X : Type 0} → (X → Bounds) → ℕ → ℕ → List X → Option X
+abbrev pub only_with : {X : Type 0} → (X → NumberBounds) → ℕ → ℕ → List X → Option X
 only_with bounds count a xs = option_and_then (λ x. if has_all count a (bounds x) then Some x else None) (find (λ x. has_some count a (bounds x)) xs)
 
 -- the addresses of a mapping
-abbrev pub addresses : Mapping → Bounds
+abbrev pub addresses : Mapping → NumberBounds
 addresses m = record { from = m.start; to = m.end }
 
--- the offsets of the bytes that the file has of a segment, which is part of memory; no other segment has any
-abbrev pub offsets : ElfSegment → Bounds
+-- the offsets of the bytes that the file has of a segment, which is part of memory; no other
+-- segment has any
+abbrev pub offsets : ElfSegment → NumberBounds
 offsets s = record { from = s.offset; to = if is_load s then s.offset + length s.body else s.offset }
 
 -- where some bytes stand: in a segment of a file, at a place among the segment's bytes
@@ -78,7 +79,8 @@ bytes_there p = drop p.place p.segment.body
 abbrev pub read_at : (ElfSegment → Bool) → (List ℕ → ℕ) → FileSpot → Option ℕ
 read_at allowed read p = if allowed p.segment then Some (read (bytes_there p)) else None
 
--- the word of code at an address, the low byte first: four bytes of one entry and of one segment, which is executable
+-- the word of code at an address, the low byte first: four bytes of one entry and of one segment,
+-- which is executable
 abbrev pub mapped_word : List Mapping → ℕ → Option ℕ
 mapped_word ms a = option_and_then (read_at is_executable (λ bytes. word_at bytes 0)) (spot_at ms 4 a)
 
@@ -86,7 +88,8 @@ mapped_word ms a = option_and_then (read_at is_executable (λ bytes. word_at byt
 abbrev pub mapped_half : List Mapping → ℕ → Option ℕ
 mapped_half ms a = option_and_then (read_at is_executable (λ bytes. half_at bytes 0)) (spot_at ms 2 a)
 
--- the byte at an address that the program could not write: that of its segment, which is not writable
+-- the byte at an address that the program could not write: that of its segment, which is not
+-- writable
 abbrev pub mapped_byte : List Mapping → ℕ → Option ℕ
 mapped_byte ms a = option_and_then (read_at (λ s. not (is_writable s)) (λ bytes. slice_index bytes 0)) (spot_at ms 1 a)
 

@@ -5,17 +5,17 @@ use Rattle.rept_mapped.specs.Mapped as mapped
 use Rattle.rept_elf.specs.Symbols.{symbol_of}
 use Rattle.rept_mapped.specs.Naming.{AskedMapped}
 use Rattle.rept_mapped.specs.declared.find.Mapping.{Mapping}
-use Rattle.rept_mapped.specs.declared.find.Spot.{Spot}
-use Rattle.rept_mapped.specs.declared.naming.Sought.{Sought}
+use Rattle.rept_mapped.specs.declared.find.BytesInFile.{BytesInFile}
+use Rattle.rept_mapped.specs.declared.naming.FunctionSearch.{FunctionSearch}
 
 -- a mapping with its file
 abbrev pub mapping_of : Mapping → mapped.Mapping
 mapping_of m = record { start = m.start; end = m.end; offset = m.offset; file = option_map file_of m.image }
 
 -- where some bytes stand
-abbrev pub spot_of : Spot → mapped.FileSpot
+abbrev pub spot_of : BytesInFile → mapped.FileSpot
 spot_of p = record { file = file_of p.image; segment = segment_of p.segment; place = p.place }
 
 -- an address whose function is sought
-abbrev pub asked_of : Sought → AskedMapped
+abbrev pub asked_of : FunctionSearch → AskedMapped
 asked_of a = record { home = a.home; found = option_map symbol_of a.found }

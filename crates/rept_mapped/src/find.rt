@@ -11,7 +11,7 @@ use rept_elf::{Image, PT_LOAD, Segment, after};
 
 /// Numbers from one up to another, without that.
 #[derive(Clone, Copy)]
-pub struct Bounds {
+pub struct NumberBounds {
     /// The first one.
     pub from: u64,
     /// The one after the last.
@@ -35,7 +35,7 @@ pub struct Mapping<'a> {
 
 /// Where some bytes stand.
 #[derive(Clone, Copy)]
-pub struct Spot<'a> {
+pub struct BytesInFile<'a> {
     /// The image of their file.
     pub image: Image<'a>,
     /// Their segment.
@@ -45,7 +45,7 @@ pub struct Spot<'a> {
 }
 
 /// Whether the bounds have some of so many numbers from one on.
-pub fn has_some(bounds: Bounds, count: u64, a: u64) -> bool
+pub fn has_some(bounds: NumberBounds, count: u64, a: u64) -> bool
     requires count { count ≤ 4 }
     requires small { a + count < 2 ^ 64 }
     ensures { result ≡ has_some_of count a bounds }
@@ -54,7 +54,7 @@ pub fn has_some(bounds: Bounds, count: u64, a: u64) -> bool
 }
 
 /// Whether the bounds have all of them.
-pub fn has_all(bounds: Bounds, count: u64, a: u64) -> bool
+pub fn has_all(bounds: NumberBounds, count: u64, a: u64) -> bool
     requires count { count ≤ 4 }
     requires small { a + count < 2 ^ 64 }
     ensures { result ≡ has_all_of count a bounds }
@@ -62,8 +62,9 @@ pub fn has_all(bounds: Bounds, count: u64, a: u64) -> bool
     bounds.from <= a && a + count <= bounds.to
 }
 
-/// The offsets of the bytes that the file has of a segment, which is part of memory; no other segment has any.
-fn offsets(segment: &Segment<'_>) -> Bounds
+/// The offsets of the bytes that the file has of a segment, which is part of memory; no other
+/// segment has any.
+fn offsets(segment: &Segment<'_>) -> NumberBounds
     requires { length segment.now.body.now < 2 ^ 32 }
     ensures value { result ≡ offsets (segment_of segment.now) }
     ensures first { result.from ≡ segment.now.offset }
@@ -75,13 +76,14 @@ fn offsets(segment: &Segment<'_>) -> Bounds
     } else {
         0
     };
-    Bounds {
+    NumberBounds {
         from,
         to: from + size,
     }
 }
 
-/// The segment of an image that has so many bytes from an offset on: the first that has some of them, where it has all.
+/// The segment of an image that has so many bytes from an offset on: the first that has some of
+/// them, where it has all.
 fn segment_with<'a>(image: &Image<'a>, count: u64, offset: u64) -> Option<Segment<'a>>
     requires count { (0 < count) × (count ≤ 4) }
     requires small { offset + count < 2 ^ 64 }
@@ -103,14 +105,14 @@ fn segment_with<'a>(image: &Image<'a>, count: u64, offset: u64) -> Option<Segmen
 }
 
 /// Where so many bytes of an image stand that begin at an offset of its file: in one segment.
-fn spot_in<'a>(image: Image<'a>, count: u64, offset: u64) -> Option<Spot<'a>>
+fn spot_in<'a>(image: Image<'a>, count: u64, offset: u64) -> Option<BytesInFile<'a>>
     requires count { (0 < count) × (count ≤ 4) }
     requires small { offset + count < 2 ^ 64 }
     ensures spot { option_map spot_of result ≡ spot_in (file_of image.entry) count offset }
     ensures enough { IfSome result (λ p. p.place + count ≤ length p.segment.body.now) }
 {
     let segment = segment_with(&image, count, offset)?;
-    Some(Spot {
+    Some(BytesInFile {
         image,
         segment,
         place: (offset - u64::from(segment.offset)) as u32,
@@ -118,7 +120,7 @@ fn spot_in<'a>(image: Image<'a>, count: u64, offset: u64) -> Option<Spot<'a>>
 }
 
 /// Where so many bytes of a mapping stand that begin at an address of it.
-pub fn spot_of_mapping<'a>(mapping: &Mapping<'a>, count: u64, a: u32) -> Option<Spot<'a>>
+pub fn spot_of_mapping<'a>(mapping: &Mapping<'a>, count: u64, a: u32) -> Option<BytesInFile<'a>>
     requires count { (0 < count) × (count ≤ 4) }
     requires within { (mapping.now.start ≤ a) × (a + count ≤ mapping.now.end) }
     requires small { mapping.now.offset + 2 ^ 32 < 2 ^ 64 }
@@ -131,7 +133,7 @@ pub fn spot_of_mapping<'a>(mapping: &Mapping<'a>, count: u64, a: u32) -> Option<
 }
 
 /// The bytes of a segment from a spot on.
-pub fn bytes_at<'a>(spot: &Spot<'a>) -> &'a [u8]
+pub fn bytes_at<'a>(spot: &BytesInFile<'a>) -> &'a [u8]
     ensures { result.now ≡ bytes_there (spot_of spot.now) }
 {
     after(spot.segment.body, spot.place as usize)

@@ -1,4 +1,5 @@
-//! What the files that a crashed process had mapped hold at an address: code, bytes that it could not write, and functions.
+//! What the files that a crashed process had mapped hold at an address: code, bytes that it could
+//! not write, and functions.
 #![tactic(auto)]
 
 mod find;

@@ -11,8 +11,10 @@ ghost use Rattle.rept_mapped.specs.Mapped.{addresses, bytes_there, mapped_byte, 
 ghost use Rattle.rept_mapped.specs.Naming.{found_of, in_the_end, named_at, so_far, with_file};
 ghost use Rattle.rept_mapped.specs.Views.{asked_of, mapping_of, spot_of};
 
-use crate::find::{Bounds, Mapping, Spot, bytes_at, has_all, has_some, spot_of_mapping};
-use crate::naming::{Home, Sought, ask, found_of, has_home};
+use crate::find::{
+    BytesInFile, Mapping, NumberBounds, bytes_at, has_all, has_some, spot_of_mapping,
+};
+use crate::naming::{FunctionSearch, Home, ask, found_of, has_home};
 use rept_elf::{PF_W, PF_X, Symbol, half, word};
 use rept_maps::{Images, Maps};
 use std::alloc::{AllocError, Global};
@@ -28,7 +30,8 @@ pub struct Mapped<'a> {
 impl<'a> Mapped<'a> {
     ghost use Rattle.rept_mapped.specs.Mappings.{mappings_of};
 
-    /// The mapped files of a core file's list, where place i has the image of the file of entry i, if that is there.
+    /// The mapped files of a core file's list, where place i has the image of the file of entry i,
+    /// if that is there.
     pub fn new(maps: Maps<'a>, images: &'a Images<'a>) -> Mapped<'a>
         requires { length images.now ≡ map_count (desc_of maps) }
         ensures { mappings_of result ≡ mappings (desc_of maps.entry) images.now }
@@ -36,8 +39,9 @@ impl<'a> Mapped<'a> {
         Mapped { maps, images }
     }
 
-    /// The word of code at this address: four bytes of one entry and of one segment of its file, which has `PF_X`. The first entry that has one
-    /// of the addresses counts, and of its file the first `PT_LOAD` segment that has one of the bytes. None exactly where there is none.
+    /// The word of code at this address: four bytes of one entry and of one segment of its file,
+    /// which has `PF_X`. The first entry that has one of the addresses counts, and of its file the
+    /// first `PT_LOAD` segment that has one of the bytes. None exactly where there is none.
     pub fn word(&self, a: u32) -> Option<u32>
         ensures { result ≡ mapped_word (mappings_of self.now) a }
     {
@@ -59,8 +63,8 @@ impl<'a> Mapped<'a> {
         Some(half(bytes_at(&spot), 0))
     }
 
-    /// The byte at this address, which the program could not write: its segment lacks `PF_W`, whatever the core file says of it. None exactly where
-    /// there is none.
+    /// The byte at this address, which the program could not write: its segment lacks `PF_W`,
+    /// whatever the core file says of it. None exactly where there is none.
     pub fn byte(&self, a: u32) -> Option<u8>
         ensures { result ≡ mapped_byte (mappings_of self.now) a }
     {
@@ -71,8 +75,9 @@ impl<'a> Mapped<'a> {
         Some(bytes_at(&spot)[0])
     }
 
-    /// The function that has this address, as the file of the address names it, and the address in memory at which it begins. None exactly where
-    /// the address has no segment, or its file names none.
+    /// The function that has this address, as the file of the address names it, and the address in
+    /// memory at which it begins. None exactly where the address has no segment, or its file names
+    /// none.
     pub fn symbol(&self, a: u32) -> Option<Symbol<'a>>
         ensures { option_map symbol_of result ≡ mapped_symbol (mappings_of self.now) a }
     {
@@ -85,8 +90,8 @@ impl<'a> Mapped<'a> {
         })
     }
 
-    /// The functions that have these addresses, one answer for each, as `symbol` gives it. The symbols of each mapping's file are gone over once
-    /// at most. The only refusal is of memory.
+    /// The functions that have these addresses, one answer for each, as `symbol` gives it. The
+    /// symbols of each mapping's file are gone over once at most. The only refusal is of memory.
     pub fn symbols(
         &self,
         alloc: Global,
@@ -102,13 +107,13 @@ impl<'a> Mapped<'a> {
     }
 
     /// The addresses with the mappings that have them, of which no function is found yet.
-    fn homes(&self, alloc: Global, addresses: &[u32]) -> Result<Vec<Sought<'a>>, AllocError>
+    fn homes(&self, alloc: Global, addresses: &[u32]) -> Result<Vec<FunctionSearch<'a>>, AllocError>
         ensures homes { IfOk result (λ asked. map (in_the_end (mappings_of self.now)) (map asked_of asked.items) ≡ map (mapped_symbol (mappings_of self.now)) addresses.now) }
         ensures found { IfOk result (λ asked. map found_of (map asked_of asked.items) ≡ map (so_far (mappings_of self.now) 0) (map asked_of asked.items)) }
     {
         let mut asked = Vec::new(alloc);
         for address in addresses {
-            asked.push(Sought {
+            asked.push(FunctionSearch {
                 home: self.home(*address),
                 found: None,
             })?;
@@ -121,8 +126,8 @@ impl<'a> Mapped<'a> {
         &self,
         alloc: Global,
         i: u32,
-        asked: Vec<Sought<'a>>,
-    ) -> Result<Vec<Sought<'a>>, AllocError>
+        asked: Vec<FunctionSearch<'a>>,
+    ) -> Result<Vec<FunctionSearch<'a>>, AllocError>
         requires { i < map_count (desc_of self.now.maps) }
         ensures { IfOk result (λ more. map asked_of more.items ≡ map (with_file (mappings_of self.now) i) (map asked_of asked.entry.items)) }
     {
@@ -165,7 +170,8 @@ impl<'a> Mapped<'a> {
         }
     }
 
-    /// The mapping that has so many addresses from one on: the first that has some of them, where it has all.
+    /// The mapping that has so many addresses from one on: the first that has some of them, where
+    /// it has all.
     fn mapping_with(&self, count: u64, a: u32) -> Option<Mapping<'a>>
         requires { (0 < count) × (count ≤ 4) }
         ensures mapping { option_map mapping_of result ≡ only_with addresses count a (mappings_of self.now) }
@@ -188,7 +194,7 @@ impl<'a> Mapped<'a> {
     }
 
     /// Where so many bytes from an address on stand: in one segment of the file of one mapping.
-    fn spot(&self, count: u64, a: u32) -> Option<Spot<'a>>
+    fn spot(&self, count: u64, a: u32) -> Option<BytesInFile<'a>>
         requires { (0 < count) × (count ≤ 4) }
         ensures spot { option_map spot_of result ≡ spot_at (mappings_of self.now) count a }
         ensures enough { IfSome result (λ p. p.place + count ≤ length p.segment.body.now) }
@@ -199,19 +205,19 @@ impl<'a> Mapped<'a> {
 }
 
 /// The addresses of a mapping.
-fn addresses(mapping: &Mapping<'_>) -> Bounds
+fn addresses(mapping: &Mapping<'_>) -> NumberBounds
     ensures value { result ≡ addresses (mapping_of mapping.now) }
     ensures first { result.from ≡ mapping.now.start }
     ensures last { result.to ≡ mapping.now.end }
 {
-    Bounds {
+    NumberBounds {
         from: u64::from(mapping.start),
         to: u64::from(mapping.end),
     }
 }
 
 /// The address that a file gives to a byte of it.
-fn own_address(spot: &Spot<'_>) -> u32
+fn own_address(spot: &BytesInFile<'_>) -> u32
     ensures { result ≡ own_address (spot_of spot.now) }
 {
     spot.segment.vaddr.wrapping_add(spot.place)

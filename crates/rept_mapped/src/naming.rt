@@ -23,7 +23,7 @@ pub struct Home {
 
 /// An address whose function is sought, and what is found.
 #[derive(Clone, Copy)]
-pub struct Sought<'a> {
+pub struct FunctionSearch<'a> {
     /// Where it is sought, if a file has the address.
     pub home: Option<Home>,
     /// What is found, as it stands in memory.
@@ -31,7 +31,7 @@ pub struct Sought<'a> {
 }
 
 /// Whether an address is sought in the file of this mapping.
-fn is_in(asked: &Sought<'_>, mapping: u32) -> bool
+fn is_in(asked: &FunctionSearch<'_>, mapping: u32) -> bool
     ensures { result ≡ is_in mapping (asked_of asked.now) }
 {
     match asked.home {
@@ -41,7 +41,7 @@ fn is_in(asked: &Sought<'_>, mapping: u32) -> bool
 }
 
 /// Whether one of the addresses is sought in the file of this mapping.
-pub fn has_home(asked: &[Sought<'_>], mapping: u32) -> bool
+pub fn has_home(asked: &[FunctionSearch<'_>], mapping: u32) -> bool
     ensures { result ≡ some_in mapping (map asked_of asked.now) }
 {
     for one in asked {
@@ -53,7 +53,7 @@ pub fn has_home(asked: &[Sought<'_>], mapping: u32) -> bool
 }
 
 /// The address at which a file is asked, where it is one of its own.
-fn own_of(asked: &Sought<'_>) -> u32
+fn own_of(asked: &FunctionSearch<'_>) -> u32
     ensures { result ≡ own_of (asked_of asked.now) }
 {
     match asked.home {
@@ -63,7 +63,7 @@ fn own_of(asked: &Sought<'_>) -> u32
 }
 
 /// The addresses at which a file is asked.
-fn own_addresses(alloc: Global, asked: &[Sought<'_>]) -> Result<Vec<u32>, AllocError>
+fn own_addresses(alloc: Global, asked: &[FunctionSearch<'_>]) -> Result<Vec<u32>, AllocError>
     ensures { IfOk result (λ owns. owns.items ≡ map own_of (map asked_of asked.now)) }
 {
     let mut owns = Vec::new(alloc);
@@ -86,7 +86,11 @@ fn moved<'a>(home: &Home, symbol: Symbol<'a>) -> Symbol<'a>
 }
 
 /// What is found with the function that the file of this mapping has at the address.
-fn or_named<'a>(mapping: u32, asked: &Sought<'a>, named: Option<Symbol<'a>>) -> Sought<'a>
+fn or_named<'a>(
+    mapping: u32,
+    asked: &FunctionSearch<'a>,
+    named: Option<Symbol<'a>>,
+) -> FunctionSearch<'a>
     ensures { asked_of result ≡ or_named mapping (asked_of asked.now) (option_map symbol_of named.entry) }
 {
     let Some(home) = asked.home else {
@@ -98,7 +102,7 @@ fn or_named<'a>(mapping: u32, asked: &Sought<'a>, named: Option<Symbol<'a>>) -> 
     let Some(symbol) = named else {
         return *asked;
     };
-    Sought {
+    FunctionSearch {
         home: asked.home,
         found: Some(moved(&home, symbol)),
     }
@@ -109,8 +113,8 @@ pub fn ask<'a>(
     alloc: Global,
     image: &Image<'a>,
     mapping: u32,
-    asked: &[Sought<'a>],
-) -> Result<Vec<Sought<'a>>, AllocError>
+    asked: &[FunctionSearch<'a>],
+) -> Result<Vec<FunctionSearch<'a>>, AllocError>
     ensures { IfOk result (λ more. map asked_of more.items ≡ map (asked_in (file_of image.now) mapping) (map asked_of asked.now)) }
 {
     let owns = own_addresses(alloc, asked)?;
@@ -125,7 +129,7 @@ pub fn ask<'a>(
 /// What is found of each address.
 pub fn found_of<'a>(
     alloc: Global,
-    asked: &[Sought<'a>],
+    asked: &[FunctionSearch<'a>],
 ) -> Result<Vec<Option<Symbol<'a>>>, AllocError>
     ensures { IfOk result (λ found. map (option_map symbol_of) found.items ≡ map found_of (map asked_of asked.now)) }
 {

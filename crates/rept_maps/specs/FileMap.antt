@@ -1,6 +1,7 @@
--- The note in which Linux lists the mapped files of a process: `NT_FILE` (include/uapi/linux/elf.h), whose descriptor
--- `fill_files_note` of fs/binfmt_elf.c writes, with words of 32 bits: a count, the page size, so many entries of a first
--- address, the address after the last and an offset in pages, and then the name of each, ended by a zero byte.
+-- The note in which Linux lists the mapped files of a process: `NT_FILE`
+-- (include/uapi/linux/elf.h), whose descriptor `fill_files_note` of fs/binfmt_elf.c writes, with
+-- words of 32 bits: a count, the page size, so many entries of a first address, the address after
+-- the last and an offset in pages, and then the name of each, ended by a zero byte.
 use Rattle.std.specs.Prelude.{ℕ, ◌+◌, ◌*◌, ◌<◌, ◌≤◌, List, [], length, drop, ◌==◌, slice_index_or, IsTrue}
 use Rattle.std.specs.List.{slice_split}
 use Rattle.std.specs.Str.{is_utf8}
@@ -32,7 +33,8 @@ parts bytes = slice_split (λ b. b == 0) bytes
 abbrev pub names : List ℕ → List (List ℕ)
 names desc = parts (drop (entry_offset (map_count desc)) desc)
 
--- a mapped part of a file: its addresses, from start to before end, its offset in the file in bytes, and the file's name
+-- a mapped part of a file: its addresses, from start to before end, its offset in the file in
+-- bytes, and the file's name
 pub record MapEntry : Type 0 where
   pub start : ℕ
   pub end : ℕ
@@ -57,7 +59,8 @@ pub record IsEntry (e : MapEntry) : Type 0 where
   pub ordered : e.start ≤ e.end
   pub text : IsTrue (is_utf8 e.name)
 
--- the descriptor holds all entries and names, and each entry is one; bytes after the last name are not looked at
+-- the descriptor holds all entries and names, and each entry is one; bytes after the last name are
+-- not looked at
 pub record IsFileMap (desc : List ℕ) : Type 0 where
   pub header : 8 ≤ length desc
   pub entries : entry_offset (map_count desc) ≤ length desc

@@ -1,4 +1,5 @@
--- What a core file says of the files that were mapped (which refusal comes first is the project's own).
+-- What a core file says of the files that were mapped (which refusal comes first is the project's
+-- own).
 use Rattle.std.specs.Prelude.{◌≡◌, ℕ, ◌<◌, ◌≤◌, ◌⊎◌, List, Option, None, Some, Result, Ok, Err}
 use Rattle.std.specs.List.{filter}
 use Rattle.rept_elf.specs.Segments.{ElfSegment}
@@ -20,7 +21,8 @@ abbrev pub FirstSays : Option Note → Result (List ℕ) MapFault → Type 0
 FirstSays None said = said ≡ Err fault.NoMap
 FirstSays (Some note) said = NoteSays note said
 
--- what the notes of a core file of so many bytes say: the descriptor of the file note, or the first fault
+-- what the notes of a core file of so many bytes say: the descriptor of the file note, or the first
+-- fault
 abbrev pub MapsSay : ℕ → List ElfSegment → Result (List ℕ) MapFault → Type 0
 MapsSay size ss said =
     ((offset : ℕ) × AreCutAt size (note_segments ss) offset × (said ≡ Err (fault.NotePastEnd offset)))

@@ -23,7 +23,8 @@ pub struct Entry<'a> {
     pub end: u32,
     /// Its offset in the file, in bytes.
     pub offset: u64,
-    /// The name of the file, as the process had it: a stranger's word, which may be of any characters but the zero byte.
+    /// The name of the file, as the process had it: a stranger's word, which may be of any
+    /// characters but the zero byte.
     pub name: &'a str,
 }
 
@@ -68,7 +69,8 @@ pub fn text_of(bytes: &[u8]) -> &str
     }
 }
 
-/// Whether the entry of this index, with this name, ends at or after its start, and its name is text.
+/// Whether the entry of this index, with this name, ends at or after its start, and its name is
+/// text.
 fn is_entry(desc: &[u8], i: u32, name: &[u8]) -> bool
     requires { entry_offset i + 12 ≤ length desc.now }
     ensures { MatchBool result (IsEntry (entry_named desc.now i name.now)) (IsEntry (entry_named desc.now i name.now) → ⊥) }
@@ -101,7 +103,8 @@ fn are_entries(desc: &[u8]) -> bool
     true
 }
 
-/// Whether the descriptor of a file note holds all entries and names, each is ordered and each name text.
+/// Whether the descriptor of a file note holds all entries and names, each is ordered and each name
+/// text.
 pub fn is_map(desc: &[u8]) -> bool
     ensures { MatchBool result (IsFileMap desc.now) (IsFileMap desc.now → ⊥) }
 {
@@ -137,7 +140,7 @@ pub fn name_at(desc: &[u8], i: u32) -> &str
 
 /// The addresses of an entry, and its offset.
 #[derive(Clone, Copy)]
-pub struct Place {
+pub struct MappedRange {
     /// Its first address.
     pub start: u32,
     /// The address after its last one.
@@ -155,7 +158,7 @@ fn product(a: u32, b: u32) -> u64
 }
 
 /// The addresses and the offset of the entry of this index.
-pub fn place_at(desc: &[u8], i: u32) -> Place
+pub fn place_at(desc: &[u8], i: u32) -> MappedRange
     requires { entry_offset i + 12 ≤ length desc.now }
     ensures start { result.start ≡ word_at desc.now (entry_offset i) }
     ensures end { result.end ≡ word_at desc.now (entry_offset i + 4) }
@@ -163,7 +166,7 @@ pub fn place_at(desc: &[u8], i: u32) -> Place
     ensures small { result.offset + 2 ^ 32 < 2 ^ 64 }
 {
     let at = HEADER_SIZE + ENTRY_SIZE * i as usize;
-    Place {
+    MappedRange {
         start: word(desc, at),
         end: word(desc, at + 4),
         offset: product(word(desc, at + 8), word(desc, 4)),

@@ -5,11 +5,11 @@ ghost use Rattle.rept_elf.specs.Image.{file_of, segments_of};
 ghost use Rattle.rept_notes.specs.Found.{note_of};
 ghost use Rattle.rept_maps.specs.FileMap.{IsFileMap, map_count, most_entries};
 
-use crate::entry::{Entry, Place, is_map, name_at, place_at};
+use crate::entry::{Entry, MappedRange, is_map, name_at, place_at};
 use crate::fault::MapFault;
 use crate::names::Names;
 use rept_elf::{Image, after, word};
-use rept_notes::{Found, Note, find_notes};
+use rept_notes::{FoundNotes, Note, find_notes};
 
 /// The type of a note that lists mapped files.
 const NT_FILE: u32 = 0x4649_4c45;
@@ -34,8 +34,8 @@ impl<'a> Maps<'a> {
     ghost use Rattle.rept_maps.specs.Views.{desc_of, entry_of, said_of};
     ghost use Rattle.rept_maps.specs.declared.fault.MapFault.{MapFault};
 
-    /// The list of mapped files of a core file: that of its first file note (`NT_FILE`, named `CORE`). A fault comes exactly
-    /// where the core file has it first.
+    /// The list of mapped files of a core file: that of its first file note (`NT_FILE`, named
+    /// `CORE`). A fault comes exactly where the core file has it first.
     pub fn read(core: Image<'a>) -> Result<Maps<'a>, MapFault>
         ensures said { MapsSay (length (file_of core.entry)) (segments_of core.entry) (said_of result) }
         ensures only { (said : Result (List ℕ) MapFault) → MapsSay (length (file_of core.entry)) (segments_of core.entry) said → said ≡ said_of result }
@@ -48,7 +48,7 @@ impl<'a> Maps<'a> {
     }
 
     /// The list in the first file note.
-    fn of_first(found: &Found<'a>) -> Result<Maps<'a>, MapFault>
+    fn of_first(found: &FoundNotes<'a>) -> Result<Maps<'a>, MapFault>
         ensures { FirstSays (option_map note_of found.now.first) (said_of result) }
     {
         match found.first {
@@ -93,7 +93,7 @@ impl<'a> Maps<'a> {
     }
 
     /// The addresses and the offset of the entry of this index, without its name.
-    pub fn place(&self, i: u32) -> Place
+    pub fn place(&self, i: u32) -> MappedRange
         requires { i < map_count (desc_of self.now) }
         ensures start { result.start ≡ (entry_at (desc_of self.now) i).start }
         ensures end { result.end ≡ (entry_at (desc_of self.now) i).end }
@@ -103,7 +103,8 @@ impl<'a> Maps<'a> {
         place_at(self.desc, i)
     }
 
-    /// The entry of this index, in table order. Its name is found by going over the names before it.
+    /// The entry of this index, in table order. Its name is found by going over the names before
+    /// it.
     pub fn entry(&self, i: u32) -> Entry<'a>
         requires { i < map_count (desc_of self.now) }
         ensures { entry_of result ≡ entry_at (desc_of self.now) i }

@@ -12,7 +12,7 @@ use Rattle.rept_order.specs.Times.{begin_of}
 use Rattle.rept_course.specs.Making.{is_still, next_point}
 use Rattle.rept_order.specs.Legs.{points_before, number_of, leg_row}
 use Rattle.rept_course.specs.Numbered.{row_on}
-use Rattle.rept_moments.specs.declared.side.Side.{Side}
+use Rattle.rept_moments.specs.declared.side.PointSide.{PointSide}
 use Rattle.rept_moments.specs.Points.{points_in}
 use Rattle.rept_moments.specs.Ordering.{moment_at_side, event_at}
 use Rattle.rept_crossing.specs.Writers.{not_past}
@@ -98,20 +98,20 @@ adds_own own n old same v = (λ h. inl h, back)
 pub adds_same : (own : ℕ) (xs ys old new : List ℕ) → xs ≡ ys → AddsOthers own (Member xs) old new → AddsOthers own (Member ys) old new
 adds_same own xs ys old new same its = subst (λ (zs : List ℕ). AddsOthers own (Member zs) old new) same its
 
-pub in_time_then : (C : Course) (last : Option ℕ) (x : Side) (b n : ℕ) (p : Bool) → b ≡ begin_of C (event_at C x) → n ≡ (numbers_of C).name (moment_at_side C x) → p ≡ not_past last b → p ≡ true → n ∷ [] ≡ offers_at C last (Some x)
+pub in_time_then : (C : Course) (last : Option ℕ) (x : PointSide) (b n : ℕ) (p : Bool) → b ≡ begin_of C (event_at C x) → n ≡ (numbers_of C).name (moment_at_side C x) → p ≡ not_past last b → p ≡ true → n ∷ [] ≡ offers_at C last (Some x)
 in_time_then C last x b n p begin name is holds =
     let test : not_past last (begin_of C (event_at C x)) ≡ true = sym (is ∙ ap (not_past last) begin) ∙ holds in
     ap (λ (k : ℕ). k ∷ []) name ∙ sym (ap (λ (q : Bool). cond q ((numbers_of C).name (moment_at_side C x) ∷ []) []) test)
 
-pub in_time_else : (C : Course) (last : Option ℕ) (x : Side) (b : ℕ) (p : Bool) → b ≡ begin_of C (event_at C x) → p ≡ not_past last b → p ≡ false → [] ≡ offers_at C last (Some x)
+pub in_time_else : (C : Course) (last : Option ℕ) (x : PointSide) (b : ℕ) (p : Bool) → b ≡ begin_of C (event_at C x) → p ≡ not_past last b → p ≡ false → [] ≡ offers_at C last (Some x)
 in_time_else C last x b p begin is fails =
     let test : not_past last (begin_of C (event_at C x)) ≡ false = sym (is ∙ ap (not_past last) begin) ∙ fails in
     sym (ap (λ (q : Bool). cond q ((numbers_of C).name (moment_at_side C x) ∷ []) []) test)
 
-pub later_then : (C : Course) (s x : Side) (n : ℕ) (p : Bool) → n ≡ (numbers_of C).name (moment_at_side C x) → p ≡ is_first_later C s x → p ≡ true → n ∷ [] ≡ first_offer C s x
+pub later_then : (C : Course) (s x : PointSide) (n : ℕ) (p : Bool) → n ≡ (numbers_of C).name (moment_at_side C x) → p ≡ is_first_later C s x → p ≡ true → n ∷ [] ≡ first_offer C s x
 later_then C s x n p name is holds = ap (λ (k : ℕ). k ∷ []) name ∙ sym (ap (λ (q : Bool). cond q ((numbers_of C).name (moment_at_side C x) ∷ []) []) (sym is ∙ holds))
 
-pub later_else : (C : Course) (s x : Side) (p : Bool) → p ≡ is_first_later C s x → p ≡ false → [] ≡ first_offer C s x
+pub later_else : (C : Course) (s x : PointSide) (p : Bool) → p ≡ is_first_later C s x → p ≡ false → [] ≡ first_offer C s x
 later_else C s x p is fails = sym (ap (λ (q : Bool). cond q ((numbers_of C).name (moment_at_side C x) ∷ []) []) (sym is ∙ fails))
 
 pub ends_more : (C : Course) (own : ℕ) (start old new : List ℕ) (t : ℕ) → AddsOthers own (Member (ends_to C t)) start old → AddsOthers own (Member (last_nexts C t (length (rows_of C t)))) old new → AddsOthers own (Member (ends_to C (t + 1))) start new
@@ -129,14 +129,14 @@ pub point_more : (C : Course) (p : ℕ) → p ≢ 0 → merged_nexts C (p - 1) �
 point_more C zero other = absurd (other refl)
 point_more C (suc p) other = ap (merged_nexts C) (omega arith)
 
-pub side_then : (C : Course) (own : ℕ) (x : Side) (start old : List ℕ) → x.is_after ≡ true → AddsOthers own (Member (nexts_of C (moment_at_side C x))) start old → AddsOthers own (Member (side_nexts C x)) start old
+pub side_then : (C : Course) (own : ℕ) (x : PointSide) (start old : List ℕ) → x.is_after ≡ true → AddsOthers own (Member (nexts_of C (moment_at_side C x))) start old → AddsOthers own (Member (side_nexts C x)) start old
 side_then C own x start old is its = adds_lists own (nexts_of C (moment_at_side C x)) (cond x.is_after [] (point_nexts C x.point)) start old old its (adds_none own (Member (cond x.is_after [] (point_nexts C x.point))) old (λ v h. none x.is_after is v h))
   where
     none : (b : Bool) → b ≡ true → (v : ℕ) → Member (cond b [] (point_nexts C x.point)) v → ⊥
     none true e v h = h
     none false e v h = absurd (Rattle.std.proofs.lemmas.Bool.false≢true e)
 
-pub side_else : (C : Course) (own : ℕ) (x : Side) (start old new : List ℕ) → x.is_after ≡ false → AddsOthers own (Member (nexts_of C (moment_at_side C x))) start old → AddsOthers own (Member (point_nexts C x.point)) old new → AddsOthers own (Member (side_nexts C x)) start new
+pub side_else : (C : Course) (own : ℕ) (x : PointSide) (start old new : List ℕ) → x.is_after ≡ false → AddsOthers own (Member (nexts_of C (moment_at_side C x))) start old → AddsOthers own (Member (point_nexts C x.point)) old new → AddsOthers own (Member (side_nexts C x)) start new
 side_else C own x start old new is its more = adds_lists own (nexts_of C (moment_at_side C x)) (cond x.is_after [] (point_nexts C x.point)) start old new its (adds_same own (point_nexts C x.point) (cond x.is_after [] (point_nexts C x.point)) old new (sym (ap (λ (b : Bool). cond b [] (point_nexts C x.point)) is)) more)
 
 pub rows_inside : (C : Course) (t n : ℕ) → t < length C.threads → n ≡ length (rows_of C t) → points_before C.threads t + n < points_in C
@@ -160,8 +160,8 @@ last_some C t n g rows some first =
 pub merged_leads : (C : Course) (g : ℕ) (b : Bool) → b ≡ merged_at C g → b ≡ true → IsSome (leg_row C g)
 merged_leads C g b is holds = (and_parts (is_some (leg_row C g)) (is_still C (stretch (after (row_on C g)) (next_point C (row_on C g)))) (sym is ∙ holds)).0
 
-pub name_then : (C : Course) (x : Side) (k : ℕ) → x.is_after ≡ true → k ≡ (numbers_of C).name (after (row_on C x.point)) → k ≡ (numbers_of C).name (moment_at_side C x)
+pub name_then : (C : Course) (x : PointSide) (k : ℕ) → x.is_after ≡ true → k ≡ (numbers_of C).name (after (row_on C x.point)) → k ≡ (numbers_of C).name (moment_at_side C x)
 name_then C x k is e = e ∙ sym (ap (λ (b : Bool). (numbers_of C).name (beside_by (row_on C x.point) b)) is)
 
-pub name_else : (C : Course) (x : Side) (k : ℕ) → x.is_after ≡ false → k ≡ (numbers_of C).name (before (row_on C x.point)) → k ≡ (numbers_of C).name (moment_at_side C x)
+pub name_else : (C : Course) (x : PointSide) (k : ℕ) → x.is_after ≡ false → k ≡ (numbers_of C).name (before (row_on C x.point)) → k ≡ (numbers_of C).name (moment_at_side C x)
 name_else C x k is e = e ∙ sym (ap (λ (b : Bool). (numbers_of C).name (beside_by (row_on C x.point) b)) is)

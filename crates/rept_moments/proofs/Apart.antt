@@ -89,7 +89,7 @@ moments_by C sound (Some rows) = are_points rows
 moments_by C sound None = are_moments C sound (numbers_of C) (are_numbers C sound)
 
 pub legs_seen : (C : Course) → AreLegs (seen C).legs
-legs_seen C = legs_by C (alone_by C.threads C.dark)
+legs_seen C = legs_by C (alone_by C.threads C.untraced)
 
 pub moments_seen : (C : Course) → IsSoundCourse C → AreMoments (seen C).legs (seen C).moments
-moments_seen C sound = moments_by C sound (alone_by C.threads C.dark)
+moments_seen C sound = moments_by C sound (alone_by C.threads C.untraced)

@@ -1,5 +1,6 @@
--- The numbers of two harts, worked out by hand. Thread 0 runs row 0 from time 1 to 3, rows 1 and 2 from 5 to 9, and row 3 from 9 on; thread 1
--- runs row 0, a call, from 1 to 4, and row 1 from 4 to 8. What happened until 1 isn't told.
+-- The numbers of two harts, worked out by hand. Thread 0 runs row 0 from time 1 to 3, rows 1 and 2
+-- from 5 to 9, and row 3 from 9 on; thread 1 runs row 0, a call, from 1 to 4, and row 1 from 4 to
+-- 8. What happened until 1 isn't told.
 use Rattle.std.proofs.Common.{◌≡◌, ℕ, refl}
 use Rattle.rept_steps.specs.Course.{row_of}
 use Rattle.rept_order.specs.Moments.Moment.{before, after}
@@ -12,7 +13,7 @@ before_row t i = (numbers_of two_harts).name (before (row_of t i))
 abbrev after_row : ℕ → ℕ → ℕ
 after_row t i = (numbers_of two_harts).name (after (row_of t i))
 
--- something that isn't told may fall after row 0, and the call after rows 1 and 2
+-- something that isn't told may act after row 0, and the call after rows 1 and 2
 first_before : before_row 0 0 ≡ 0
 first_before = refl
 
@@ -34,7 +35,7 @@ third_after = refl
 fourth_before : before_row 0 3 ≡ 8
 fourth_before = refl
 
--- nothing that writes falls after the last rows
+-- nothing that writes may act after the last rows
 fourth_after : after_row 0 3 ≡ 9
 fourth_after = refl
 

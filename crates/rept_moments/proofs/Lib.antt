@@ -6,7 +6,7 @@ pub mod Still
 pub mod Numbering
 pub mod Places
 pub mod Told
-pub mod Falls
+pub mod MayAct
 pub mod Sooner
 pub mod Keeping
 pub mod Turns

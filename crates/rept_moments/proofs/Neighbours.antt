@@ -15,7 +15,7 @@ use Rattle.rept_course.specs.Making.{is_still, next_point, lasts, link_by, named
 use Rattle.rept_course.specs.Numbered.{row_on}
 use Rattle.rept_course.proofs.Naming.{some_is}
 use Rattle.rept_course.proofs.Making.{next_last, last_named}
-use Rattle.rept_moments.specs.declared.side.Side.{Side}
+use Rattle.rept_moments.specs.declared.side.PointSide.{PointSide}
 use Rattle.rept_moments.specs.Ordering.{moment_at_side, in_order}
 use Rattle.rept_moments.specs.Merging.{merged_at}
 use Rattle.rept_moments.specs.Numbers.{numbers_of, numbered, unless}
@@ -27,7 +27,7 @@ use Rattle.rept_moments.proofs.Places.{row_there, there_row, point_of_row, row_p
 use Rattle.rept_moments.proofs.Listing.{are_listed, row_at_side}
 use Rattle.rept_moments.proofs.Numbering.{count_same, told}
 use Rattle.rept_moments.proofs.Told.{told_is}
-use Rattle.rept_moments.proofs.Falls.{row_placed, name_placed}
+use Rattle.rept_moments.proofs.MayAct.{row_placed, name_placed}
 use Rattle.rept_moments.proofs.Apart.{are_numbers}
 use Rattle.rept_moments.proofs.Offers.{member_left, member_right, member_parts, next_has, has_next}
 
@@ -119,7 +119,7 @@ module _ (C : Course) (sound : IsSoundCourse C) where
   merged_step : (g n v : ℕ) → (merged_at C g ≡ true → (numbers_of C).name (after (row_on C g)) ≡ n) → Member (merged_nexts C g) v → IsStep n v
   merged_step g n v name h = merged_by (merged_at C g) g n v refl name h
 
-  own_step : (s : Side) (v : ℕ) → IsRow C (row_on C s.point) → Member (nexts_of C (moment_at_side C s)) v → IsStep ((numbers_of C).name (moment_at_side C s)) v
+  own_step : (s : PointSide) (v : ℕ) → IsRow C (row_on C s.point) → Member (nexts_of C (moment_at_side C s)) v → IsStep ((numbers_of C).name (moment_at_side C s)) v
   own_step s v is h =
       let its = has_next C sound (moment_at_side C s) (row_at_side C s.is_after (row_on C s.point) is) v h in
       record { from = moment_at_side C s; from_is = row_at_side C s.is_after (row_on C s.point) is; from_name = refl; to = its.moment; to_is = its.is_one; to_name = its.name; next = its.next }
@@ -132,7 +132,7 @@ module _ (C : Course) (sound : IsSoundCourse C) where
   rest_step true p v is h = absurd h
   rest_step false p v is h = point_step p v is h
 
-  pub side_step : (s : Side) (v : ℕ) → IsRow C (row_on C s.point) → Member (side_nexts C s) v → IsStep ((numbers_of C).name (moment_at_side C s)) v
+  pub side_step : (s : PointSide) (v : ℕ) → IsRow C (row_on C s.point) → Member (side_nexts C s) v → IsStep ((numbers_of C).name (moment_at_side C s)) v
   side_step s v is h =
       elim (member_parts (nexts_of C (moment_at_side C s)) (cond s.is_after [] (point_nexts C s.point)) v h) [
         | inl k ↦ own_step s v is k
@@ -192,7 +192,7 @@ module _ (C : Course) (sound : IsSoundCourse C) where
         subst (λ (k : ℕ). Member (nexts_of C m) k) st.to_name (next_has C sound m is st.to st.to_is next)
 
     -- by the last moment of the number itself
-    by_itself : (o : Option Side) → st.from ≡ told C o → Member (numbers_next C o) v
+    by_itself : (o : Option PointSide) → st.from ≡ told C o → Member (numbers_next C o) v
     by_itself None same = absurd (end_last st.to (subst (λ (y : Moment). IsNext C y st.to) same st.next))
     by_itself (Some s) same = member_left (nexts_of C (moment_at_side C s)) (cond s.is_after [] (point_nexts C s.point)) v (here (moment_at_side C s) same)
 
@@ -207,7 +207,7 @@ module _ (C : Course) (sound : IsSoundCourse C) where
         up : (a b : ℕ) → a + suc b ≡ suc (a + b)
         up a b = omega arith
 
-    by_between : (o : Option Side) (t i : ℕ) → suc i < length (rows_of C t) → told C o ≡ before (row_of t (suc i)) → st.from ≡ after (row_of t i) → merged_at C (point_of_row C (row_of t i)) ≡ true → Member (numbers_next C o) v
+    by_between : (o : Option PointSide) (t i : ℕ) → suc i < length (rows_of C t) → told C o ≡ before (row_of t (suc i)) → st.from ≡ after (row_of t i) → merged_at C (point_of_row C (row_of t i)) ≡ true → Member (numbers_next C o) v
     by_between None t i less final same e = absurd (before_end (sym final))
     by_between (Some s) t i less final same e = by_side s.is_after s.point t i (nexts_of C (moment_at_side C s)) (omega arith) same e final
 
@@ -215,13 +215,13 @@ module _ (C : Course) (sound : IsSoundCourse C) where
     no_side false r e = before_end e
     no_side true r e = after_end e
 
-    by_end : (o : Option Side) (t i : ℕ) → suc i ≡ length (rows_of C t) → told C o ≡ at_end → st.from ≡ after (row_of t i) → merged_at C (point_of_row C (row_of t i)) ≡ true → Member (numbers_next C o) v
+    by_end : (o : Option PointSide) (t i : ℕ) → suc i ≡ length (rows_of C t) → told C o ≡ at_end → st.from ≡ after (row_of t i) → merged_at C (point_of_row C (row_of t i)) ≡ true → Member (numbers_next C o) v
     by_end None t i all final same e =
         let is : IsRow C (row_of t i) = omega arith in
         ends_in (length C.threads) t v (thread_inside C (row_of t i) is) (subst (λ (k : ℕ). Member (last_nexts C t k) v) all (held_merged (row_of t i) v is e (here (after (row_of t i)) same)))
     by_end (Some s) t i all final same e = absurd (no_side s.is_after (row_on C s.point) final)
 
-    by_pause : (o : Option Side) (w : Moment) (x : Stretch) → told C o ≡ w → (numbers_of C).last n ≡ w → x ≡ stretch st.from w → ArePause C x → Member (numbers_next C o) v
+    by_pause : (o : Option PointSide) (w : Moment) (x : Stretch) → told C o ≡ w → (numbers_of C).last n ≡ w → x ≡ stretch st.from w → ArePause C x → Member (numbers_next C o) v
     by_pause o w x place last_is is (between t i less same) =
         let from : st.from ≡ after (row_of t i) = ap (λ (y : Stretch). y.from) (sym is ∙ same) in
         let to : w ≡ before (row_of t (suc i)) = ap (λ (y : Stretch). y.to) (sym is ∙ same) in
@@ -233,21 +233,21 @@ module _ (C : Course) (sound : IsSoundCourse C) where
         let last_at : (numbers_of C).last ((numbers_of C).name (after (row_of t i))) ≡ w = ap (λ (y : Moment). (numbers_of C).last ((numbers_of C).name y)) (sym from) ∙ ap (numbers_of C).last st.from_name ∙ last_is in
         by_end o t i all (place ∙ to) from (merged_here (row_of t i) w (omega arith) last_at (λ e. after_end (e ∙ to)))
 
-    covered : (o : Option Side) → told C o ≡ (numbers_of C).last n → Member (numbers_next C o) v
+    covered : (o : Option PointSide) → told C o ≡ (numbers_of C).last n → Member (numbers_next C o) v
     covered o place =
         elim (names.own st.from st.from_is) [
           | inl same ↦ by_itself o (same ∙ ap (numbers_of C).last st.from_name ∙ sym place)
           | inr one ↦ by_pause o ((numbers_of C).last n) (stretch st.from ((numbers_of C).last ((numbers_of C).name st.from))) place refl (ap (λ (k : ℕ). stretch st.from ((numbers_of C).last k)) st.from_name) one.pause
         ]
 
-  place_there : (list : List Side) (n : ℕ) → at_place list n ≡ None → length list ≤ n
+  place_there : (list : List PointSide) (n : ℕ) → at_place list n ≡ None → length list ≤ n
   place_there list n e =
       elim (cases_lt n (length list)) [
         | inr past ↦ past
         | inl less ↦ absurd (held list less e)
       ]
     where
-      held : (xs : List Side) → n < length xs → at_place xs n ≡ None → ⊥
+      held : (xs : List PointSide) → n < length xs → at_place xs n ≡ None → ⊥
       held [] less k = omega arith
       held (x ∷ xs) less k =
           elim (cases_eq n (length xs)) [
@@ -259,7 +259,7 @@ module _ (C : Course) (sound : IsSoundCourse C) where
     told_here : told C (at_place num.list n) ≡ (numbers_of C).last n
     told_here = told_is C C num n (at_place num.list n) (told C (at_place num.list n)) refl kept refl refl
 
-    steps_by : (o : Option Side) (v : ℕ) → at_place num.list n ≡ o → Member (numbers_next C o) v → IsStep n v
+    steps_by : (o : Option PointSide) (v : ℕ) → at_place num.list n ≡ o → Member (numbers_next C o) v → IsStep n v
     steps_by None v e h =
         let past = place_there num.list n e in
         let count : length (lasts C (in_order C)) ≡ length num.list = ap (λ (ms : List Moment). length ms) (sym kept) ∙ count_same C num.list in

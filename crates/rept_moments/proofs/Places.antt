@@ -13,8 +13,8 @@ use Rattle.rept_order.proofs.Legs.{point_number, thread_inside, leg_leads}
 use Rattle.rept_course.specs.Numbered.{row_on}
 use Rattle.rept_course.proofs.Naming.{some_is, row_inside, are_legs}
 use Rattle.rept_moments.specs.declared.points.Edges.{Edges}
-use Rattle.rept_moments.specs.declared.side.Place.{Place}
-use Rattle.rept_moments.specs.declared.side.Side.{Side}
+use Rattle.rept_moments.specs.declared.side.PointOfThread.{PointOfThread}
+use Rattle.rept_moments.specs.declared.side.PointSide.{PointSide}
 use Rattle.rept_moments.specs.Points.{points_in, place_on, by_point}
 use Rattle.rept_moments.specs.Edges.{edges_in, edges_at, times_at, ArePoints}
 
@@ -92,22 +92,22 @@ next_thread (thread ∷ threads) zero below = omega arith
 next_thread (thread ∷ threads) (suc t) below = let rest = next_thread threads t (omega arith) in omega arith
 
 -- what the table of points says
-module _ (C : Course) (list : List Place) (firsts : List ℕ) (all : List Edges) (its : ArePoints C list firsts all) where
+module _ (C : Course) (list : List PointOfThread) (firsts : List ℕ) (all : List Edges) (its : ArePoints C list firsts all) where
   pub places_count : length list ≡ points_in C
-  places_count = ap (λ (xs : List Place). length xs) its.places ∙ by_point_length (place_on C) (points_in C)
+  places_count = ap (λ (xs : List PointOfThread). length xs) its.places ∙ by_point_length (place_on C) (points_in C)
 
   pub places_few : length list ≤ 66560
   places_few = let count = places_count in let few = its.few in omega arith
 
   pub place_at : (g : ℕ) → g < length list → slice_get list g ≡ Some (place_on C g)
-  place_at g less = let count = places_count in ap (λ (xs : List Place). slice_get xs g) its.places ∙ by_point_get (place_on C) (points_in C) g (omega arith)
+  place_at g less = let count = places_count in ap (λ (xs : List PointOfThread). slice_get xs g) its.places ∙ by_point_get (place_on C) (points_in C) g (omega arith)
 
-  pub place_is : (g : ℕ) (p : Place) → slice_get list g ≡ Some p → row_of p.thread p.step ≡ row_on C g
+  pub place_is : (g : ℕ) (p : PointOfThread) → slice_get list g ≡ Some p → row_of p.thread p.step ≡ row_on C g
   place_is g p e =
       let less = slice_get_within list g p e in
-      ap (λ (q : Place). row_of q.thread q.step) (some_same (sym e ∙ place_at g less))
+      ap (λ (q : PointOfThread). row_of q.thread q.step) (some_same (sym e ∙ place_at g less))
     where
-      some_same : {x y : Place} → Some x ≡ Some y → x ≡ y
+      some_same : {x y : PointOfThread} → Some x ≡ Some y → x ≡ y
       some_same k = cc
 
   pub no_row_past : (g : ℕ) → length list ≤ g → leg_row C g ≡ None
@@ -120,31 +120,31 @@ module _ (C : Course) (list : List Place) (firsts : List ℕ) (all : List Edges)
       none_by None k = refl
       none_by (Some x) k = absurd (k x refl)
 
-  pub row_some : (V : Course) (g : ℕ) (p : Place) (xs : List Place) (r : Option StepRow) → C ≡ V → xs ≡ list → true ≡ nat_lt g (length xs) → p ≡ get_or xs g p → r ≡ row_at C (row_of p.thread p.step) → r ≡ leg_row V g
+  pub row_some : (V : Course) (g : ℕ) (p : PointOfThread) (xs : List PointOfThread) (r : Option StepRow) → C ≡ V → xs ≡ list → true ≡ nat_lt g (length xs) → p ≡ get_or xs g p → r ≡ row_at C (row_of p.thread p.step) → r ≡ leg_row V g
   row_some V g p xs r view same less read e =
       let there = slice_get_read xs (length xs) g p refl (ltb-true g (length xs) (sym less)) read in
-      e ∙ ap (row_at C) (place_is g p (sym (ap (λ (ys : List Place). slice_get ys g) same) ∙ there)) ∙ ap (λ (D : Course). leg_row D g) view
+      e ∙ ap (row_at C) (place_is g p (sym (ap (λ (ys : List PointOfThread). slice_get ys g) same) ∙ there)) ∙ ap (λ (D : Course). leg_row D g) view
 
-  pub row_none : (V : Course) (g : ℕ) (xs : List Place) → C ≡ V → xs ≡ list → length xs ≤ g → None ≡ leg_row V g
-  row_none V g xs view same past = sym (no_row_past g (subst (λ (ys : List Place). length ys ≤ g) same past)) ∙ ap (λ (D : Course). leg_row D g) view
+  pub row_none : (V : Course) (g : ℕ) (xs : List PointOfThread) → C ≡ V → xs ≡ list → length xs ≤ g → None ≡ leg_row V g
+  row_none V g xs view same past = sym (no_row_past g (subst (λ (ys : List PointOfThread). length ys ≤ g) same past)) ∙ ap (λ (D : Course). leg_row D g) view
 
-  pub place_here : (V : Course) (g : ℕ) (p d : Place) (xs : List Place) → C ≡ V → xs ≡ list → g < points_in V → p ≡ get_or xs g d → row_of p.thread p.step ≡ row_on V g
+  pub place_here : (V : Course) (g : ℕ) (p d : PointOfThread) (xs : List PointOfThread) → C ≡ V → xs ≡ list → g < points_in V → p ≡ get_or xs g d → row_of p.thread p.step ≡ row_on V g
   place_here V g p d xs view same less read =
       let count = places_count in
       let whole : points_in C ≡ points_in V = ap (λ (D : Course). points_in D) view in
-      let long : length xs ≡ length list = ap (λ (ys : List Place). length ys) same in
+      let long : length xs ≡ length list = ap (λ (ys : List PointOfThread). length ys) same in
       let below : g < length list = omega arith in
-      place_is g p (slice_get-get_or list g d below ∙ ap (λ (ys : List Place). Some (get_or ys g d)) (sym same) ∙ ap (λ (q : Place). Some q) (sym read)) ∙ ap (λ (D : Course). row_on D g) view
+      place_is g p (slice_get-get_or list g d below ∙ ap (λ (ys : List PointOfThread). Some (get_or ys g d)) (sym same) ∙ ap (λ (q : PointOfThread). Some q) (sym read)) ∙ ap (λ (D : Course). row_on D g) view
 
-  pub place_value : (V : Course) (g : ℕ) (p d : Place) (xs : List Place) → C ≡ V → xs ≡ list → g < points_in V → p ≡ get_or xs g d → p ≡ place_on V g
+  pub place_value : (V : Course) (g : ℕ) (p d : PointOfThread) (xs : List PointOfThread) → C ≡ V → xs ≡ list → g < points_in V → p ≡ get_or xs g d → p ≡ place_on V g
   place_value V g p d xs view same less read =
       let count = places_count in
       let whole : points_in C ≡ points_in V = ap (λ (D : Course). points_in D) view in
-      let long : length xs ≡ length list = ap (λ (ys : List Place). length ys) same in
+      let long : length xs ≡ length list = ap (λ (ys : List PointOfThread). length ys) same in
       let below : g < length list = omega arith in
-      some_same (ap (λ (q : Place). Some q) read ∙ ap (λ (ys : List Place). Some (get_or ys g d)) same ∙ sym (slice_get-get_or list g d below) ∙ place_at g below) ∙ ap (λ (D : Course). place_on D g) view
+      some_same (ap (λ (q : PointOfThread). Some q) read ∙ ap (λ (ys : List PointOfThread). Some (get_or ys g d)) same ∙ sym (slice_get-get_or list g d below) ∙ place_at g below) ∙ ap (λ (D : Course). place_on D g) view
     where
-      some_same : {x y : Place} → Some x ≡ Some y → x ≡ y
+      some_same : {x y : PointOfThread} → Some x ≡ Some y → x ≡ y
       some_same k = cc
 
   pub edges_count : length all ≡ points_in C
@@ -175,27 +175,27 @@ module _ (C : Course) (list : List Place) (firsts : List ℕ) (all : List Edges)
       let long : length xs ≡ length all = ap (λ (ys : List Edges). length ys) same in
       ap is_writing (sym (no_row_past g (omega arith))) ∙ ap (λ (D : Course). stores D (row_on D g)) view
 
-  pub times_after : (V : Course) (s : Side) (d : Edges) (xs : List Edges) → C ≡ V → xs ≡ all → s.point < points_in V → s.is_after ≡ true → (get_or xs s.point d).after ≡ times_at V s
+  pub times_after : (V : Course) (s : PointSide) (d : Edges) (xs : List Edges) → C ≡ V → xs ≡ all → s.point < points_in V → s.is_after ≡ true → (get_or xs s.point d).after ≡ times_at V s
   times_after V s d xs view same less e = ap (λ (x : Edges). x.after) (edges_here V s.point d xs view same less) ∙ ap (λ (b : Bool). times_at V (record { point = s.point; is_after = b })) (sym e)
 
-  pub times_before : (V : Course) (s : Side) (d : Edges) (xs : List Edges) → C ≡ V → xs ≡ all → s.point < points_in V → s.is_after ≡ false → (get_or xs s.point d).before ≡ times_at V s
+  pub times_before : (V : Course) (s : PointSide) (d : Edges) (xs : List Edges) → C ≡ V → xs ≡ all → s.point < points_in V → s.is_after ≡ false → (get_or xs s.point d).before ≡ times_at V s
   times_before V s d xs view same less e = ap (λ (x : Edges). x.before) (edges_here V s.point d xs view same less) ∙ ap (λ (b : Bool). times_at V (record { point = s.point; is_after = b })) (sym e)
 
 -- one more point of a thread
-pub add_place : (C : Course) (t i : ℕ) (xs ys : List Place) → t < length C.threads → i ≤ length (rows_of C t) → xs ≡ by_point (place_on C) (points_before C.threads t + i) → ys ≡ xs ++ record { thread = t; step = i } ∷ [] → ys ≡ by_point (place_on C) (points_before C.threads t + (i + 1))
+pub add_place : (C : Course) (t i : ℕ) (xs ys : List PointOfThread) → t < length C.threads → i ≤ length (rows_of C t) → xs ≡ by_point (place_on C) (points_before C.threads t + i) → ys ≡ xs ++ record { thread = t; step = i } ∷ [] → ys ≡ by_point (place_on C) (points_before C.threads t + (i + 1))
 add_place C t i xs ys below few before e =
     let next : suc (points_before C.threads t + i) ≡ points_before C.threads t + (i + 1) = omega arith in
     let here : place_on C (points_before C.threads t + i) ≡ record { thread = t; step = i } = ap as_place (point_number C t i below few) in
-    e ∙ ap (λ (zs : List Place). zs ++ record { thread = t; step = i } ∷ []) before ∙ ap (λ (p : Place). by_point (place_on C) (points_before C.threads t + i) ++ p ∷ []) (sym here) ∙ ap (by_point (place_on C)) next
+    e ∙ ap (λ (zs : List PointOfThread). zs ++ record { thread = t; step = i } ∷ []) before ∙ ap (λ (p : PointOfThread). by_point (place_on C) (points_before C.threads t + i) ++ p ∷ []) (sym here) ∙ ap (by_point (place_on C)) next
   where
-    as_place : Point → Place
+    as_place : Point → PointOfThread
     as_place x = record { thread = x.thread; step = x.number }
 
 pub rows_count : (C : Course) (t n : ℕ) (all : List ThreadRows) (d : ThreadRows) → all ≡ C.threads → t < length C.threads → n ≡ length (get_or all t d).steps → n ≡ length (rows_of C t)
 rows_count C t n all d same below e =
     e ∙ ap (λ (ts : List ThreadRows). length (get_or ts t d).steps) same ∙ ap (λ (x : ThreadRows). length x.steps) (get_or_default C.threads t d no_thread below ∙ sym (unwrap_or-slice_get C.threads t no_thread))
 
-pub all_added : (C : Course) (t n i : ℕ) (xs : List Place) → t < length C.threads → n ≡ length (rows_of C t) → i ≡ n + 1 → xs ≡ by_point (place_on C) (points_before C.threads t + i) → xs ≡ by_point (place_on C) (points_before C.threads (t + 1))
+pub all_added : (C : Course) (t n i : ℕ) (xs : List PointOfThread) → t < length C.threads → n ≡ length (rows_of C t) → i ≡ n + 1 → xs ≡ by_point (place_on C) (points_before C.threads t + i) → xs ≡ by_point (place_on C) (points_before C.threads (t + 1))
 all_added C t n i xs below rows end e =
     let next = next_thread C.threads t below in
     let one : t + 1 ≡ suc t = omega arith in
@@ -265,18 +265,18 @@ start_at C V t xs d view are less =
     some_number e = cc
 
 -- one more point's times
-pub edges_more : (C : Course) (places : List Place) (i : ℕ) (d : Place) (xs ys : List Edges) (x : Edges) → places ≡ by_point (place_on C) (points_in C) → i < length places → xs ≡ by_point (edges_at C) i → x ≡ edges_in C (get_or places i d) → ys ≡ xs ++ x ∷ [] → ys ≡ by_point (edges_at C) (i + 1)
+pub edges_more : (C : Course) (places : List PointOfThread) (i : ℕ) (d : PointOfThread) (xs ys : List Edges) (x : Edges) → places ≡ by_point (place_on C) (points_in C) → i < length places → xs ≡ by_point (edges_at C) i → x ≡ edges_in C (get_or places i d) → ys ≡ xs ++ x ∷ [] → ys ≡ by_point (edges_at C) (i + 1)
 edges_more C places i d xs ys x are less before its e =
-    let long : length places ≡ points_in C = ap (λ (ps : List Place). length ps) are ∙ by_point_length (place_on C) (points_in C) in
-    let here : get_or places i d ≡ place_on C i = some_place (sym (slice_get-get_or places i d less) ∙ ap (λ (ps : List Place). slice_get ps i) are ∙ by_point_get (place_on C) (points_in C) i (omega arith)) in
+    let long : length places ≡ points_in C = ap (λ (ps : List PointOfThread). length ps) are ∙ by_point_length (place_on C) (points_in C) in
+    let here : get_or places i d ≡ place_on C i = some_place (sym (slice_get-get_or places i d less) ∙ ap (λ (ps : List PointOfThread). slice_get ps i) are ∙ by_point_get (place_on C) (points_in C) i (omega arith)) in
     let next : suc i ≡ i + 1 = omega arith in
     e ∙ ap (λ (zs : List Edges). zs ++ x ∷ []) before ∙ ap (λ (z : Edges). by_point (edges_at C) i ++ z ∷ []) (its ∙ ap (edges_in C) here) ∙ ap (by_point (edges_at C)) next
   where
-    some_place : {x y : Place} → Some x ≡ Some y → x ≡ y
+    some_place : {x y : PointOfThread} → Some x ≡ Some y → x ≡ y
     some_place k = cc
 
-pub edges_all : (C : Course) (places : List Place) (i : ℕ) (xs : List Edges) → places ≡ by_point (place_on C) (points_in C) → length places ≤ i → i ≤ length places → xs ≡ by_point (edges_at C) i → xs ≡ by_point (edges_at C) (points_in C)
+pub edges_all : (C : Course) (places : List PointOfThread) (i : ℕ) (xs : List Edges) → places ≡ by_point (place_on C) (points_in C) → length places ≤ i → i ≤ length places → xs ≡ by_point (edges_at C) i → xs ≡ by_point (edges_at C) (points_in C)
 edges_all C places i xs are past within e =
-    let long : length places ≡ points_in C = ap (λ (ps : List Place). length ps) are ∙ by_point_length (place_on C) (points_in C) in
+    let long : length places ≡ points_in C = ap (λ (ps : List PointOfThread). length ps) are ∙ by_point_length (place_on C) (points_in C) in
     let same : i ≡ points_in C = omega arith in
     e ∙ ap (by_point (edges_at C)) same

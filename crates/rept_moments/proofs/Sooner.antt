@@ -12,7 +12,7 @@ use Rattle.rept_order.specs.Times.{begin_of, ends_by, own_before, sooner, same_p
 use Rattle.rept_order.proofs.Sequence.{first_is_event, last_is_event, directly}
 use Rattle.rept_order.proofs.Between.{row_forward}
 use Rattle.rept_course.specs.Numbered.{row_on}
-use Rattle.rept_moments.specs.declared.side.Side.{Side}
+use Rattle.rept_moments.specs.declared.side.PointSide.{PointSide}
 use Rattle.rept_moments.specs.Ordering.{moment_at_side, event_at}
 use Rattle.rept_moments.specs.Writers.{end_of}
 
@@ -42,7 +42,7 @@ module _ (C : Course) where
   apart_by q r true true other = rw (ne_eqb q.thread r.thread other) refl
 
   -- of two threads
-  pub sides_apart : (a b : Side) → (row_on C a.point).thread ≢ (row_on C b.point).thread → not_later C (moment_at_side C a) (moment_at_side C b) ≡ ends_by (event_slice C (event_at C a)) (begin_of C (event_at C b))
+  pub sides_apart : (a b : PointSide) → (row_on C a.point).thread ≢ (row_on C b.point).thread → not_later C (moment_at_side C a) (moment_at_side C b) ≡ ends_by (event_slice C (event_at C a)) (begin_of C (event_at C b))
   sides_apart a b other = apart_by (row_on C a.point) (row_on C b.point) a.is_after b.is_after other
 
   ends_by_times : (q r : Row) (x y : Bool) → ends_by (event_slice C (event_of q x)) (begin_of C (event_of r y)) ≡ true → not_later C (beside_by q x) (beside_by r y) ≡ true
@@ -52,7 +52,7 @@ module _ (C : Course) where
   ends_by_times q r true true e = or_right (same_row q r && same_part (edge_part true (calls C q)) (edge_part true (calls C r))) (sooner C (event_of q true) (event_of r true)) (or_right (own_before (event_of q true) (event_of r true)) (ends_by (event_slice C (event_of q true)) (begin_of C (event_of r true))) e)
 
   -- of one thread or two
-  pub sides_ended : (a b : Side) → ends_by (event_slice C (event_at C a)) (begin_of C (event_at C b)) ≡ true → not_later C (moment_at_side C a) (moment_at_side C b) ≡ true
+  pub sides_ended : (a b : PointSide) → ends_by (event_slice C (event_at C a)) (begin_of C (event_at C b)) ≡ true → not_later C (moment_at_side C a) (moment_at_side C b) ≡ true
   sides_ended a b e = ends_by_times (row_on C a.point) (row_on C b.point) a.is_after b.is_after e
 
   before_row : {q r : Row} → before q ≡ before r → q ≡ r

@@ -14,18 +14,18 @@ use Rattle.rept_order.specs.Events.Part.{whole, entry, return}
 use Rattle.rept_order.specs.Moments.{Moment, IsMoment, Stretch, stretch, stores}
 use Rattle.rept_order.specs.Moments.Moment.{before, after, at_end}
 use Rattle.rept_order.specs.Moments.Act.{row}
-use Rattle.rept_order.specs.Times.{begin_of, own_before, ends_by, sooner, same_part, same_row, late_by, wholly_before, wholly_after, falls_between}
+use Rattle.rept_order.specs.Times.{begin_of, own_before, ends_by, sooner, same_part, same_row, late_by, wholly_before, wholly_after, may_act_between}
 use Rattle.rept_order.proofs.Decide.{row_self}
 use Rattle.rept_order.proofs.Nexts.{In, every, listed}
 use Rattle.rept_course.specs.Making.{moments_in, still_by, rows_still, is_still, next_point}
 use Rattle.rept_course.specs.Numbered.{row_on}
 use Rattle.rept_course.proofs.Naming.{stores_inside}
-use Rattle.rept_crossing.specs.declared.writer.Writer.{Writer}
+use Rattle.rept_crossing.specs.declared.writer.TimedWriter.{TimedWriter}
 use Rattle.rept_crossing.specs.declared.writer.Rest.{Rest}
 use Rattle.rept_moments.specs.Points.{points_in}
 use Rattle.rept_moments.specs.Writers.{end_of, end_in, writer_of, writers_at, writers_to}
 use Rattle.rept_crossing.specs.Writers.{lasts_to, not_past, crosses}
-use Rattle.rept_moments.specs.Merging.{until, dark_from, rest_from, rest_end}
+use Rattle.rept_moments.specs.Merging.{until, untraced_from, rest_from, rest_end}
 use Rattle.rept_moments.proofs.Places.{row_there, point_of_row, row_point, row_before, next_row}
 
 not_so : (b : Bool) → (b ≡ true → ⊥) → b ≡ false
@@ -61,7 +61,7 @@ abbrev pub rest_of : Course → Row → Rest
 rest_of C r = record { thread = r.thread; from = begin_of C (last_event C r); to = rest_end C r }
 
 module _ (C : Course) (q r : Row) (is : IsRow C q) where
-  -- of one thread nothing falls
+  -- of one thread nothing may act
   earlier_row : q.thread ≡ r.thread → q.step ≤ r.step → wholly_before C (row q) (after r) ≡ true
   earlier_row its order =
       elim (cases_eq q.step r.step) [
@@ -87,7 +87,7 @@ module _ (C : Course) (q r : Row) (is : IsRow C q) where
   not_late true c d e = refl
   not_late false c d e = ap (λ (x : Bool). not x && d) e
 
-  own_out : q.thread ≡ r.thread → falls_between C (row q) (after r) (next_point C r) ≡ false
+  own_out : q.thread ≡ r.thread → may_act_between C (row q) (after r) (next_point C r) ≡ false
   own_out its =
       elim (cases_lt r.step q.step) [
         | inr early ↦ not_early (wholly_before C (row q) (after r)) _ (earlier_row its early)
@@ -96,7 +96,7 @@ module _ (C : Course) (q r : Row) (is : IsRow C q) where
             rw (lt-ltb (suc r.step) (length (rows_of C r.thread)) inside) (not_late (wholly_before C (row q) (after r)) (wholly_after C (row q) (before (row_of r.thread (suc r.step)))) true (later_from (row_of r.thread (suc r.step)) (sym its) (omega arith)))
       ]
 
-  -- rows of other threads fall where they cross
+  -- rows of other threads may act where they cross
   module _ (other : q.thread ≢ r.thread) (small : begin_of C (last_event C r) < 2 ^ 64) where
     before_is : wholly_before C (row q) (after r) ≡ ends_by (event_slice C (last_event C q)) (begin_of C (last_event C r))
     before_is = rw (ne_eqb q.thread r.thread other) refl
@@ -107,7 +107,7 @@ module _ (C : Course) (q r : Row) (is : IsRow C q) where
     late_is : (not (wholly_before C (row q) (after r))) ≡ lasts_to r.thread (begin_of C (last_event C r)) (writer_of C q)
     late_is = ap not before_is ∙ ends_late (event_slice C (last_event C q)) (begin_of C (last_event C r)) small ∙ sym (ap (λ (b : Bool). not b && nat_le (begin_of C (last_event C r)) (end_in (event_slice C (last_event C q)))) (ne_eqb q.thread r.thread other))
 
-    room : (w : Moment) → falls_between C (row q) (after r) w ≡ (not (wholly_before C (row q) (after r)) && not (wholly_after C (row q) w))
+    room : (w : Moment) → may_act_between C (row q) (after r) w ≡ (not (wholly_before C (row q) (after r)) && not (wholly_after C (row q) w))
     room (before s) = ap (λ (b : Bool). not (wholly_before C (row q) (after r)) && b) (and_true (not (wholly_after C (row q) (before s))))
     room (after s) = ap (λ (b : Bool). not (wholly_before C (row q) (after r)) && b) (and_true (not (wholly_after C (row q) (after s))))
     room at_end = refl
@@ -123,9 +123,9 @@ module _ (C : Course) (q r : Row) (is : IsRow C q) where
           | inr past ↦ le-ltb (suc r.step) (length (rows_of C r.thread)) past ∙ sym (ap is_some (slice_get_past (rows_of C r.thread) (suc r.step) past))
         ]
 
-    other_falls : falls_between C (row q) (after r) (next_point C r) ≡ crosses (rest_of C r) (writer_of C q)
-    other_falls =
-        ap (λ (b : Bool). falls_between C (row q) (after r) (cond b (before (row_of r.thread (suc r.step))) at_end)) next_is
+    other_may_act : may_act_between C (row q) (after r) (next_point C r) ≡ crosses (rest_of C r) (writer_of C q)
+    other_may_act =
+        ap (λ (b : Bool). may_act_between C (row q) (after r) (cond b (before (row_of r.thread (suc r.step))) at_end)) next_is
         ∙ room (cond (is_some (row_at C (row_of r.thread (suc r.step)))) (before (row_of r.thread (suc r.step))) at_end)
         ∙ ap (λ (b : Bool). b && not (wholly_after C (row q) (cond (is_some (row_at C (row_of r.thread (suc r.step)))) (before (row_of r.thread (suc r.step))) at_end))) late_is
         ∙ ap (λ (b : Bool). lasts_to r.thread (begin_of C (last_event C r)) (writer_of C q) && b) (early_is (is_some (row_at C (row_of r.thread (suc r.step)))) refl)
@@ -133,16 +133,16 @@ module _ (C : Course) (q r : Row) (is : IsRow C q) where
   own_cross : q.thread ≡ r.thread → crosses (rest_of C r) (writer_of C q) ≡ false
   own_cross its = ap (λ (b : Bool). (not b && nat_le (begin_of C (last_event C r)) (end_in (event_slice C (last_event C q)))) && not_past (rest_end C r) (begin_of C (first_event C q))) (eq-eqb q.thread r.thread its)
 
-  pub falls_is : begin_of C (last_event C r) < 2 ^ 64 → falls_between C (row q) (after r) (next_point C r) ≡ crosses (rest_of C r) (writer_of C q)
-  falls_is small =
+  pub may_act_is : begin_of C (last_event C r) < 2 ^ 64 → may_act_between C (row q) (after r) (next_point C r) ≡ crosses (rest_of C r) (writer_of C q)
+  may_act_is small =
       elim (cases_eq q.thread r.thread) [
         | inl same ↦ own_out same ∙ sym (own_cross same)
-        | inr other ↦ other_falls other small
+        | inr other ↦ other_may_act other small
       ]
 
 module _ (C : Course) where
   -- a row that may write is among the writers
-  any_by : (b : Bool) (p : Writer → Bool) (w : Writer) → b ≡ true → list_any p (cond b (w ∷ []) []) ≡ false → p w ≡ false
+  any_by : (b : Bool) (p : TimedWriter → Bool) (w : TimedWriter) → b ≡ true → list_any p (cond b (w ∷ []) []) ≡ false → p w ≡ false
   any_by true p w e k = or_parts (p w) k
     where
       or_parts : (a : Bool) → (a || false) ≡ false → a ≡ false
@@ -154,7 +154,7 @@ module _ (C : Course) where
   or_both true b e = absurd (false≢true (sym e))
   or_both false b e = (refl, e)
 
-  among : (p : Writer → Bool) (n g : ℕ) → g < n → stores C (row_on C g) ≡ true → list_any p (writers_to C n) ≡ false → p (writer_of C (row_on C g)) ≡ false
+  among : (p : TimedWriter → Bool) (n g : ℕ) → g < n → stores C (row_on C g) ≡ true → list_any p (writers_to C n) ≡ false → p (writer_of C (row_on C g)) ≡ false
   among p zero g less writes none = absurd (omega arith)
   among p (suc n) g less writes none =
       let parts = or_both (list_any p (writers_to C n)) (list_any p (writers_at C n)) (sym (list_any-append p (writers_to C n) (writers_at C n)) ∙ none) in
@@ -164,11 +164,11 @@ module _ (C : Course) where
         | inr (inr over) ↦ absurd (omega arith)
       ]
 
-  none_by : (b : Bool) (p : Writer → Bool) (w : Writer) → (b ≡ true → p w ≡ false) → list_any p (cond b (w ∷ []) []) ≡ false
+  none_by : (b : Bool) (p : TimedWriter → Bool) (w : TimedWriter) → (b ≡ true → p w ≡ false) → list_any p (cond b (w ∷ []) []) ≡ false
   none_by true p w k = ap (λ (a : Bool). a || false) (k refl)
   none_by false p w k = refl
 
-  none_to : (p : Writer → Bool) (n : ℕ) → ((g : ℕ) → stores C (row_on C g) ≡ true → p (writer_of C (row_on C g)) ≡ false) → list_any p (writers_to C n) ≡ false
+  none_to : (p : TimedWriter → Bool) (n : ℕ) → ((g : ℕ) → stores C (row_on C g) ≡ true → p (writer_of C (row_on C g)) ≡ false) → list_any p (writers_to C n) ≡ false
   none_to p zero k = refl
   none_to p (suc g) k = list_any-append p (writers_to C g) (writers_at C g) ∙ ap (λ (b : Bool). b || list_any p (writers_at C g)) (none_to p g k) ∙ none_by (stores C (row_on C g)) p (writer_of C (row_on C g)) (k g)
 
@@ -197,11 +197,11 @@ module _ (C : Course) where
     one_still : list_any (crosses (rest_of C r)) (writers_to C (points_in C)) ≡ false → (m : Moment) → IsMoment C m → still_by C gap m ≡ true
     one_still none (after q) its = refl
     one_still none at_end its = refl
-    one_still none (before q) its = still_row (stores C q) (falls_between C (row q) (after r) (next_point C r)) (λ writes.
+    one_still none (before q) its = still_row (stores C q) (may_act_between C (row q) (after r) (next_point C r)) (λ writes.
         let e = row_point C q its in
         let there : IsRow C (row_on C (point_of_row C q)) = subst (λ (x : Row). IsRow C x) (sym e) its in
         let less = row_before C (point_of_row C q) there in
-        falls_is C q r its small ∙ subst (λ (x : Row). crosses (rest_of C r) (writer_of C x) ≡ false) e (among (crosses (rest_of C r)) (points_in C) (point_of_row C q) (omega arith) (subst (λ (x : Row). stores C x ≡ true) (sym e) writes) none))
+        may_act_is C q r its small ∙ subst (λ (x : Row). crosses (rest_of C r) (writer_of C x) ≡ false) e (among (crosses (rest_of C r)) (points_in C) (point_of_row C q) (omega arith) (subst (λ (x : Row). stores C x ≡ true) (sym e) writes) none))
 
     rows_from : list_any (crosses (rest_of C r)) (writers_to C (points_in C)) ≡ false → rows_still C gap (moments_in C) ≡ true
     rows_from none = all_by gap (moments_in C) (λ m h. one_still none m (listed C (length C.threads) m h))
@@ -209,7 +209,7 @@ module _ (C : Course) where
     none_from : rows_still C gap (moments_in C) ≡ true → list_any (crosses (rest_of C r)) (writers_to C (points_in C)) ≡ false
     none_from still = none_to (crosses (rest_of C r)) (points_in C) (λ g writes.
         let its = stores_inside C (row_on C g) writes in
-        sym (falls_is C (row_on C g) r its small) ∙ row_out (stores C (row_on C g)) (falls_between C (row (row_on C g)) (after r) (next_point C r)) writes (rows_at gap (moments_in C) (before (row_on C g)) still (every C (before (row_on C g)) its)))
+        sym (may_act_is C (row_on C g) r its small) ∙ row_out (stores C (row_on C g)) (may_act_between C (row (row_on C g)) (after r) (next_point C r)) writes (rows_at gap (moments_in C) (before (row_on C g)) still (every C (before (row_on C g)) its)))
 
     same_by : (a b : Bool) → (b ≡ false → a ≡ true) → (a ≡ true → b ≡ false) → a ≡ not b
     same_by true b to from = ap not (sym (from refl))
@@ -219,22 +219,22 @@ module _ (C : Course) where
     pub rows_is : rows_still C gap (moments_in C) ≡ not (list_any (crosses (rest_of C r)) (writers_to C (points_in C)))
     rows_is = same_by (rows_still C gap (moments_in C)) (list_any (crosses (rest_of C r)) (writers_to C (points_in C))) rows_from none_from
 
-    dark_by : (o : Option ℕ) (time : ℕ) → not (is_some o && (not (late_by o time) && true)) ≡ not (until o time)
-    dark_by None time = refl
-    dark_by (Some d) time = ap not (and_true (not (nat_lt d time)) ∙ not_lt d time)
+    untraced_by : (o : Option ℕ) (time : ℕ) → not (is_some o && (not (late_by o time) && true)) ≡ not (until o time)
+    untraced_by None time = refl
+    untraced_by (Some d) time = ap not (and_true (not (nat_lt d time)) ∙ not_lt d time)
 
-    pub still_is : (ws : List Writer) → IsPermutation (writers_to C (points_in C)) ws → is_still C gap ≡ (not (dark_from C (begin_of C (last_event C r))) && not (list_any (crosses (rest_of C r)) ws))
+    pub still_is : (ws : List TimedWriter) → IsPermutation (writers_to C (points_in C)) ws → is_still C gap ≡ (not (untraced_from C (begin_of C (last_event C r))) && not (list_any (crosses (rest_of C r)) ws))
     still_is ws same =
-        ap (λ (b : Bool). b && rows_still C gap (moments_in C)) (dark_by C.dark (begin_of C (last_event C r)))
-        ∙ ap (λ (b : Bool). not (dark_from C (begin_of C (last_event C r))) && b) (rows_is ∙ ap not (list_any-IsPermutation (crosses (rest_of C r)) (writers_to C (points_in C)) ws same))
+        ap (λ (b : Bool). b && rows_still C gap (moments_in C)) (untraced_by C.untraced (begin_of C (last_event C r)))
+        ∙ ap (λ (b : Bool). not (untraced_from C (begin_of C (last_event C r))) && b) (rows_is ∙ ap not (list_any-IsPermutation (crosses (rest_of C r)) (writers_to C (points_in C)) ws same))
 
-pub merged_is : (C : Course) (g : ℕ) (ws : List Writer) (rest : Rest) (d x r : Bool) → IsRow C (row_on C g) → IsPermutation (writers_to C (points_in C)) ws → rest.thread ≡ (row_on C g).thread → rest.from ≡ begin_of C (last_event C (row_on C g)) → rest.from < 2 ^ 64 → rest.to ≡ rest_from C (row_on C (g + 1)) → d ≡ dark_from C rest.from → x ≡ list_any (crosses rest) ws → r ≡ (not d && not x) → r ≡ is_still C (stretch (after (row_on C g)) (next_point C (row_on C g)))
+pub merged_is : (C : Course) (g : ℕ) (ws : List TimedWriter) (rest : Rest) (d x r : Bool) → IsRow C (row_on C g) → IsPermutation (writers_to C (points_in C)) ws → rest.thread ≡ (row_on C g).thread → rest.from ≡ begin_of C (last_event C (row_on C g)) → rest.from < 2 ^ 64 → rest.to ≡ rest_from C (row_on C (g + 1)) → d ≡ untraced_from C rest.from → x ≡ list_any (crosses rest) ws → r ≡ (not d && not x) → r ≡ is_still C (stretch (after (row_on C g)) (next_point C (row_on C g)))
 merged_is C g ws rest d x r is same t from small to told crossed e =
     let one : g + 1 ≡ suc g = omega arith in
     let next : rest_from C (row_on C (g + 1)) ≡ rest_end C (row_on C g) = ap (λ (k : ℕ). rest_from C (row_on C k)) one ∙ ap (rest_from C) (next_row C g is) in
     let whole : rest ≡ rest_of C (row_on C g) = ap (λ (k : ℕ). rest_by k rest.from rest.to) t ∙ ap (λ (k : ℕ). rest_by (row_on C g).thread k rest.to) from ∙ ap (λ (o : Option ℕ). rest_by (row_on C g).thread (begin_of C (last_event C (row_on C g))) o) (to ∙ next) in
     let begin_small : begin_of C (last_event C (row_on C g)) < 2 ^ 64 = subst (λ (k : ℕ). k < 2 ^ 64) from small in
-    e ∙ ap (λ (b : Bool). not b && not x) (told ∙ ap (dark_from C) from) ∙ ap (λ (b : Bool). not (dark_from C (begin_of C (last_event C (row_on C g)))) && not b) (crossed ∙ ap (λ (y : Rest). list_any (crosses y) ws) whole) ∙ sym (still_is C (row_on C g) is begin_small ws same)
+    e ∙ ap (λ (b : Bool). not b && not x) (told ∙ ap (untraced_from C) from) ∙ ap (λ (b : Bool). not (untraced_from C (begin_of C (last_event C (row_on C g)))) && not b) (crossed ∙ ap (λ (y : Rest). list_any (crosses y) ws) whole) ∙ sym (still_is C (row_on C g) is begin_small ws same)
   where
     rest_by : ℕ → ℕ → Option ℕ → Rest
     rest_by a b o = record { thread = a; from = b; to = o }

@@ -7,12 +7,12 @@ use Rattle.rept_isa.specs.declared.row.StepRow.{StepRow}
 use Rattle.rept_steps.specs.Course.{Course, Row, row_of, rows_of, IsRow, row_at}
 use Rattle.rept_order.specs.Moments.{Moment, stretch, stores}
 use Rattle.rept_order.specs.Moments.Moment.{before, after, at_end}
-use Rattle.rept_order.specs.Times.{dark_before, not_later}
+use Rattle.rept_order.specs.Times.{untraced_before, not_later}
 use Rattle.rept_order.specs.Legs.{leg_row}
 use Rattle.rept_course.specs.Making.{is_still, next_point, lasts, rank, ranked}
 use Rattle.rept_course.specs.Numbered.{row_on}
 use Rattle.rept_course.proofs.Naming.{some_is}
-use Rattle.rept_moments.specs.declared.side.Side.{Side}
+use Rattle.rept_moments.specs.declared.side.PointSide.{PointSide}
 use Rattle.rept_moments.specs.Points.{points_in, by_point}
 use Rattle.rept_moments.specs.Ordering.{moment_at_side, in_order}
 use Rattle.rept_moments.specs.Numbers.{numbers_of, numbered}
@@ -24,16 +24,16 @@ use Rattle.rept_moments.specs.Tables.{moments_at}
 use Rattle.rept_moments.proofs.Places.{row_there, there_row, next_row, by_point_length, by_point_get}
 use Rattle.rept_moments.proofs.Numbering.{count_same, rank_is, told, last_is}
 
-pub number_is : (C V : Course) (n : Numbered) (s : Side) (o : Option ℕ) → C ≡ V → moments_at C n.list ≡ lasts C (in_order C) → o ≡ find n.list s → unwrap_or o 0 ≡ rank (lasts V (in_order V)) (moment_at_side V s)
+pub number_is : (C V : Course) (n : Numbered) (s : PointSide) (o : Option ℕ) → C ≡ V → moments_at C n.list ≡ lasts C (in_order C) → o ≡ find n.list s → unwrap_or o 0 ≡ rank (lasts V (in_order V)) (moment_at_side V s)
 number_is C V n s o view kept e = ap (λ (x : Option ℕ). unwrap_or x 0) e ∙ sym (rank_is C n.list s) ∙ ap (λ (ms : List Moment). rank ms (moment_at_side C s)) kept ∙ ap (λ (D : Course). rank (lasts D (in_order D)) (moment_at_side D s)) view
 
 pub end_is : (C V : Course) (n : Numbered) (k : ℕ) → C ≡ V → moments_at C n.list ≡ lasts C (in_order C) → k ≡ length n.list → k ≡ length (lasts V (in_order V))
 end_is C V n k view kept e = e ∙ sym (count_same C n.list) ∙ ap (λ (ms : List Moment). length ms) kept ∙ ap (λ (D : Course). length (lasts D (in_order D))) view
 
-pub told_is : (C V : Course) (n : Numbered) (k : ℕ) (o : Option Side) (m : Moment) → C ≡ V → moments_at C n.list ≡ lasts C (in_order C) → o ≡ at_place n.list k → m ≡ told C o → m ≡ (numbers_of V).last k
+pub told_is : (C V : Course) (n : Numbered) (k : ℕ) (o : Option PointSide) (m : Moment) → C ≡ V → moments_at C n.list ≡ lasts C (in_order C) → o ≡ at_place n.list k → m ≡ told C o → m ≡ (numbers_of V).last k
 told_is C V n k o m view kept e its = its ∙ ap (told C) e ∙ sym (last_is C n.list k) ∙ ap (λ (ms : List Moment). ranked (at_end ∷ ms) k) kept ∙ ap (λ (D : Course). (numbers_of D).last k) view
 
-pub past_told : (C V : Course) (n : Numbered) (k i : ℕ) (o : Option Side) (b r : Bool) → C ≡ V → moments_at C n.list ≡ lasts C (in_order C) → o ≡ at_place n.list k → b ≡ stores C (row_on C i) → b ≡ true → r ≡ not_later C (after (row_on C i)) (told C o) → r ≡ (numbered V).past i k
+pub past_told : (C V : Course) (n : Numbered) (k i : ℕ) (o : Option PointSide) (b r : Bool) → C ≡ V → moments_at C n.list ≡ lasts C (in_order C) → o ≡ at_place n.list k → b ≡ stores C (row_on C i) → b ≡ true → r ≡ not_later C (after (row_on C i)) (told C o) → r ≡ (numbered V).past i k
 past_told C V n k i o b r view kept place writes holds e =
     let last = told_is C C n k o (told C o) refl kept place refl in
     e
@@ -41,18 +41,18 @@ past_told C V n k i o b r view kept place writes holds e =
     ∙ sym (ap (λ (c : Bool). not c || not_later C (after (row_on C i)) ((numbers_of C).last k)) (sym writes ∙ holds))
     ∙ ap (λ (D : Course). (numbered D).past i k) view
 
-pub ahead_told : (C V : Course) (n : Numbered) (k i : ℕ) (o : Option Side) (r : Bool) → C ≡ V → moments_at C n.list ≡ lasts C (in_order C) → o ≡ at_place n.list k → r ≡ not_later C (told C o) (before (row_on C i)) → r ≡ (numbered V).ahead i k
+pub ahead_told : (C V : Course) (n : Numbered) (k i : ℕ) (o : Option PointSide) (r : Bool) → C ≡ V → moments_at C n.list ≡ lasts C (in_order C) → o ≡ at_place n.list k → r ≡ not_later C (told C o) (before (row_on C i)) → r ≡ (numbered V).ahead i k
 ahead_told C V n k i o r view kept place e =
     let last = told_is C C n k o (told C o) refl kept place refl in
     e ∙ ap (λ (m : Moment). not_later C m (before (row_on C i))) last ∙ ap (λ (D : Course). (numbered D).ahead i k) view
 
-pub dark_told : (C V : Course) (n : Numbered) (k : ℕ) (o : Option Side) (r : Bool) → C ≡ V → moments_at C n.list ≡ lasts C (in_order C) → o ≡ at_place n.list k → r ≡ (not (is_some C.dark) || dark_before C (told C o)) → r ≡ (numbered V).dark_past k
-dark_told C V n k o r view kept place e =
+pub untraced_told : (C V : Course) (n : Numbered) (k : ℕ) (o : Option PointSide) (r : Bool) → C ≡ V → moments_at C n.list ≡ lasts C (in_order C) → o ≡ at_place n.list k → r ≡ (not (is_some C.untraced) || untraced_before C (told C o)) → r ≡ (numbered V).untraced_past k
+untraced_told C V n k o r view kept place e =
     let last = told_is C C n k o (told C o) refl kept place refl in
-    e ∙ ap (λ (m : Moment). not (is_some C.dark) || dark_before C m) last ∙ ap (λ (D : Course). (numbered D).dark_past k) view
+    e ∙ ap (λ (m : Moment). not (is_some C.untraced) || untraced_before C m) last ∙ ap (λ (D : Course). (numbered D).untraced_past k) view
 
-pub dark_told_end : (C V : Course) (n : Numbered) (k : ℕ) → C ≡ V → moments_at C n.list ≡ lasts C (in_order C) → None ≡ at_place n.list k → true ≡ (numbered V).dark_past k
-dark_told_end C V n k view kept place = dark_told C V n k None true view kept place (sym (or_right (not (is_some C.dark)) true refl))
+pub untraced_told_end : (C V : Course) (n : Numbered) (k : ℕ) → C ≡ V → moments_at C n.list ≡ lasts C (in_order C) → None ≡ at_place n.list k → true ≡ (numbered V).untraced_past k
+untraced_told_end C V n k view kept place = untraced_told C V n k None true view kept place (sym (or_right (not (is_some C.untraced)) true refl))
 
 pub merged_here : (C V : Course) (merged xs : List Bool) (g : ℕ) (b d : Bool) → C ≡ V → merged ≡ by_point (merged_at C) (points_in C) → xs ≡ merged → g < points_in V → b ≡ get_or xs g d → b ≡ merged_at V g
 merged_here C V merged xs g b d view are same less read =

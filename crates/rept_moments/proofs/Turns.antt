@@ -1,4 +1,5 @@
--- The moments of one thread come one after the other; of two threads the one is later whose slice begins after that of the other ends.
+-- The moments of one thread come one after the other; of two threads the one is later whose slice
+-- begins after that of the other ends.
 use Rattle.std.proofs.Common.{◌≡◌, ◌≢◌, ℕ, zero, suc, ◌+◌, ◌-◌, ◌*◌, ◌<◌, ◌≤◌, ◌||◌, not, eqb, nat_lt, nat_le, cond, Bool, true, false, length, Option, Some, None, inl, inr, refl, sym, ap, ◌∙◌, subst, arith}
 use Rattle.std.specs.Option.{is_some}
 use Rattle.std.proofs.lemmas.Bool.{false≢true, cases_lt, cases_eq, cases_order, eq-eqb, ne_eqb, lt-ltb, le-ltb, leb-true, le-leb}
@@ -14,7 +15,7 @@ use Rattle.rept_order.proofs.Decide.{not_later_true, not_later_from}
 use Rattle.rept_order.proofs.Legs.{number_point}
 use Rattle.rept_order.proofs.Nexts.{earlier_trans}
 use Rattle.rept_course.specs.Numbered.{row_on}
-use Rattle.rept_moments.specs.declared.side.Side.{Side}
+use Rattle.rept_moments.specs.declared.side.PointSide.{PointSide}
 use Rattle.rept_moments.specs.Ordering.{side, moment_at_side, event_at}
 use Rattle.rept_moments.specs.Edges.{begin_at, end_at}
 use Rattle.rept_moments.specs.Begins.{stands_by, former_at, following_at}
@@ -40,7 +41,7 @@ abbrev pub turn_by : ℕ → Bool → ℕ
 turn_by g false = 2 * g
 turn_by g true = 2 * g + 1
 
-abbrev pub turn : Side → ℕ
+abbrev pub turn : PointSide → ℕ
 turn s = turn_by s.point s.is_after
 
 same_by : (g h : ℕ) (x y : Bool) → turn_by g x ≡ turn_by h y → side g x ≡ side h y
@@ -49,7 +50,7 @@ same_by g h true true e = let same : g ≡ h = omega arith in ap (λ (k : ℕ). 
 same_by g h false true e = absurd (omega arith)
 same_by g h true false e = absurd (omega arith)
 
-pub turn_same : (a b : Side) → turn a ≡ turn b → a ≡ b
+pub turn_same : (a b : PointSide) → turn a ≡ turn b → a ≡ b
 turn_same a b e = same_by a.point b.point a.is_after b.is_after e
 
 -- whether the one stands by the other is told by these numbers
@@ -120,7 +121,7 @@ thread_by r false = refl
 thread_by r true = refl
 
 module _ (C : Course) (sound : IsSoundCourse C) where
-  pub is_moment : (s : Side) → IsRow C (row_on C s.point) → IsMoment C (moment_at_side C s)
+  pub is_moment : (s : PointSide) → IsRow C (row_on C s.point) → IsMoment C (moment_at_side C s)
   is_moment s is = row_at_side C s.is_after (row_on C s.point) is
 
   -- of two points of a thread
@@ -145,13 +146,13 @@ module _ (C : Course) (sound : IsSoundCourse C) where
       ]
 
   -- the moments of a thread are in the order of these numbers
-  pub in_turn : (a b : Side) → IsRow C (row_on C a.point) → IsRow C (row_on C b.point) → (row_on C a.point).thread ≡ (row_on C b.point).thread → turn a < turn b → Earlier C (moment_at_side C a) (moment_at_side C b)
+  pub in_turn : (a b : PointSide) → IsRow C (row_on C a.point) → IsRow C (row_on C b.point) → (row_on C a.point).thread ≡ (row_on C b.point).thread → turn a < turn b → Earlier C (moment_at_side C a) (moment_at_side C b)
   in_turn a b is its same less = in_turn_by a.point b.point a.is_after b.is_after is its same less
 
   pub never : (m w : Moment) → Earlier C m w → Earlier C w m → ⊥
   never m w one other = (earlier_trans C sound m w m one other).1 refl
 
-  pub turn_order : (a b : Side) → IsRow C (row_on C a.point) → IsRow C (row_on C b.point) → (row_on C a.point).thread ≡ (row_on C b.point).thread → Earlier C (moment_at_side C a) (moment_at_side C b) → turn a < turn b
+  pub turn_order : (a b : PointSide) → IsRow C (row_on C a.point) → IsRow C (row_on C b.point) → (row_on C a.point).thread ≡ (row_on C b.point).thread → Earlier C (moment_at_side C a) (moment_at_side C b) → turn a < turn b
   turn_order a b is its same e =
       elim (cases_order (turn a) (turn b)) [
         | inl one ↦ absurd (e.1 (ap (moment_at_side C) (turn_same a b one)))
@@ -165,10 +166,10 @@ module _ (C : Course) (sound : IsSoundCourse C) where
   not_later_self at_end = tt
 
   -- of one thread it is decided by places
-  pub own_decided : (a b : Side) → IsRow C (row_on C a.point) → IsRow C (row_on C b.point) → (row_on C a.point).thread ≡ (row_on C b.point).thread → stands_by a b ≡ not_later C (moment_at_side C a) (moment_at_side C b)
+  pub own_decided : (a b : PointSide) → IsRow C (row_on C a.point) → IsRow C (row_on C b.point) → (row_on C a.point).thread ≡ (row_on C b.point).thread → stands_by a b ≡ not_later C (moment_at_side C a) (moment_at_side C b)
   own_decided a b is its same =
       elim (cases_order (turn a) (turn b)) [
-        | inl one ↦ yes_by a.point b.point a.is_after b.is_after (omega arith) ∙ sym (subst (λ (s : Side). not_later C (moment_at_side C a) (moment_at_side C s) ≡ true) (turn_same a b one) (not_later_from C sound (moment_at_side C a) (moment_at_side C a) (not_later_self (moment_at_side C a))))
+        | inl one ↦ yes_by a.point b.point a.is_after b.is_after (omega arith) ∙ sym (subst (λ (s : PointSide). not_later C (moment_at_side C a) (moment_at_side C s) ≡ true) (turn_same a b one) (not_later_from C sound (moment_at_side C a) (moment_at_side C a) (not_later_self (moment_at_side C a))))
         | inr (inl less) ↦ yes_by a.point b.point a.is_after b.is_after (omega arith) ∙ sym (not_later_from C sound (moment_at_side C a) (moment_at_side C b) (in_turn a b is its same less).0)
         | inr (inr more) ↦
             let back = in_turn b a its is (sym same) more in
@@ -178,7 +179,7 @@ module _ (C : Course) (sound : IsSoundCourse C) where
       ]
 
   -- a moment whose slice begins after that of another one ends is later
-  pub late_earlier : (a b : Side) → IsRow C (row_on C a.point) → IsRow C (row_on C b.point) → not_past (end_at C a) (begin_at C b) ≡ false → Earlier C (moment_at_side C a) (moment_at_side C b)
+  pub late_earlier : (a b : PointSide) → IsRow C (row_on C a.point) → IsRow C (row_on C b.point) → not_past (end_at C a) (begin_at C b) ≡ false → Earlier C (moment_at_side C a) (moment_at_side C b)
   late_earlier a b is its late =
       let k = not_later_true C sound (moment_at_side C a) (moment_at_side C b) (is_moment a is) (is_moment b its) (sides_ended C a b (ends_past (event_slice C (event_at C a)) (begin_at C b) late)) in
       elim (cases_eq (row_on C a.point).thread (row_on C b.point).thread) [
@@ -199,37 +200,37 @@ module _ (C : Course) (sound : IsSoundCourse C) where
       ]
 
   -- and of two threads no other one is
-  pub earlier_late : (a b : Side) → (row_on C a.point).thread ≢ (row_on C b.point).thread → Earlier C (moment_at_side C a) (moment_at_side C b) → not_past (end_at C a) (begin_at C b) ≡ false
+  pub earlier_late : (a b : PointSide) → (row_on C a.point).thread ≢ (row_on C b.point).thread → Earlier C (moment_at_side C a) (moment_at_side C b) → not_past (end_at C a) (begin_at C b) ≡ false
   earlier_late a b other e = past_ends (event_slice C (event_at C a)) (begin_at C b) (sym (sides_apart C a b other) ∙ not_later_from C sound (moment_at_side C a) (moment_at_side C b) e.0)
 
   -- each moment but the end is one of a row that leads from a point
-  pub side_from : (m : Moment) → IsMoment C m → at_end ≢ m → (s : Side) × IsRow C (row_on C s.point) × (moment_at_side C s ≡ m)
+  pub side_from : (m : Moment) → IsMoment C m → at_end ≢ m → (s : PointSide) × IsRow C (row_on C s.point) × (moment_at_side C s ≡ m)
   side_from (before r) is other = (side (point_of_row C r) false, subst (λ (q : Row). IsRow C q) (sym (row_point C r is)) is, ap before (row_point C r is))
   side_from (after r) is other = (side (point_of_row C r) true, subst (λ (q : Row). IsRow C q) (sym (row_point C r is)) is, ap after (row_point C r is))
   side_from at_end is other = absurd (other refl)
 
   -- what comes next in the thread
-  pub record IsDirect (a b : Side) : Type 0 where
+  pub record IsDirect (a b : PointSide) : Type 0 where
     pub row : IsRow C (row_on C b.point)
     pub same : (row_on C a.point).thread ≡ (row_on C b.point).thread
     pub turn : turn b ≡ suc (turn a)
 
-  on_by : (b : Bool) (g : ℕ) (u : Side) → is_some (leg_row C (suc g)) ≡ b → IsRow C (row_on C g) → cond b (Some (side (suc g) false)) None ≡ Some u → IsDirect (side g true) u
+  on_by : (b : Bool) (g : ℕ) (u : PointSide) → is_some (leg_row C (suc g)) ≡ b → IsRow C (row_on C g) → cond b (Some (side (suc g) false)) None ≡ Some u → IsDirect (side g true) u
   on_by true g u e is k =
       let here : side (suc g) false ≡ u = some_same k in
       let next = next_row C g is in
-      subst (λ (s : Side). IsDirect (side g true) s) here (record {
+      subst (λ (s : PointSide). IsDirect (side g true) s) here (record {
         row = there_row C (row_on C (suc g)) e;
         same = sym (ap (λ (r : Row). r.thread) next);
         turn = omega arith;
       })
   on_by false g u e is k = absurd (none_some k)
 
-  follows_by : (b : Bool) (g : ℕ) (u : Side) → IsRow C (row_on C g) → following_at C (side g b) ≡ Some u → IsDirect (side g b) u
+  follows_by : (b : Bool) (g : ℕ) (u : PointSide) → IsRow C (row_on C g) → following_at C (side g b) ≡ Some u → IsDirect (side g b) u
   follows_by true g u is k = on_by (is_some (leg_row C (suc g))) g u refl is k
-  follows_by false g u is k = subst (λ (s : Side). IsDirect (side g false) s) (some_same k) (record { row = is; same = refl; turn = omega arith })
+  follows_by false g u is k = subst (λ (s : PointSide). IsDirect (side g false) s) (some_same k) (record { row = is; same = refl; turn = omega arith })
 
-  pub following_is : (s u : Side) → IsRow C (row_on C s.point) → following_at C s ≡ Some u → IsDirect s u
+  pub following_is : (s u : PointSide) → IsRow C (row_on C s.point) → following_at C s ≡ Some u → IsDirect s u
   following_is s u is k = follows_by s.is_after s.point u is k
 
   -- a thread's later row has all rows before it
@@ -240,7 +241,7 @@ module _ (C : Course) (sound : IsSoundCourse C) where
       let low : suc (row_on C g).step < length (rows_of C (row_on C g).thread) = omega arith in
       subst (λ (q : Row). IsRow C q) (sym (next_row C g is)) low
 
-  last_by : (b : Bool) (g : ℕ) (u : Side) → is_some (leg_row C (suc g)) ≡ b → IsRow C (row_on C g) → cond b (Some (side (suc g) false)) None ≡ None → IsRow C (row_on C u.point) → (row_on C g).thread ≡ (row_on C u.point).thread → g < u.point → ⊥
+  last_by : (b : Bool) (g : ℕ) (u : PointSide) → is_some (leg_row C (suc g)) ≡ b → IsRow C (row_on C g) → cond b (Some (side (suc g) false)) None ≡ None → IsRow C (row_on C u.point) → (row_on C g).thread ≡ (row_on C u.point).thread → g < u.point → ⊥
   last_by true g u e is k its same less = none_some (sym k)
   last_by false g u e is k its same less = false≢true (sym e ∙ row_there C (row_on C (suc g)) (row_under g u.point is its same less))
 
@@ -248,43 +249,43 @@ module _ (C : Course) (sound : IsSoundCourse C) where
   over_by g h false less = omega arith
   over_by g h true less = omega arith
 
-  none_by : (b : Bool) (g : ℕ) (u : Side) → IsRow C (row_on C g) → following_at C (side g b) ≡ None → IsRow C (row_on C u.point) → (row_on C g).thread ≡ (row_on C u.point).thread → turn_by g b < turn u → ⊥
+  none_by : (b : Bool) (g : ℕ) (u : PointSide) → IsRow C (row_on C g) → following_at C (side g b) ≡ None → IsRow C (row_on C u.point) → (row_on C g).thread ≡ (row_on C u.point).thread → turn_by g b < turn u → ⊥
   none_by true g u is k its same less = last_by (is_some (leg_row C (suc g))) g u refl is k its same (over_by g u.point u.is_after less)
   none_by false g u is k its same less = none_some (sym k)
 
-  pub following_none : (s u : Side) → IsRow C (row_on C s.point) → following_at C s ≡ None → IsRow C (row_on C u.point) → (row_on C s.point).thread ≡ (row_on C u.point).thread → turn s < turn u → ⊥
+  pub following_none : (s u : PointSide) → IsRow C (row_on C s.point) → following_at C s ≡ None → IsRow C (row_on C u.point) → (row_on C s.point).thread ≡ (row_on C u.point).thread → turn s < turn u → ⊥
   following_none s u is k its same less = none_by s.is_after s.point u is k its same less
 
   -- and what came before
-  back_by : (b : Bool) (g : ℕ) (u : Side) → is_some (leg_row C g) ≡ b → IsRow C (row_on C (suc g)) → cond b (Some (side g true)) None ≡ Some u → IsDirect u (side (suc g) false)
+  back_by : (b : Bool) (g : ℕ) (u : PointSide) → is_some (leg_row C g) ≡ b → IsRow C (row_on C (suc g)) → cond b (Some (side g true)) None ≡ Some u → IsDirect u (side (suc g) false)
   back_by true g u e is k =
       let here : side g true ≡ u = some_same k in
       let next = next_row C g (there_row C (row_on C g) e) in
-      subst (λ (s : Side). IsDirect s (side (suc g) false)) here (record {
+      subst (λ (s : PointSide). IsDirect s (side (suc g) false)) here (record {
         row = is;
         same = sym (ap (λ (r : Row). r.thread) next);
         turn = omega arith;
       })
   back_by false g u e is k = absurd (none_some k)
 
-  precedes_by : (b : Bool) (g : ℕ) (u : Side) → IsRow C (row_on C g) → former_at C (side g b) ≡ Some u → IsDirect u (side g b)
-  precedes_by true g u is k = subst (λ (s : Side). IsDirect s (side g true)) (some_same k) (record { row = is; same = refl; turn = omega arith })
+  precedes_by : (b : Bool) (g : ℕ) (u : PointSide) → IsRow C (row_on C g) → former_at C (side g b) ≡ Some u → IsDirect u (side g b)
+  precedes_by true g u is k = subst (λ (s : PointSide). IsDirect s (side g true)) (some_same k) (record { row = is; same = refl; turn = omega arith })
   precedes_by false zero u is k = absurd (none_some k)
   precedes_by false (suc g) u is k = back_by (is_some (leg_row C g)) g u refl is k
 
-  pub former_is : (s u : Side) → IsRow C (row_on C s.point) → former_at C s ≡ Some u → IsDirect u s
+  pub former_is : (s u : PointSide) → IsRow C (row_on C s.point) → former_at C s ≡ Some u → IsDirect u s
   former_is s u is k = precedes_by s.is_after s.point u is k
 
-  row_by : (b : Bool) (g : ℕ) (u : Side) → is_some (leg_row C g) ≡ b → cond b (Some (side g true)) None ≡ Some u → IsRow C (row_on C u.point)
-  row_by true g u e k = subst (λ (s : Side). IsRow C (row_on C s.point)) (some_same k) (there_row C (row_on C g) e)
+  row_by : (b : Bool) (g : ℕ) (u : PointSide) → is_some (leg_row C g) ≡ b → cond b (Some (side g true)) None ≡ Some u → IsRow C (row_on C u.point)
+  row_by true g u e k = subst (λ (s : PointSide). IsRow C (row_on C s.point)) (some_same k) (there_row C (row_on C g) e)
   row_by false g u e k = absurd (none_some k)
 
-  former_row_by : (b : Bool) (g : ℕ) (u : Side) → IsRow C (row_on C g) → former_at C (side g b) ≡ Some u → IsRow C (row_on C u.point)
-  former_row_by true g u is k = subst (λ (s : Side). IsRow C (row_on C s.point)) (some_same k) is
+  former_row_by : (b : Bool) (g : ℕ) (u : PointSide) → IsRow C (row_on C g) → former_at C (side g b) ≡ Some u → IsRow C (row_on C u.point)
+  former_row_by true g u is k = subst (λ (s : PointSide). IsRow C (row_on C s.point)) (some_same k) is
   former_row_by false zero u is k = absurd (none_some k)
   former_row_by false (suc g) u is k = row_by (is_some (leg_row C g)) g u refl k
 
-  pub former_row : (s u : Side) → IsRow C (row_on C s.point) → former_at C s ≡ Some u → IsRow C (row_on C u.point)
+  pub former_row : (s u : PointSide) → IsRow C (row_on C s.point) → former_at C s ≡ Some u → IsRow C (row_on C u.point)
   former_row s u is k = former_row_by s.is_after s.point u is k
 
   -- the row before one that isn't the first of its thread
@@ -304,10 +305,10 @@ module _ (C : Course) (sound : IsSoundCourse C) where
   under_by g h false less = omega arith
   under_by g h true less = omega arith
 
-  start_by : (b : Bool) (g : ℕ) (u : Side) → IsRow C (row_on C g) → former_at C (side g b) ≡ None → (row_on C u.point).thread ≡ (row_on C g).thread → turn u < turn_by g b → ⊥
+  start_by : (b : Bool) (g : ℕ) (u : PointSide) → IsRow C (row_on C g) → former_at C (side g b) ≡ None → (row_on C u.point).thread ≡ (row_on C g).thread → turn u < turn_by g b → ⊥
   start_by true g u is k same less = none_some (sym k)
   start_by false zero u is k same less = omega arith
   start_by false (suc g) u is k same less = first_by (is_some (leg_row C g)) g u.point refl k is same (under_by g u.point u.is_after less)
 
-  pub former_none : (s u : Side) → IsRow C (row_on C s.point) → former_at C s ≡ None → (row_on C u.point).thread ≡ (row_on C s.point).thread → turn u < turn s → ⊥
+  pub former_none : (s u : PointSide) → IsRow C (row_on C s.point) → former_at C s ≡ None → (row_on C u.point).thread ≡ (row_on C s.point).thread → turn u < turn s → ⊥
   former_none s u is k same less = start_by s.is_after s.point u is k same less

@@ -8,20 +8,20 @@ use Rattle.rept_order.specs.Runs.{edge_part}
 use Rattle.rept_order.specs.Times.{begin_of}
 use Rattle.rept_moments.specs.declared.points.Edges.{Edges}
 use Rattle.rept_moments.specs.declared.points.Times.{Times}
-use Rattle.rept_moments.specs.declared.side.Place.{Place}
-use Rattle.rept_moments.specs.declared.side.Side.{Side}
+use Rattle.rept_moments.specs.declared.side.PointOfThread.{PointOfThread}
+use Rattle.rept_moments.specs.declared.side.PointSide.{PointSide}
 use Rattle.rept_moments.specs.Ordering.{event_at}
 use Rattle.rept_moments.specs.Points.{by_point, place_on, points_in}
 use Rattle.rept_moments.specs.Writers.{end_of}
 
 -- the begin and the end of a moment of a row
-abbrev pub begin_at : Course → Side → ℕ
+abbrev pub begin_at : Course → PointSide → ℕ
 begin_at C s = begin_of C (event_at C s)
 
-abbrev pub end_at : Course → Side → Option ℕ
+abbrev pub end_at : Course → PointSide → Option ℕ
 end_at C s = end_of (event_slice C (event_at C s))
 
-abbrev pub times_at : Course → Side → Times
+abbrev pub times_at : Course → PointSide → Times
 times_at C s = record { begin = begin_at C s; end = end_at C s }
 
 -- those of both moments of the row that leads from a point, and whether it writes memory
@@ -31,13 +31,13 @@ times_in C e = record { begin = begin_of C e; end = end_of (event_slice C e) }
 abbrev pub event_in : Course → Row → Bool → Event
 event_in C r is_after = record { row = r; part = edge_part is_after (calls C r) }
 
-abbrev pub edges_in : Course → Place → Edges
+abbrev pub edges_in : Course → PointOfThread → Edges
 edges_in C p = record { before = times_in C (event_in C (row_of p.thread p.step) false); after = times_in C (event_in C (row_of p.thread p.step) true); stores = stores C (row_of p.thread p.step) }
 
 abbrev pub edges_at : Course → ℕ → Edges
 edges_at C g = edges_in C (place_on C g)
 
-pub record ArePoints (C : Course) (list : List Place) (firsts : List ℕ) (all : List Edges) : Type 0 where
+pub record ArePoints (C : Course) (list : List PointOfThread) (firsts : List ℕ) (all : List Edges) : Type 0 where
   pub sound : IsSoundCourse C
   pub few : points_in C ≤ 66560
   pub places : list ≡ by_point (place_on C) (points_in C)

@@ -15,8 +15,8 @@ until None time = false
 until (Some d) time = nat_le time d
 
 -- something that isn't told may happen at the time or later
-abbrev pub dark_from : Course → ℕ → Bool
-dark_from C time = until C.dark time
+abbrev pub untraced_from : Course → ℕ → Bool
+untraced_from C time = until C.untraced time
 
 -- the end of the row's slice, if it is one
 abbrev pub rest_from : Course → Row → Option ℕ

@@ -1,5 +1,6 @@
--- The numbers of a run's moments: in the order of the times before which they don't come, the end last; moments that are one have one number, that of
--- the last of them. No number is next to itself. This project's own.
+-- The numbers of a run's moments: in the order of the times before which they don't come, the end
+-- last; moments that are one have one number, that of the last of them. No number is next to
+-- itself. This project's own.
 use Rattle.std.specs.Prelude.{◌==◌, Bool, true, false, Option, None}
 use Rattle.rept_steps.specs.Course.{Course}
 use Rattle.rept_order.specs.Moments.{Stretch}

@@ -1,5 +1,6 @@
--- The moments of a course in the order of the times before which they don't come: a moment doesn't come before the slice of its event begins.
--- Of one time they stay thread by thread, and in the thread's order. This project's own.
+-- The moments of a course in the order of the times before which they don't come: a moment doesn't
+-- come before the slice of its event begins. Of one time they stay thread by thread, and in the
+-- thread's order. This project's own.
 use Rattle.std.specs.Prelude.{ℕ, zero, suc, nat_le, if◌then◌else◌, Bool, true, false, List, [], ◌∷◌, ◌++◌}
 use Rattle.std.specs.Option.{is_some}
 use Rattle.rept_steps.specs.Course.{Course, calls}
@@ -9,21 +10,21 @@ use Rattle.rept_order.specs.Runs.{edge_part, beside_by}
 use Rattle.rept_order.specs.Times.{begin_of}
 use Rattle.rept_order.specs.Legs.{leg_row}
 use Rattle.rept_course.specs.Numbered.{row_on}
-use Rattle.rept_moments.specs.declared.side.Side.{Side}
+use Rattle.rept_moments.specs.declared.side.PointSide.{PointSide}
 use Rattle.rept_moments.specs.declared.side.Timed.{Timed}
 use Rattle.rept_moments.specs.Points.{points_in}
 
-abbrev pub side : ℕ → Bool → Side
+abbrev pub side : ℕ → Bool → PointSide
 side g b = record { point = g; is_after = b }
 
 -- the moment, and the event of its row that it lies at
-abbrev pub moment_at_side : Course → Side → Moment
+abbrev pub moment_at_side : Course → PointSide → Moment
 moment_at_side C s = beside_by (row_on C s.point) s.is_after
 
-abbrev pub event_at : Course → Side → Event
+abbrev pub event_at : Course → PointSide → Event
 event_at C s = record { row = row_on C s.point; part = edge_part s.is_after (calls C (row_on C s.point)) }
 
-abbrev pub timed : Course → Side → Timed
+abbrev pub timed : Course → PointSide → Timed
 timed C s = record { time = begin_of C (event_at C s); side = s }
 
 -- those of the row that leads from a point, if one does, and of the first so many points

@@ -1,5 +1,5 @@
--- The rows and moments of a run as an analysis takes them. Of one thread in one slice, all of which is told, the moments are its points. This project's
--- own.
+-- The rows and moments of a run as an analysis takes them. Of one thread in one slice, all of which
+-- is told, the moments are its points. This project's own.
 use Rattle.std.specs.Prelude.{◌≡◌, ◌≢◌, ◌⊎◌, ◌↔◌, ℕ, ◌<◌, ◌≤◌, true, List, [], ◌∷◌, length, Option, Some, None}
 use Rattle.std.specs.List.{Contains}
 use Rattle.std.specs.Option.{IsSome}
@@ -30,14 +30,14 @@ rows_in slices rows = None
 
 abbrev pub alone_by : List ThreadRows → Option ℕ → Option (List StepRow)
 alone_by (thread ∷ []) None = rows_in thread.slices thread.steps
-alone_by threads dark = None
+alone_by threads untraced = None
 
 abbrev pub seen_by : Course → Option (List StepRow) → SeenMoments
 seen_by C (Some rows) = seen_alone rows
 seen_by C None = seen_many C
 
 abbrev pub seen : Course → SeenMoments
-seen C = seen_by C (alone_by C.threads C.dark)
+seen C = seen_by C (alone_by C.threads C.untraced)
 
 -- the moment of a point: the one before its row, and where no row leads from it the end
 abbrev pub moment_in : SeenMoments → ℕ → ℕ

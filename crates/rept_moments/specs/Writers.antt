@@ -6,7 +6,7 @@ use Rattle.rept_order.specs.Events.{event_slice, first_event, last_event}
 use Rattle.rept_order.specs.Moments.{stores}
 use Rattle.rept_order.specs.Times.{begin_of}
 use Rattle.rept_course.specs.Numbered.{row_on}
-use Rattle.rept_crossing.specs.declared.writer.Writer.{Writer}
+use Rattle.rept_crossing.specs.declared.writer.TimedWriter.{TimedWriter}
 
 -- where a slice ends
 abbrev pub end_of : Option Slice → Option ℕ
@@ -19,13 +19,13 @@ end_in None = 2 ^ 64 - 1
 end_in (Some s) = s.end
 
 -- a row with the times between which it writes, if it does
-abbrev pub writer_of : Course → Row → Writer
+abbrev pub writer_of : Course → Row → TimedWriter
 writer_of C r = record { thread = r.thread; begin = begin_of C (first_event C r); end = end_in (event_slice C (last_event C r)) }
 
-abbrev pub writers_at : Course → ℕ → List Writer
+abbrev pub writers_at : Course → ℕ → List TimedWriter
 writers_at C g = if stores C (row_on C g) then writer_of C (row_on C g) ∷ [] else []
 
 -- the rows of the first so many points that may write
-abbrev pub writers_to : Course → ℕ → List Writer
+abbrev pub writers_to : Course → ℕ → List TimedWriter
 writers_to C zero = []
 writers_to C (suc g) = writers_to C g ++ writers_at C g

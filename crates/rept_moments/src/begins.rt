@@ -7,21 +7,22 @@ ghost use Rattle.rept_moments.specs.Begins.{entry, first_of, firsts_at, firsts_t
 ghost use Rattle.rept_moments.specs.Ordering.{side};
 ghost use Rattle.rept_moments.specs.Points.{points_in};
 ghost use Rattle.rept_crossing.specs.Writers.{not_past};
-ghost use Rattle.rept_moments.specs.declared.begins.Begun.{Begun};
+ghost use Rattle.rept_moments.specs.declared.begins.SliceStart.{SliceStart};
 
 use crate::nexts::{Later, sooner};
 use crate::points::Points;
-use crate::side::Side;
+use crate::side::PointSide;
 use std::alloc::{AllocError as OutOfMemory, Global};
 use std::marker::Model;
 
-/// The first moment of a slice, its begin, and the least end of this slice and those after it in the list.
+/// The first moment of a slice, its begin, and the least end of this slice and those after it in
+/// the list.
 #[derive(Clone, Copy)]
-pub struct Begun {
+pub struct SliceStart {
     /// The begin.
     pub begin: u64,
     /// The first moment that is in it.
-    pub side: Side,
+    pub side: PointSide,
     /// The least end, where one is known.
     pub least: Option<u64>,
 }
@@ -29,15 +30,15 @@ pub struct Begun {
 /// The slices of all threads, in the order of their begins.
 #[derive(Drop)]
 pub struct Begins {
-    list: Vec<Begun>,
+    list: Vec<SliceStart>,
 }
 
 impl Model for Begins {
     ghost use Rattle.std.specs.Prelude.{List};
     ghost use Rattle.std.specs.List.Sorted.{IsNonDecreasingBy};
-    ghost use Rattle.rept_moments.specs.declared.begins.Begun.{Begun};
+    ghost use Rattle.rept_moments.specs.declared.begins.SliceStart.{SliceStart};
 
-    ghost Value = { List Begun };
+    ghost Value = { List SliceStart };
 
     ghost view = { λ b. b.list.items };
 
@@ -45,13 +46,13 @@ impl Model for Begins {
 }
 
 /// The moment of a row before one of its thread, if there is one.
-pub fn former(points: &Points<'_>, side: Side) -> Option<Side>
+pub fn former(points: &Points<'_>, side: PointSide) -> Option<PointSide>
     requires { IsSome (leg_row points.now side.point) }
     ensures value { result ≡ former_at points.now side }
     ensures row { IfSome result (λ s. IsSome (leg_row points.now s.point)) }
 {
     if side.is_after {
-        return Some(Side {
+        return Some(PointSide {
             point: side.point,
             is_after: false,
         });
@@ -62,20 +63,20 @@ pub fn former(points: &Points<'_>, side: Side) -> Option<Side>
     if !points.leads(side.point - 1) {
         return None;
     }
-    Some(Side {
+    Some(PointSide {
         point: side.point - 1,
         is_after: true,
     })
 }
 
 /// The moment of a row after one of its thread, if there is one.
-pub fn following(points: &Points<'_>, side: Side) -> Option<Side>
+pub fn following(points: &Points<'_>, side: PointSide) -> Option<PointSide>
     requires { IsSome (leg_row points.now side.point) }
     ensures value { result ≡ following_at points.now side }
     ensures row { IfSome result (λ s. IsSome (leg_row points.now s.point)) }
 {
     if !side.is_after {
-        return Some(Side {
+        return Some(PointSide {
             point: side.point,
             is_after: true,
         });
@@ -84,7 +85,7 @@ pub fn following(points: &Points<'_>, side: Side) -> Option<Side>
     if !points.leads(next) {
         return None;
     }
-    Some(Side {
+    Some(PointSide {
         point: next,
         is_after: false,
     })
@@ -104,7 +105,7 @@ fn same_end(one: Option<u64>, other: Option<u64>) -> bool
 }
 
 /// Whether the slices of two moments begin and end at the same times.
-pub fn is_alike(points: &Points<'_>, one: Side, other: Side) -> bool
+pub fn is_alike(points: &Points<'_>, one: PointSide, other: PointSide) -> bool
     requires one { one.point < points_in points.now }
     requires other { other.point < points_in points.now }
     ensures { result ≡ is_alike points.now one other }
@@ -114,7 +115,7 @@ pub fn is_alike(points: &Points<'_>, one: Side, other: Side) -> bool
 }
 
 /// Whether a moment is the first one of a slice.
-fn is_first(points: &Points<'_>, side: Side) -> bool
+fn is_first(points: &Points<'_>, side: PointSide) -> bool
     requires { IsSome (leg_row points.now side.point) }
     ensures { result ≡ is_first_at points.now side }
 {
@@ -125,11 +126,11 @@ fn is_first(points: &Points<'_>, side: Side) -> bool
 }
 
 /// A moment, as the first one of a slice of which no later ones are known.
-fn with_times(points: &Points<'_>, side: Side) -> Begun
+fn with_times(points: &Points<'_>, side: PointSide) -> SliceStart
     requires { side.point < points_in points.now }
     ensures { result ≡ entry points.now side }
 {
-    Begun {
+    SliceStart {
         begin: points.begin(side),
         side,
         least: points.end(side),
@@ -137,7 +138,7 @@ fn with_times(points: &Points<'_>, side: Side) -> Begun
 }
 
 /// Adds a moment, if it is the first one of a slice.
-fn add(list: &mut Vec<Begun>, points: &Points<'_>, side: Side) -> Result<(), OutOfMemory>
+fn add(list: &mut Vec<SliceStart>, points: &Points<'_>, side: PointSide) -> Result<(), OutOfMemory>
     requires { IsSome (leg_row points.now side.point) }
     ensures { OnOk result (list.new.items ≡ list.old.items ++ first_of points.now side) }
 {
@@ -147,15 +148,16 @@ fn add(list: &mut Vec<Begun>, points: &Points<'_>, side: Side) -> Result<(), Out
     Ok(())
 }
 
-/// Adds the moments of the row that leads from a point, if one does, that are the first ones of slices.
-fn add_row(list: &mut Vec<Begun>, points: &Points<'_>, point: u32) -> Result<(), OutOfMemory>
+/// Adds the moments of the row that leads from a point, if one does, that are the first ones of
+/// slices.
+fn add_row(list: &mut Vec<SliceStart>, points: &Points<'_>, point: u32) -> Result<(), OutOfMemory>
     ensures { OnOk result (list.new.items ≡ list.old.items ++ firsts_at points.now point) }
 {
     if points.leads(point) {
         add(
             list,
             points,
-            Side {
+            PointSide {
                 point,
                 is_after: false,
             },
@@ -163,7 +165,7 @@ fn add_row(list: &mut Vec<Begun>, points: &Points<'_>, point: u32) -> Result<(),
         add(
             list,
             points,
-            Side {
+            PointSide {
                 point,
                 is_after: true,
             },
@@ -173,7 +175,7 @@ fn add_row(list: &mut Vec<Begun>, points: &Points<'_>, point: u32) -> Result<(),
 }
 
 /// The first moments of all slices, thread by thread.
-fn listed(alloc: Global, points: &Points<'_>) -> Result<Vec<Begun>, OutOfMemory>
+fn listed(alloc: Global, points: &Points<'_>) -> Result<Vec<SliceStart>, OutOfMemory>
     ensures { IfOk result (λ v. v.items ≡ firsts_to points.now (points_in points.now)) }
 {
     let mut list = Vec::new(alloc);
@@ -184,7 +186,7 @@ fn listed(alloc: Global, points: &Points<'_>) -> Result<Vec<Begun>, OutOfMemory>
 }
 
 /// Puts them into the order of their begins.
-fn sort(list: &mut Vec<Begun>) -> Result<(), OutOfMemory>
+fn sort(list: &mut Vec<SliceStart>) -> Result<(), OutOfMemory>
     ensures same { IsPermutation list.old.items list.new.items }
     ensures sorted { OnOk result (IsNonDecreasingBy (λ b. b.begin) list.new.items) }
 {
@@ -193,7 +195,7 @@ fn sort(list: &mut Vec<Begun>) -> Result<(), OutOfMemory>
 }
 
 /// Sets each least end to that of all from it on.
-fn lower(list: &mut Vec<Begun>)
+fn lower(list: &mut Vec<SliceStart>)
     ensures { list.new.items ≡ lowered list.old.items }
 {
     let mut least = None;
@@ -202,7 +204,7 @@ fn lower(list: &mut Vec<Begun>)
         place -= 1;
         let begun = list[place];
         least = sooner(least, begun.least);
-        list[place] = Begun {
+        list[place] = SliceStart {
             begin: begun.begin,
             side: begun.side,
             least,
@@ -224,8 +226,8 @@ impl Begins {
     /// How many begin at this time or before.
     fn begun_by(&self, time: u64) -> usize
         ensures few { result ≤ length self.now }
-        ensures before { (k : ℕ) (b : Begun) → k < result → slice_get self.now k ≡ Some b → b.begin ≤ time }
-        ensures after { (k : ℕ) (b : Begun) → result ≤ k → slice_get self.now k ≡ Some b → time < b.begin }
+        ensures before { (k : ℕ) (b : SliceStart) → k < result → slice_get self.now k ≡ Some b → b.begin ≤ time }
+        ensures after { (k : ℕ) (b : SliceStart) → result ≤ k → slice_get self.now k ≡ Some b → time < b.begin }
     {
         let list = self.list.as_slice();
         list.partition_point(|begun| begun.begin <= time)
@@ -234,8 +236,8 @@ impl Begins {
     /// The place of the first slice that begins after an end; where that isn't known none does.
     pub fn after(&self, end: Option<u64>) -> usize
         ensures few { result ≤ length self.now }
-        ensures before { (k : ℕ) (b : Begun) → k < result → slice_get self.now k ≡ Some b → not_past end b.begin ≡ true }
-        ensures after { (k : ℕ) (b : Begun) → result ≤ k → slice_get self.now k ≡ Some b → not_past end b.begin ≡ false }
+        ensures before { (k : ℕ) (b : SliceStart) → k < result → slice_get self.now k ≡ Some b → not_past end b.begin ≡ true }
+        ensures after { (k : ℕ) (b : SliceStart) → result ≤ k → slice_get self.now k ≡ Some b → not_past end b.begin ≡ false }
     {
         match end {
             Some(end) => self.begun_by(end),
@@ -260,9 +262,9 @@ impl Begins {
     }
 
     /// The first moment of the slice at a place.
-    pub fn first(&self, place: usize) -> Side
+    pub fn first(&self, place: usize) -> PointSide
         requires { place < length self.now }
-        ensures { (b : Begun) → slice_get self.now place ≡ Some b → result ≡ b.side }
+        ensures { (b : SliceStart) → slice_get self.now place ≡ Some b → result ≡ b.side }
     {
         self.list[place].side
     }

@@ -10,16 +10,18 @@ ghost use Rattle.rept_moments.specs.Points.{points_in};
 ghost use Rattle.rept_moments.specs.Seen.{seen, alone_by, moment_in, AddsNexts, IsRowAt, IsLastFrom};
 
 use crate::many::Many;
-use crate::side::Place;
+use crate::side::PointOfThread;
 use rept_isa::StepRow;
 use rept_order::Moment;
 use rept_steps::{Run, Steps};
 use std::alloc::{AllocError as OutOfMemory, Global};
 
-/// The rows and moments of a run, by numbers. Rows are numbered by the points that they lead from, thread by thread, and no row leads from the last point of a
-/// thread. Of one thread in one slice, all of which is told, the moments are the points; else they go slice by slice, in the order in which slices begin.
+/// The rows and moments of a run, by numbers. Rows are numbered by the points that they lead from,
+/// thread by thread, and no row leads from the last point of a thread. Of one thread in one slice,
+/// all of which is told, the moments are the points; else they go slice by slice, in the order in
+/// which slices begin.
 #[derive(Drop)]
-pub enum Course<'a> {
+pub enum NumberedRun<'a> {
     /// One thread in one slice, all of which is told.
     One {
         /// Its rows.
@@ -29,12 +31,13 @@ pub enum Course<'a> {
     Many(Many<'a>),
 }
 
-/// The rows of a run that is one path: of one thread in one slice, all of which is told. None of any other run.
+/// The rows of a run that is one path: of one thread in one slice, all of which is told. None of
+/// any other run.
 pub fn one_path<'a>(run: &'a Run) -> Option<&'a Steps>
-    ensures { MatchOption result (alone_by run.now.threads run.now.dark ≡ None) (λ steps. alone_by run.now.threads run.now.dark ≡ Some steps.now) }
+    ensures { MatchOption result (alone_by run.now.threads run.now.untraced ≡ None) (λ steps. alone_by run.now.threads run.now.untraced ≡ Some steps.now) }
 {
     let threads = run.threads.all();
-    if run.dark.is_some() || threads.len() != 1 {
+    if run.untraced.is_some() || threads.len() != 1 {
         return None;
     }
     let slices = threads[0].slices.all();
@@ -54,24 +57,25 @@ fn add_following(list: &mut Vec<u32>, last: u32, number: u32) -> Result<(), OutO
     Ok(())
 }
 
-impl<'a> Course<'a> {
+impl<'a> NumberedRun<'a> {
     ghost use Rattle.rept_moments.specs.Courses.{seen_in, threads_in, first_in, place_in, count_in, is_one, last_in, IsCourseOf};
 
-    /// The rows and moments of this run, which must be sound and have at most 66,560 points: those of 65,536 rows and 1,024 threads. Of one thread in one slice, all of which
-    /// is told, it takes no memory; else memory for a few entries a point.
-    pub fn new(alloc: Global, run: &'a Run) -> Result<Course<'a>, OutOfMemory>
+    /// The rows and moments of this run, which must be sound and have at most 66,560 points: those
+    /// of 65,536 rows and 1,024 threads. Of one thread in one slice, all of which is told, it takes
+    /// no memory; else memory for a few entries a point.
+    pub fn new(alloc: Global, run: &'a Run) -> Result<NumberedRun<'a>, OutOfMemory>
         requires sound { IsSoundCourse (course_of run.now) }
         requires few { points_in (course_of run.now) ≤ 66560 }
         ensures ok { IfOk result (λ c. seen_in c ≡ seen (course_of run.now)) }
         ensures threads { IfOk result (λ c. threads_in c ≡ length run.now.threads) }
         ensures firsts { IfOk result (λ c. (t : ℕ) → t < length run.now.threads → first_in c t ≡ points_before run.now.threads t) }
-        ensures alone { IsSome (alone_by run.now.threads run.now.dark) → IsOk result }
-        ensures one { IsSome (alone_by run.now.threads run.now.dark) → IfOk result (λ c. is_one c ≡ true) }
+        ensures alone { IsSome (alone_by run.now.threads run.now.untraced) → IsOk result }
+        ensures one { IsSome (alone_by run.now.threads run.now.untraced) → IfOk result (λ c. is_one c ≡ true) }
         ensures course { IfOk result (IsCourseOf (course_of run.now)) }
     {
         match one_path(run) {
-            Some(steps) => Ok(Course::One { steps }),
-            None => Ok(Course::Many(Many::new(alloc, run)?)),
+            Some(steps) => Ok(NumberedRun::One { steps }),
+            None => Ok(NumberedRun::Many(Many::new(alloc, run)?)),
         }
     }
 
@@ -80,8 +84,8 @@ impl<'a> Course<'a> {
         ensures { result ≡ (seen_in self.now).legs.count }
     {
         match self {
-            Course::One { steps } => steps.len(),
-            Course::Many(many) => many.last_point(),
+            NumberedRun::One { steps } => steps.len(),
+            NumberedRun::Many(many) => many.last_point(),
         }
     }
 
@@ -90,8 +94,8 @@ impl<'a> Course<'a> {
         ensures { result ≡ threads_in self.now }
     {
         match self {
-            Course::One { .. } => 1,
-            Course::Many(many) => many.threads(),
+            NumberedRun::One { .. } => 1,
+            NumberedRun::Many(many) => many.threads(),
         }
     }
 
@@ -101,35 +105,36 @@ impl<'a> Course<'a> {
         ensures { result ≡ first_in self.now thread }
     {
         match self {
-            Course::One { .. } => 0,
-            Course::Many(many) => many.first(thread),
+            NumberedRun::One { .. } => 0,
+            NumberedRun::Many(many) => many.first(thread),
         }
     }
 
     /// The thread of a point, and its number there.
-    pub fn place(&self, point: u32) -> Place
+    pub fn place(&self, point: u32) -> PointOfThread
         requires { point < count_in self.now }
         ensures { result ≡ place_in self.now point }
     {
         match self {
-            Course::One { .. } => Place {
+            NumberedRun::One { .. } => PointOfThread {
                 thread: 0,
                 step: point,
             },
-            Course::Many(many) => many.place(point),
+            NumberedRun::Many(many) => many.place(point),
         }
     }
 
-    /// The row that leads from a point. None does from the last point of a thread, nor past the last one of all.
+    /// The row that leads from a point. None does from the last point of a thread, nor past the
+    /// last one of all.
     pub fn row(&self, point: u32) -> Option<StepRow>
         ensures { result ≡ (seen_in self.now).legs.row point }
     {
         match self {
-            Course::One { steps } => match steps.rows().get(point as usize) {
+            NumberedRun::One { steps } => match steps.rows().get(point as usize) {
                 Some(row) => Some(*row),
                 None => None,
             },
-            Course::Many(many) => many.row(point),
+            NumberedRun::Many(many) => many.row(point),
         }
     }
 
@@ -138,8 +143,8 @@ impl<'a> Course<'a> {
         ensures { result ≡ (seen_in self.now).moments.end }
     {
         match self {
-            Course::One { steps } => steps.len(),
-            Course::Many(many) => many.end(),
+            NumberedRun::One { steps } => steps.len(),
+            NumberedRun::Many(many) => many.end(),
         }
     }
 
@@ -149,8 +154,8 @@ impl<'a> Course<'a> {
         ensures { result ≡ (seen_in self.now).moments.before row }
     {
         match self {
-            Course::One { .. } => row,
-            Course::Many(many) => many.before(row),
+            NumberedRun::One { .. } => row,
+            NumberedRun::Many(many) => many.before(row),
         }
     }
 
@@ -160,28 +165,30 @@ impl<'a> Course<'a> {
         ensures { result ≡ (seen_in self.now).moments.after row }
     {
         match self {
-            Course::One { steps } => steps.len().min(row + 1),
-            Course::Many(many) => many.after(row),
+            NumberedRun::One { steps } => steps.len().min(row + 1),
+            NumberedRun::Many(many) => many.after(row),
         }
     }
 
-    /// The number of a point's moment: the one before its row, or the end where no row leads from it.
+    /// The number of a point's moment: the one before its row, or the end where no row leads from
+    /// it.
     pub fn moment_at(&self, point: u32) -> u32
         requires { point ≤ (seen_in self.now).legs.count }
         ensures { result ≡ moment_in (seen_in self.now) point }
     {
         match self {
-            Course::One { .. } => point,
-            Course::Many(many) => many.moment_at(point),
+            NumberedRun::One { .. } => point,
+            NumberedRun::Many(many) => many.moment_at(point),
         }
     }
 
-    /// The last of the moments that have a number. Of one thread alone it is that of the point with this number.
+    /// The last of the moments that have a number. Of one thread alone it is that of the point with
+    /// this number.
     pub fn last(&self, number: u32) -> Moment
         ensures { moment_named result ≡ last_in self.now number }
     {
         match self {
-            Course::One { steps } => {
+            NumberedRun::One { steps } => {
                 if number < steps.len() {
                     Moment::Before {
                         thread: 0,
@@ -191,7 +198,7 @@ impl<'a> Course<'a> {
                     Moment::End
                 }
             }
-            Course::Many(many) => many.last(number),
+            NumberedRun::Many(many) => many.last(number),
         }
     }
 
@@ -200,14 +207,14 @@ impl<'a> Course<'a> {
         ensures { IsRowAt (seen_in self.now) number result }
     {
         match self {
-            Course::One { steps } => {
+            NumberedRun::One { steps } => {
                 if number < steps.len() {
                     Some(number)
                 } else {
                     None
                 }
             }
-            Course::Many(many) => many.row_at(number),
+            NumberedRun::Many(many) => many.row_at(number),
         }
     }
 
@@ -216,59 +223,61 @@ impl<'a> Course<'a> {
         ensures { IsLastFrom (seen_in self.now).legs least result }
     {
         match self {
-            Course::One { steps } => {
+            NumberedRun::One { steps } => {
                 if least <= steps.len() {
                     Some(steps.len())
                 } else {
                     None
                 }
             }
-            Course::Many(many) => many.next_last(least),
+            NumberedRun::Many(many) => many.next_last(least),
         }
     }
 
-    /// Adds all numbers next to one to a list: those that a later moment has, with none between. They come in no order, and a number may come more than once.
+    /// Adds all numbers next to one to a list: those that a later moment has, with none between.
+    /// They come in no order, and a number may come more than once.
     pub fn add_nexts(&self, number: u32, list: &mut Vec<u32>) -> Result<(), OutOfMemory>
         requires { number ≤ (seen_in self.now).moments.end }
         ensures { OnOk result (AddsNexts (seen_in self.now).moments number list.old.items list.new.items) }
     {
         match self {
-            Course::One { steps } => add_following(list, steps.len(), number),
-            Course::Many(many) => many.add_nexts(number, list),
+            NumberedRun::One { steps } => add_following(list, steps.len(), number),
+            NumberedRun::Many(many) => many.add_nexts(number, list),
         }
     }
 
-    /// Whether the row falls between a number and one that is next to it.
-    pub fn falls(&self, row: u32, m: u32, w: u32) -> bool
+    /// Whether the row may act between a number and one that is next to it.
+    pub fn may_act(&self, row: u32, m: u32, w: u32) -> bool
         requires row { IsSome ((seen_in self.now).legs.row row) }
         requires next { (seen_in self.now).moments.next m w ≡ true }
-        ensures { result ≡ (seen_in self.now).moments.falls row m w }
+        ensures { result ≡ (seen_in self.now).moments.may_act row m w }
     {
         match self {
-            Course::One { .. } => row == m,
-            Course::Many(many) => many.falls(row, m, w),
+            NumberedRun::One { .. } => row == m,
+            NumberedRun::Many(many) => many.may_act(row, m, w),
         }
     }
 
-    /// Whether writers that aren't told fall between a number and one that is next to it.
-    pub fn is_dark_between(&self, m: u32, w: u32) -> bool
+    /// Whether writers that aren't told may act between a number and one that is next to it.
+    pub fn is_untraced_between(&self, m: u32, w: u32) -> bool
         requires { (seen_in self.now).moments.next m w ≡ true }
-        ensures { result ≡ (seen_in self.now).moments.dark m w }
+        ensures { result ≡ (seen_in self.now).moments.untraced m w }
     {
         match self {
-            Course::One { .. } => false,
-            Course::Many(many) => many.is_dark_between(m, w),
+            NumberedRun::One { .. } => false,
+            NumberedRun::Many(many) => many.is_untraced_between(m, w),
         }
     }
 
-    /// Whether the row lies wholly before the moment. Of more than one slice this is said of each row that can't write, too.
+    /// Whether the row lies wholly before the moment. Of more than one slice this is said of each
+    /// row that can't write, too.
     pub fn is_past(&self, row: u32, m: u32) -> bool
         requires { IsSome ((seen_in self.now).legs.row row) }
         ensures { result ≡ (seen_in self.now).moments.past row m }
     {
         match self {
-            Course::One { .. } => row < m,
-            Course::Many(many) => many.is_past(row, m),
+            NumberedRun::One { .. } => row < m,
+            NumberedRun::Many(many) => many.is_past(row, m),
         }
     }
 
@@ -278,8 +287,8 @@ impl<'a> Course<'a> {
         ensures { result ≡ (seen_in self.now).moments.ahead row m }
     {
         match self {
-            Course::One { .. } => m <= row,
-            Course::Many(many) => many.is_ahead(row, m),
+            NumberedRun::One { .. } => m <= row,
+            NumberedRun::Many(many) => many.is_ahead(row, m),
         }
     }
 
@@ -290,39 +299,39 @@ impl<'a> Course<'a> {
         ensures { result ≡ (seen_in self.now).moments.later i j }
     {
         match self {
-            Course::One { .. } => j < i,
-            Course::Many(many) => many.is_later(i, j),
+            NumberedRun::One { .. } => j < i,
+            NumberedRun::Many(many) => many.is_later(i, j),
         }
     }
 
     /// Whether there are writers that aren't told.
-    pub fn is_dark(&self) -> bool
-        ensures { result ≡ (seen_in self.now).moments.is_dark }
+    pub fn is_untraced(&self) -> bool
+        ensures { result ≡ (seen_in self.now).moments.is_untraced }
     {
         match self {
-            Course::One { .. } => false,
-            Course::Many(many) => many.is_dark(),
+            NumberedRun::One { .. } => false,
+            NumberedRun::Many(many) => many.is_untraced(),
         }
     }
 
     /// Whether they lie wholly before the moment.
-    pub fn is_dark_past(&self, m: u32) -> bool
-        ensures { result ≡ (seen_in self.now).moments.dark_past m }
+    pub fn is_untraced_past(&self, m: u32) -> bool
+        ensures { result ≡ (seen_in self.now).moments.untraced_past m }
     {
         match self {
-            Course::One { .. } => true,
-            Course::Many(many) => many.is_dark_past(m),
+            NumberedRun::One { .. } => true,
+            NumberedRun::Many(many) => many.is_untraced_past(m),
         }
     }
 
     /// Whether they lie wholly before the row.
-    pub fn is_dark_before(&self, row: u32) -> bool
+    pub fn is_untraced_before(&self, row: u32) -> bool
         requires { IsSome ((seen_in self.now).legs.row row) }
-        ensures { result ≡ (seen_in self.now).moments.dark_before row }
+        ensures { result ≡ (seen_in self.now).moments.untraced_before row }
     {
         match self {
-            Course::One { .. } => true,
-            Course::Many(many) => many.is_dark_before(row),
+            NumberedRun::One { .. } => true,
+            NumberedRun::Many(many) => many.is_untraced_before(row),
         }
     }
 }

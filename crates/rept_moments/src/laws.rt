@@ -8,8 +8,9 @@ ghost use Rattle.rept_course.specs.Names.{AreNames};
 ghost use Rattle.rept_moments.specs.Numbers.{numbers_of};
 ghost use Rattle.rept_moments.specs.Seen.{seen};
 
-/// The numbers of the moments of a sound course are names of them: moments that are one have one number, and no others. Its rows and moments, as an
-/// analysis takes them, keep the laws that the report asks for.
+/// The numbers of the moments of a sound course are names of them: moments that are one have one
+/// number, and no others. Its rows and moments, as an analysis takes them, keep the laws that the
+/// report asks for.
 pub fn numbers_are_names()
     ensures names { (C : Course) → IsSoundCourse C → AreNames C (numbers_of C) }
     ensures legs { (C : Course) → AreLegs (seen C).legs }

@@ -1,4 +1,5 @@
-//! The numbers of the moments of a run: of one thread those of its points, of several those of the moments in the order in which slices begin.
+//! The numbers of the moments of a run: of one thread those of its points, of several those of the
+//! moments in the order in which slices begin.
 #![tactic(auto)]
 
 mod begins;
@@ -16,8 +17,8 @@ mod trail;
 mod writers;
 mod writing;
 
-pub use course::{Course, one_path};
+pub use course::{NumberedRun, one_path};
 pub use laws::numbers_are_names;
 pub use many::Many;
 pub use room::has_room;
-pub use side::Place;
+pub use side::PointOfThread;

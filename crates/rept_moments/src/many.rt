@@ -27,7 +27,7 @@ use crate::nexts::{Later, add_other, is_not_past, with_end};
 use crate::numbers::Numbers;
 use crate::ordering::in_time;
 use crate::points::Points;
-use crate::side::{Place, Side, Timed};
+use crate::side::{PointOfThread, PointSide, Timed};
 use crate::writers::writers_of;
 use crate::writing::{both, neither};
 use rept_isa::{StepRow, is_call};
@@ -36,9 +36,11 @@ use rept_steps::Run;
 use std::alloc::{AllocError as OutOfMemory, Global};
 use std::marker::Model;
 
-/// The numbers of the moments of several threads, or of one in several slices. Rows are numbered by the points that they lead from, thread by thread, and a thread of n rows has
-/// n + 1 points. Moments are numbered in the order of the times before which they don't come: those of a slice from its begin (of one time by threads, and then in the thread's
-/// order), the end last. Moments that are one have one number, that of the last of them.
+/// The numbers of the moments of several threads, or of one in several slices. Rows are numbered by
+/// the points that they lead from, thread by thread, and a thread of n rows has n + 1 points.
+/// Moments are numbered in the order of the times before which they don't come: those of a slice
+/// from its begin (of one time by threads, and then in the thread's order), the end last. Moments
+/// that are one have one number, that of the last of them.
 #[derive(Drop)]
 pub struct Many<'a> {
     points: Points<'a>,
@@ -81,7 +83,7 @@ fn number(
 }
 
 /// Gives the moment the next number, if it is the last of those that are one with it, and has none.
-fn keep(numbers: &mut Numbers, side: Side, merged: &[bool]) -> Result<(), OutOfMemory>
+fn keep(numbers: &mut Numbers, side: PointSide, merged: &[bool]) -> Result<(), OutOfMemory>
     requires inside { side.point < numbers.old.points }
     requires merged { length merged.now ≡ numbers.old.points }
     requires few { length numbers.old.list < 2 ^ 32 }
@@ -96,7 +98,7 @@ fn keep(numbers: &mut Numbers, side: Side, merged: &[bool]) -> Result<(), OutOfM
 
 /// What the numbers of a run are told from.
 #[derive(Drop)]
-struct Tables {
+struct NumberTables {
     begins: Begins,
     numbers: Numbers,
     merged: Vec<bool>,
@@ -122,7 +124,7 @@ fn numbered(alloc: Global, points: &Points<'_>, merged: &[bool]) -> Result<Numbe
 }
 
 /// The tables of a run.
-fn tables_of(alloc: Global, points: &Points<'_>) -> Result<Tables, OutOfMemory>
+fn tables_of(alloc: Global, points: &Points<'_>) -> Result<NumberTables, OutOfMemory>
     requires sound { IsSoundCourse points.now }
     requires few { points_in points.now ≤ 66560 }
     ensures { IfOk result (λ t. AreTables points.now t.begins t.numbers t.merged.items) }
@@ -130,7 +132,7 @@ fn tables_of(alloc: Global, points: &Points<'_>) -> Result<Tables, OutOfMemory>
     let merged = merged_of(alloc, points)?;
     let numbers = numbered(alloc, points, merged.as_slice())?;
     let begins = Begins::new(alloc, points)?;
-    Ok(Tables {
+    Ok(NumberTables {
         begins,
         numbers,
         merged,
@@ -140,14 +142,15 @@ fn tables_of(alloc: Global, points: &Points<'_>) -> Result<Tables, OutOfMemory>
 impl<'a> Many<'a> {
     ghost use Rattle.rept_moments.specs.Several.{seen_of};
 
-    /// The numbers of the run's moments. The run must be sound, and have at most 65,536 rows and 1,024 threads. It takes memory for a few entries a row.
+    /// The numbers of the run's moments. The run must be sound, and have at most 65,536 rows and
+    /// 1,024 threads. It takes memory for a few entries a row.
     pub fn new(alloc: Global, run: &'a Run) -> Result<Many<'a>, OutOfMemory>
         requires sound { IsSoundCourse (course_of run.now) }
         requires few { points_in (course_of run.now) ≤ 66560 }
         ensures { IfOk result (λ m. m ≡ course_of run.now) }
     {
         let points = Points::new(alloc, run)?;
-        let Tables {
+        let NumberTables {
             begins,
             numbers,
             merged,
@@ -193,7 +196,7 @@ impl<'a> Many<'a> {
     }
 
     /// The thread of a point, and its number there.
-    pub fn place(&self, point: u32) -> Place
+    pub fn place(&self, point: u32) -> PointOfThread
         requires { point < points_in self.now }
         ensures { result ≡ place_on self.now point }
     {
@@ -215,7 +218,7 @@ impl<'a> Many<'a> {
     }
 
     /// The number of a moment of a row that is the last of those that are one with it.
-    fn number(&self, side: Side) -> u32
+    fn number(&self, side: PointSide) -> u32
         requires { side.point < points_in self.now }
         ensures { result ≡ rank (lasts self.now (in_order self.now)) (moment_at_side self.now side) }
     {
@@ -230,7 +233,7 @@ impl<'a> Many<'a> {
         requires { IsSome ((seen_of self.now).legs.row row) }
         ensures { result ≡ (seen_of self.now).moments.before row }
     {
-        self.number(Side {
+        self.number(PointSide {
             point: row,
             is_after: false,
         })
@@ -244,7 +247,7 @@ impl<'a> Many<'a> {
         if self.is_merged(row) {
             self.moment_at(row + 1)
         } else {
-            self.number(Side {
+            self.number(PointSide {
                 point: row,
                 is_after: true,
             })
@@ -261,13 +264,14 @@ impl<'a> Many<'a> {
         merged[row as usize]
     }
 
-    /// The number of a point's moment: the one before its row, or the end where no row leads from it.
+    /// The number of a point's moment: the one before its row, or the end where no row leads from
+    /// it.
     pub fn moment_at(&self, point: u32) -> u32
         requires { point ≤ (seen_of self.now).legs.count }
         ensures { result ≡ moment_in (seen_of self.now) point }
     {
         match self.row(point) {
-            Some(_) => self.number(Side {
+            Some(_) => self.number(PointSide {
                 point,
                 is_after: false,
             }),
@@ -320,7 +324,8 @@ impl<'a> Many<'a> {
         }
     }
 
-    /// Whether the row that leads from a point, if one does, writes memory by the form of its instruction, whatever is known of it.
+    /// Whether the row that leads from a point, if one does, writes memory by the form of its
+    /// instruction, whatever is known of it.
     pub fn stores(&self, point: u32) -> bool
         ensures { result ≡ stores self.now (row_on self.now point) }
     {
@@ -337,7 +342,7 @@ impl<'a> Many<'a> {
         }
         match self.numbers.at(m) {
             Some(side) => self.points.is_not_later(
-                Side {
+                PointSide {
                     point: row,
                     is_after: true,
                 },
@@ -355,7 +360,7 @@ impl<'a> Many<'a> {
         match self.numbers.at(m) {
             Some(side) => self.points.is_not_later(
                 side,
-                Side {
+                PointSide {
                     point: row,
                     is_after: false,
                 },
@@ -364,7 +369,8 @@ impl<'a> Many<'a> {
         }
     }
 
-    /// Whether two numbers are of one thread and have the same times: a row of another thread then lies before both or neither, and after both or neither. The end is together with none.
+    /// Whether two numbers are of one thread and have the same times: a row of another thread then
+    /// lies before both or neither, and after both or neither. The end is together with none.
     pub fn are_together(&self, m: u32, k: u32) -> bool
         ensures { result ≡ true ↔ AreTogether self.now m k }
     {
@@ -374,8 +380,8 @@ impl<'a> Many<'a> {
         }
     }
 
-    /// The same of a moment of a row, and a number.
-    fn is_together(&self, side: Side, k: u32) -> bool
+    /// Whether a moment of a row and a number are of one thread and have the same times.
+    fn is_together(&self, side: PointSide, k: u32) -> bool
         requires { IsSome ((seen_of self.now).legs.row side.point) }
         ensures { result ≡ true ↔ IsTogether self.now side k }
     {
@@ -386,7 +392,7 @@ impl<'a> Many<'a> {
     }
 
     /// Whether two moments of rows are of one thread, and have the same times.
-    fn are_beside(&self, one: Side, other: Side) -> bool
+    fn are_beside(&self, one: PointSide, other: PointSide) -> bool
         requires one { IsSome ((seen_of self.now).legs.row one.point) }
         requires other { IsSome ((seen_of self.now).legs.row other.point) }
         ensures { result ≡ true ↔ AreBeside self.now one other }
@@ -404,11 +410,11 @@ impl<'a> Many<'a> {
         requires second { IsSome ((seen_of self.now).legs.row j) }
         ensures { result ≡ (seen_of self.now).moments.later i j }
     {
-        let after = Side {
+        let after = PointSide {
             point: j,
             is_after: true,
         };
-        let before = Side {
+        let before = PointSide {
             point: i,
             is_after: false,
         };
@@ -416,31 +422,31 @@ impl<'a> Many<'a> {
     }
 
     /// Whether there are writers that aren't told.
-    pub fn is_dark(&self) -> bool
-        ensures { result ≡ (seen_of self.now).moments.is_dark }
+    pub fn is_untraced(&self) -> bool
+        ensures { result ≡ (seen_of self.now).moments.is_untraced }
     {
-        self.points.is_dark()
+        self.points.is_untraced()
     }
 
     /// Whether they lie wholly before the moment.
-    pub fn is_dark_past(&self, m: u32) -> bool
-        ensures { result ≡ (seen_of self.now).moments.dark_past m }
+    pub fn is_untraced_past(&self, m: u32) -> bool
+        ensures { result ≡ (seen_of self.now).moments.untraced_past m }
     {
-        if !self.is_dark() {
+        if !self.is_untraced() {
             return true;
         }
         match self.numbers.at(m) {
-            Some(side) => self.points.is_dark_past(side),
+            Some(side) => self.points.is_untraced_past(side),
             None => true,
         }
     }
 
     /// Whether they lie wholly before the row.
-    pub fn is_dark_before(&self, row: u32) -> bool
+    pub fn is_untraced_before(&self, row: u32) -> bool
         requires { IsSome ((seen_of self.now).legs.row row) }
-        ensures { result ≡ (seen_of self.now).moments.dark_before row }
+        ensures { result ≡ (seen_of self.now).moments.untraced_before row }
     {
-        self.points.is_dark_past(Side {
+        self.points.is_untraced_past(PointSide {
             point: row,
             is_after: false,
         })
@@ -477,7 +483,7 @@ impl<'a> Many<'a> {
     }
 
     /// The number of a moment of a row.
-    fn name(&self, side: Side) -> u32
+    fn name(&self, side: PointSide) -> u32
         requires { IsSome ((seen_of self.now).legs.row side.point) }
         ensures { result ≡ (numbers_of self.now).name (moment_at_side self.now side) }
     {
@@ -490,15 +496,16 @@ impl<'a> Many<'a> {
     }
 
     /// Whether slices begin after that of a moment of a row ends, and the least end of those.
-    fn later_of_others(&self, side: Side) -> Later
+    fn later_of_others(&self, side: PointSide) -> Later
         requires { IsSome ((seen_of self.now).legs.row side.point) }
         ensures { IsLaterBy self.now side None result }
     {
         self.begins.from(self.begins.after(self.points.end(side)))
     }
 
-    /// Whether a moment is later than one of a row, and by which time one must be able to come to be next to it.
-    fn later(&self, side: Side) -> Later
+    /// Whether a moment is later than one of a row, and by which time one must be able to come to
+    /// be next to it.
+    fn later(&self, side: PointSide) -> Later
         requires { IsSome ((seen_of self.now).legs.row side.point) }
         ensures { IsLaterBy self.now side (following_at self.now side) result }
     {
@@ -507,20 +514,21 @@ impl<'a> Many<'a> {
     }
 
     /// The time before which a moment of a row doesn't come.
-    fn begin(&self, side: Side) -> u64
+    fn begin(&self, side: PointSide) -> u64
         requires { IsSome ((seen_of self.now).legs.row side.point) }
         ensures { result ≡ begin_of self.now (event_at self.now side) }
     {
         self.points.begin(side)
     }
 
-    /// Adds the number of a moment that is the first later one of its thread, if it may come by a time, but not the number that is left out.
+    /// Adds the number of a moment that is the first later one of its thread, if it may come by a
+    /// time, but not the number that is left out.
     fn add_first(
         &self,
         list: &mut Vec<u32>,
         own: u32,
         last: Option<u64>,
-        first: Option<Side>,
+        first: Option<PointSide>,
     ) -> Result<(), OutOfMemory>
         requires { IfSome first (λ s. IsSome ((seen_of self.now).legs.row s.point)) }
         ensures { OnOk result (AddsOthers own (Member (offers_at self.now last first)) list.old.items list.new.items) }
@@ -531,13 +539,13 @@ impl<'a> Many<'a> {
         }
     }
 
-    /// The same, of a moment.
+    /// Adds the number of a moment, if it may come by a time, but not the number that is left out.
     fn add_in_time(
         &self,
         list: &mut Vec<u32>,
         own: u32,
         last: Option<u64>,
-        side: Side,
+        side: PointSide,
     ) -> Result<(), OutOfMemory>
         requires { IsSome ((seen_of self.now).legs.row side.point) }
         ensures { OnOk result (AddsOthers own (Member (offers_at self.now last (Some side))) list.old.items list.new.items) }
@@ -551,7 +559,7 @@ impl<'a> Many<'a> {
     }
 
     /// Adds the numbers of the moments that are next to one of a row.
-    fn add_after(&self, list: &mut Vec<u32>, own: u32, side: Side) -> Result<(), OutOfMemory>
+    fn add_after(&self, list: &mut Vec<u32>, own: u32, side: PointSide) -> Result<(), OutOfMemory>
         requires { IsSome ((seen_of self.now).legs.row side.point) }
         ensures { OnOk result (AddsOthers own (Member (nexts_of self.now (moment_at_side self.now side))) list.old.items list.new.items) }
     {
@@ -565,8 +573,9 @@ impl<'a> Many<'a> {
         Ok(())
     }
 
-    /// Whether a moment of another thread that is later than one of a row is the first such one of its thread.
-    fn is_first_later(&self, side: Side, first: Side) -> bool
+    /// Whether a moment of another thread that is later than one of a row is the first such one of
+    /// its thread.
+    fn is_first_later(&self, side: PointSide, first: PointSide) -> bool
         requires side { IsSome ((seen_of self.now).legs.row side.point) }
         requires first { IsSome ((seen_of self.now).legs.row first.point) }
         ensures { result ≡ is_first_later self.now side first }
@@ -576,8 +585,9 @@ impl<'a> Many<'a> {
         !own && early
     }
 
-    /// Whether a moment of another thread, if there is one, isn't later than one of a row: its slice doesn't begin after the other one's ends.
-    fn is_none_late(&self, side: Side, before: Option<Side>) -> bool
+    /// Whether a moment of another thread, if there is one, isn't later than one of a row: its
+    /// slice doesn't begin after the other one's ends.
+    fn is_none_late(&self, side: PointSide, before: Option<PointSide>) -> bool
         requires side { IsSome ((seen_of self.now).legs.row side.point) }
         requires before { IfSome before (λ s. IsSome ((seen_of self.now).legs.row s.point)) }
         ensures { result ≡ none_late self.now side before }
@@ -588,13 +598,14 @@ impl<'a> Many<'a> {
         }
     }
 
-    /// Adds the number of a moment that is later than one of a row, if it is the first such one of another thread.
+    /// Adds the number of a moment that is later than one of a row, if it is the first such one of
+    /// another thread.
     fn add_later(
         &self,
         list: &mut Vec<u32>,
         own: u32,
-        side: Side,
-        first: Side,
+        side: PointSide,
+        first: PointSide,
     ) -> Result<(), OutOfMemory>
         requires side { IsSome ((seen_of self.now).legs.row side.point) }
         requires first { IsSome ((seen_of self.now).legs.row first.point) }
@@ -607,13 +618,14 @@ impl<'a> Many<'a> {
         }
     }
 
-    /// Adds the numbers of the first moments of other threads that are later than one of a row, of those that may come by a time.
+    /// Adds the numbers of the first moments of other threads that are later than one of a row, of
+    /// those that may come by a time.
     fn add_begun(
         &self,
         begins: &Begins,
         list: &mut Vec<u32>,
         own: u32,
-        side: Side,
+        side: PointSide,
         last: Option<u64>,
     ) -> Result<(), OutOfMemory>
         requires row { IsSome ((seen_of self.now).legs.row side.point) }
@@ -628,7 +640,8 @@ impl<'a> Many<'a> {
         Ok(())
     }
 
-    /// The same of the moment after the row that leads from a point, if it is one with the thread's next one.
+    /// Adds the numbers of the first later moments of other threads, for the moment after the row
+    /// that leads from a point, if that is one with the thread's next moment.
     fn add_merged(&self, list: &mut Vec<u32>, own: u32, point: u32) -> Result<(), OutOfMemory>
         requires { point < points_in self.now }
         ensures { OnOk result (AddsOthers own (Member (merged_nexts self.now point)) list.old.items list.new.items) }
@@ -637,7 +650,7 @@ impl<'a> Many<'a> {
             self.add_after(
                 list,
                 own,
-                Side {
+                PointSide {
                     point,
                     is_after: true,
                 },
@@ -647,7 +660,8 @@ impl<'a> Many<'a> {
         }
     }
 
-    /// The same of the moment after the row that leads to a point, if it is one with the thread's next one.
+    /// Adds the numbers of the first later moments of other threads, for the moment after the row
+    /// that leads to a point, if that is one with the thread's next moment.
     fn add_point(&self, list: &mut Vec<u32>, own: u32, point: u32) -> Result<(), OutOfMemory>
         requires { point < points_in self.now }
         ensures { OnOk result (AddsOthers own (Member (point_nexts self.now point)) list.old.items list.new.items) }
@@ -659,8 +673,9 @@ impl<'a> Many<'a> {
         }
     }
 
-    /// The same of all moments that go by the number of a row's moment.
-    fn add_side(&self, list: &mut Vec<u32>, own: u32, side: Side) -> Result<(), OutOfMemory>
+    /// Adds the numbers of the first later moments of other threads, for all moments that go by the
+    /// number of a row's moment.
+    fn add_side(&self, list: &mut Vec<u32>, own: u32, side: PointSide) -> Result<(), OutOfMemory>
         requires { IsSome ((seen_of self.now).legs.row side.point) }
         ensures { OnOk result (AddsOthers own (Member (side_nexts self.now side)) list.old.items list.new.items) }
     {
@@ -671,7 +686,8 @@ impl<'a> Many<'a> {
         Ok(())
     }
 
-    /// The same of all moments that are one with the end.
+    /// Adds the numbers of the first later moments of other threads, for all moments that are one
+    /// with the end.
     fn add_ends(&self, list: &mut Vec<u32>, own: u32) -> Result<(), OutOfMemory>
         ensures { OnOk result (AddsOthers own (Member (ends_to self.now (length self.now.threads))) list.old.items list.new.items) }
     {
@@ -681,7 +697,8 @@ impl<'a> Many<'a> {
         Ok(())
     }
 
-    /// The same of the moment after a thread's last row.
+    /// Adds the numbers of the first later moments of other threads, for the moment after a
+    /// thread's last row.
     fn add_last(&self, list: &mut Vec<u32>, own: u32, thread: u32) -> Result<(), OutOfMemory>
         requires { thread < length self.now.threads }
         ensures { OnOk result (AddsOthers own (Member (last_nexts self.now thread (length (rows_of self.now thread)))) list.old.items list.new.items) }
@@ -695,7 +712,8 @@ impl<'a> Many<'a> {
         }
     }
 
-    /// Adds all numbers next to one to a list: those that a later moment has, with none between. They come in no order, and a number may come more than once.
+    /// Adds all numbers next to one to a list: those that a later moment has, with none between.
+    /// They come in no order, and a number may come more than once.
     pub fn add_nexts(&self, number: u32, list: &mut Vec<u32>) -> Result<(), OutOfMemory>
         requires { number ≤ (seen_of self.now).moments.end }
         ensures { OnOk result (AddsNexts (seen_of self.now).moments number list.old.items list.new.items) }
@@ -706,12 +724,12 @@ impl<'a> Many<'a> {
         }
     }
 
-    /// Whether the row falls between a number and one that is next to it. Between the moments of a row that is no call only that row falls, and no row that
-    /// can't write falls anywhere.
-    pub fn falls(&self, row: u32, m: u32, w: u32) -> bool
+    /// Whether the row may act between a number and one that is next to it. Between the moments of
+    /// a row that is no call only that row may act, and no row that can't write may act anywhere.
+    pub fn may_act(&self, row: u32, m: u32, w: u32) -> bool
         requires row { IsSome ((seen_of self.now).legs.row row) }
         requires next { (seen_of self.now).moments.next m w ≡ true }
-        ensures { result ≡ (seen_of self.now).moments.falls row m w }
+        ensures { result ≡ (seen_of self.now).moments.may_act row m w }
     {
         let stores = self.points.stores(row);
         let past = self.is_past(row, m);
@@ -722,13 +740,13 @@ impl<'a> Many<'a> {
         }
     }
 
-    /// Whether the dark falls between a number and one that is next to it.
-    pub fn is_dark_between(&self, m: u32, w: u32) -> bool
+    /// Whether the untraced prefix may act between a number and one that is next to it.
+    pub fn is_untraced_between(&self, m: u32, w: u32) -> bool
         requires { (seen_of self.now).moments.next m w ≡ true }
-        ensures { result ≡ (seen_of self.now).moments.dark m w }
+        ensures { result ≡ (seen_of self.now).moments.untraced m w }
     {
         let _ = &self.points;
-        let past = self.is_dark_past(m);
+        let past = self.is_untraced_past(m);
         let own = self.row_between(m, w).is_some();
         neither(own, past)
     }

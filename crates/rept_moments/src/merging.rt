@@ -12,7 +12,7 @@ ghost use Rattle.rept_moments.specs.Writers.{writers_to};
 ghost use Rattle.rept_moments.specs.Merging.{rest_from, merged_at};
 
 use crate::points::Points;
-use crate::side::Side;
+use crate::side::PointSide;
 use crate::writing::neither;
 use rept_crossing::{Rest, Writers};
 use std::alloc::{AllocError as OutOfMemory, Global};
@@ -23,7 +23,7 @@ fn rest_end(points: &Points<'_>, point: u32) -> Option<u64>
     ensures { result ≡ rest_from points.now (row_on points.now point) }
 {
     if points.leads(point) {
-        points.end(Side {
+        points.end(PointSide {
             point,
             is_after: false,
         })
@@ -32,7 +32,8 @@ fn rest_end(points: &Points<'_>, point: u32) -> Option<u64>
     }
 }
 
-/// Whether the moment after a row is one with the thread's next one: nothing that may write falls between.
+/// Whether the moment after a row is one with the thread's next one: nothing that may write may act
+/// between.
 fn is_merged(points: &Points<'_>, writers: &Writers, point: u32, thread: u32) -> bool
     requires row { IsRow points.now (row_on points.now point) }
     requires inside { point + 1 < points_in points.now }
@@ -41,14 +42,14 @@ fn is_merged(points: &Points<'_>, writers: &Writers, point: u32, thread: u32) ->
     requires writers { IsPermutation (writers_to points.now (points_in points.now)) writers.now }
     ensures { result ≡ is_still points.now (stretch (after (row_on points.now point)) (next_point points.now (row_on points.now point))) }
 {
-    let from = points.begin(Side {
+    let from = points.begin(PointSide {
         point,
         is_after: true,
     });
     let to = rest_end(points, point + 1);
-    let dark = points.is_dark_from(from);
+    let untraced = points.is_untraced_from(from);
     let crossed = writers.is_crossed(Rest { thread, from, to });
-    neither(dark, crossed)
+    neither(untraced, crossed)
 }
 
 /// By each point, whether the moment after its row is one with the thread's next one.
@@ -68,7 +69,7 @@ pub fn merged(
     Ok(merged)
 }
 
-/// The same of one point.
+/// Whether the moment after the row of one point is one with the thread's next one.
 fn is_merged_at(points: &Points<'_>, writers: &Writers, point: u32) -> bool
     requires inside { point < points_in points.now }
     requires small { point < 66560 }

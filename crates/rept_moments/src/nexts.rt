@@ -1,4 +1,5 @@
-//! By which time a moment must be able to come to be next to one, and numbers of moments that are added to others.
+//! By which time a moment must be able to come to be next to one, and numbers of moments that are
+//! added to others.
 
 ghost use Rattle.std.specs.Prelude.{◌≡◌, [], ◌∷◌, IfSome, IsSome, OnOk};
 ghost use Rattle.rept_order.specs.Legs.{leg_row};
@@ -7,11 +8,11 @@ ghost use Rattle.rept_crossing.specs.Writers.{not_past};
 ghost use Rattle.rept_moments.specs.Nexts.{end_with, AddsOthers, Member};
 
 use crate::points::Points;
-use crate::side::Side;
+use crate::side::PointSide;
 use std::alloc::AllocError as OutOfMemory;
 
-/// Whether a moment is later than one, and by which time one must be able to come to be next to it: the least end of the slices of the later ones, where one is
-/// known.
+/// Whether a moment is later than one, and by which time one must be able to come to be next to it:
+/// the least end of the slices of the later ones, where one is known.
 #[derive(Clone, Copy)]
 pub struct Later {
     /// Whether there is one.
@@ -44,7 +45,7 @@ pub fn sooner(one: Option<u64>, other: Option<u64>) -> Option<u64>
 }
 
 /// With one more moment.
-pub fn with_end(points: &Points<'_>, first: Option<Side>, later: Later) -> Later
+pub fn with_end(points: &Points<'_>, first: Option<PointSide>, later: Later) -> Later
     requires { IfSome first (λ s. IsSome (leg_row points.now s.point)) }
     ensures { result ≡ end_with points.now first later }
 {

@@ -4,18 +4,19 @@ ghost use Rattle.std.specs.Prelude.{◌≡◌, ◌∷◌, [], None, Some, ◌<�
 ghost use Rattle.rept_moments.specs.Points.{by_point};
 ghost use Rattle.rept_moments.specs.Numbering.{find, at_place, Numbered};
 
-use crate::side::Side;
+use crate::side::PointSide;
 use std::alloc::{AllocError as OutOfMemory, Global};
 use std::marker::Model;
 
-/// Numbers for moments of rows, from 0 on. Contracts see the moments that have one, the last one first, and how many points there are.
+/// Numbers for moments of rows, from 0 on. Contracts see the moments that have one, the last one
+/// first, and how many points there are.
 #[derive(Drop)]
 pub struct Numbers {
     /// by points
     before: Vec<Option<u32>>,
     after: Vec<Option<u32>>,
     /// by numbers
-    list: Vec<Side>,
+    list: Vec<PointSide>,
 }
 
 impl Model for Numbers {
@@ -69,7 +70,7 @@ impl Numbers {
     }
 
     /// The number of the moment, if it has one.
-    pub fn find(&self, side: Side) -> Option<u32>
+    pub fn find(&self, side: PointSide) -> Option<u32>
         requires { side.point < self.now.points }
         ensures { result ≡ find self.now.list side }
     {
@@ -81,7 +82,7 @@ impl Numbers {
     }
 
     /// The moment of the number, if there is one.
-    pub fn at(&self, number: u32) -> Option<Side>
+    pub fn at(&self, number: u32) -> Option<PointSide>
         ensures is { result ≡ at_place self.now.list number }
         ensures inside { IfSome result (λ s. s.point < self.now.points) }
     {
@@ -92,7 +93,7 @@ impl Numbers {
     }
 
     /// Gives the moment the next number.
-    pub fn add(&mut self, side: Side) -> Result<(), OutOfMemory>
+    pub fn add(&mut self, side: PointSide) -> Result<(), OutOfMemory>
         requires inside { side.point < self.old.points }
         requires few { length self.old.list < 2 ^ 32 }
         ensures { OnOk result (self.new ≡ record { points = self.old.points; list = side ∷ self.old.list }) }

@@ -5,11 +5,11 @@ ghost use Rattle.rept_moments.specs.Points.{points_in};
 ghost use Rattle.rept_moments.specs.Ordering.{side, timed, timed_to, by_time, in_time};
 
 use crate::points::Points;
-use crate::side::{Side, Timed};
+use crate::side::{PointSide, Timed};
 use std::alloc::{AllocError as OutOfMemory, Global};
 
 /// A moment of a row, with its time.
-fn with_time(points: &Points<'_>, side: Side) -> Timed
+fn with_time(points: &Points<'_>, side: PointSide) -> Timed
     requires { side.point < points_in points.now }
     ensures { result ≡ timed points.now side }
 {
@@ -26,14 +26,14 @@ fn add_row(list: &mut Vec<Timed>, points: &Points<'_>, point: u32) -> Result<(),
 {
     list.push(with_time(
         points,
-        Side {
+        PointSide {
             point,
             is_after: false,
         },
     ))?;
     list.push(with_time(
         points,
-        Side {
+        PointSide {
             point,
             is_after: true,
         },

@@ -9,16 +9,16 @@ ghost use Rattle.rept_order.specs.Legs.{points_before, leg_row};
 ghost use Rattle.rept_order.specs.Moments.{stores};
 ghost use Rattle.rept_order.specs.Ordered.{course_in};
 ghost use Rattle.rept_order.specs.Runs.{edge_event, moment_named};
-ghost use Rattle.rept_order.specs.Times.{begin_of, dark_before, not_later};
+ghost use Rattle.rept_order.specs.Times.{begin_of, untraced_before, not_later};
 ghost use Rattle.rept_course.specs.Numbered.{row_on};
 ghost use Rattle.rept_moments.specs.Begins.{stands_by};
 ghost use Rattle.rept_moments.specs.Edges.{edges_at, edges_in, times_at};
-ghost use Rattle.rept_moments.specs.Merging.{dark_from};
+ghost use Rattle.rept_moments.specs.Merging.{untraced_from};
 ghost use Rattle.rept_moments.specs.Ordering.{event_at, moment_at_side};
 ghost use Rattle.rept_moments.specs.Points.{by_point, place_on, points_in};
 ghost use Rattle.rept_moments.specs.Writers.{end_of};
 
-use crate::side::{Place, Side};
+use crate::side::{PointOfThread, PointSide};
 use crate::writing::writes_memory;
 use rept_isa::StepRow;
 use rept_order::{Edge, Moment, Order};
@@ -26,25 +26,28 @@ use rept_steps::Run;
 use std::alloc::{AllocError as OutOfMemory, Global};
 use std::marker::Model;
 
-/// The points of a run, thread by thread: the points of a thread are before each of its rows, and after the last one. Contracts see the course of the run.
+/// The points of a run, thread by thread: the points of a thread are before each of its rows, and
+/// after the last one. Contracts see the course of the run.
 #[derive(Drop)]
 pub struct Points<'a> {
     run: &'a Run,
-    places: Vec<Place>,
+    places: Vec<PointOfThread>,
     /// the first point of each thread
     starts: Vec<u32>,
     /// of each point
     edges: Vec<Edges>,
 }
 
-/// The time before which a moment of a row doesn't come, and the end of its slice, where it is in one.
+/// The time before which a moment of a row doesn't come, and the end of its slice, where it is in
+/// one.
 #[derive(Clone, Copy)]
 pub struct Times {
     pub begin: u64,
     pub end: Option<u64>,
 }
 
-/// The times of the moment before a row, and of that after it, and whether the row writes memory, whatever is known of it.
+/// The times of the moment before a row, and of that after it, and whether the row writes memory,
+/// whatever is known of it.
 #[derive(Clone, Copy)]
 pub struct Edges {
     pub before: Times,
@@ -74,7 +77,7 @@ pub fn row_count(run: &Run, thread: usize) -> u32
 }
 
 /// Adds the points of a thread.
-fn add_thread(places: &mut Vec<Place>, run: &Run, thread: usize) -> Result<(), OutOfMemory>
+fn add_thread(places: &mut Vec<PointOfThread>, run: &Run, thread: usize) -> Result<(), OutOfMemory>
     requires inside { thread < length run.now.threads }
     requires few { length run.now.threads ≤ 66560 }
     requires before { places.old.items ≡ by_point (place_on (course_of run.now)) (points_before run.now.threads thread) }
@@ -82,7 +85,7 @@ fn add_thread(places: &mut Vec<Place>, run: &Run, thread: usize) -> Result<(), O
 {
     let rows = row_count(run, thread);
     for step in 0..rows + 1 {
-        places.push(Place {
+        places.push(PointOfThread {
             thread: thread as u32,
             step,
         })?;
@@ -91,7 +94,7 @@ fn add_thread(places: &mut Vec<Place>, run: &Run, thread: usize) -> Result<(), O
 }
 
 /// The points of all threads.
-fn places(alloc: Global, run: &Run) -> Result<Vec<Place>, OutOfMemory>
+fn places(alloc: Global, run: &Run) -> Result<Vec<PointOfThread>, OutOfMemory>
     requires { length run.now.threads ≤ 66560 }
     ensures { IfOk result (λ v. v.items ≡ by_point (place_on (course_of run.now)) (points_in (course_of run.now))) }
 {
@@ -118,7 +121,7 @@ fn starts(alloc: Global, run: &Run) -> Result<Vec<u32>, OutOfMemory>
 }
 
 /// The row that leads from the point, if one does.
-fn row_from(run: &Run, place: Place) -> Option<StepRow>
+fn row_from(run: &Run, place: PointOfThread) -> Option<StepRow>
     ensures { result ≡ row_at (course_of run.now) (row_of place.thread place.step) }
 {
     match run.threads.all().get(place.thread as usize) {
@@ -146,7 +149,7 @@ fn times_of(order: Order<'_>, edge: Edge) -> Times
 }
 
 /// Whether the row that leads from a point, if one does, writes memory, whatever is known of it.
-fn stores_at(run: &Run, place: Place) -> bool
+fn stores_at(run: &Run, place: PointOfThread) -> bool
     ensures { result ≡ stores (course_of run.now) (row_of place.thread place.step) }
 {
     match row_from(run, place) {
@@ -156,12 +159,12 @@ fn stores_at(run: &Run, place: Place) -> bool
 }
 
 /// The times of both moments of the row that leads from a point, and whether it writes memory.
-fn edges_of(run: &Run, order: Order<'_>, place: Place) -> Edges
+fn edges_of(run: &Run, order: Order<'_>, place: PointOfThread) -> Edges
     requires sound { IsSoundCourse (course_in order) }
     requires run { course_in order ≡ course_of run.now }
     ensures { result ≡ edges_in (course_in order.entry) place }
 {
-    let Place { thread, step } = place;
+    let PointOfThread { thread, step } = place;
     Edges {
         stores: stores_at(run, place),
         before: times_of(
@@ -188,7 +191,7 @@ fn edge_times(
     alloc: Global,
     run: &Run,
     order: Order<'_>,
-    places: &[Place],
+    places: &[PointOfThread],
 ) -> Result<Vec<Edges>, OutOfMemory>
     requires sound { IsSoundCourse (course_in order) }
     requires run { course_in order ≡ course_of run.now }
@@ -203,7 +206,7 @@ fn edge_times(
 }
 
 /// Whether the one moment of a thread is the other one, or comes before it.
-fn stands_by(one: Side, other: Side) -> bool
+fn stands_by(one: PointSide, other: PointSide) -> bool
     ensures { result ≡ stands_by one other }
 {
     if one.point == other.point {
@@ -214,7 +217,8 @@ fn stands_by(one: Side, other: Side) -> bool
 }
 
 impl<'a> Points<'a> {
-    /// The points of a sound run that has at most 65,536 rows and 1,024 threads. It takes memory for one entry a point.
+    /// The points of a sound run that has at most 65,536 rows and 1,024 threads. It takes memory
+    /// for one entry a point.
     pub fn new(alloc: Global, run: &'a Run) -> Result<Points<'a>, OutOfMemory>
         requires sound { IsSoundCourse (course_of run.now) }
         requires few { points_in (course_of run.now) ≤ 66560 }
@@ -241,7 +245,7 @@ impl<'a> Points<'a> {
     }
 
     /// The thread and the number in it.
-    pub fn place(&self, point: u32) -> Place
+    pub fn place(&self, point: u32) -> PointOfThread
         requires { point < points_in self.now }
         ensures row { row_of result.thread result.step ≡ row_on self.now point }
         ensures value { result ≡ place_on self.now point }
@@ -313,7 +317,8 @@ impl<'a> Points<'a> {
         point + 1
     }
 
-    /// Whether the row that leads from the point, if one does, writes memory, whatever is known of it.
+    /// Whether the row that leads from the point, if one does, writes memory, whatever is known of
+    /// it.
     pub fn stores(&self, point: u32) -> bool
         ensures { result ≡ stores self.now (row_on self.now point) }
     {
@@ -324,11 +329,11 @@ impl<'a> Points<'a> {
     }
 
     /// The moment before or after a row.
-    pub fn moment(&self, side: Side) -> Moment
+    pub fn moment(&self, side: PointSide) -> Moment
         requires { side.point < points_in self.now }
         ensures { moment_named result ≡ moment_at_side self.now side }
     {
-        let Place { thread, step } = self.place(side.point);
+        let PointOfThread { thread, step } = self.place(side.point);
         if side.is_after {
             Moment::After { thread, step }
         } else {
@@ -337,7 +342,7 @@ impl<'a> Points<'a> {
     }
 
     /// The times of a moment.
-    fn times(&self, side: Side) -> Times
+    fn times(&self, side: PointSide) -> Times
         requires { side.point < points_in self.now }
         ensures { result ≡ times_at self.now side }
     {
@@ -347,7 +352,7 @@ impl<'a> Points<'a> {
     }
 
     /// The time before which the moment doesn't come.
-    pub fn begin(&self, side: Side) -> u64
+    pub fn begin(&self, side: PointSide) -> u64
         requires { side.point < points_in self.now }
         ensures { result ≡ begin_of self.now (event_at self.now side) }
     {
@@ -355,15 +360,16 @@ impl<'a> Points<'a> {
     }
 
     /// The end of its slice, where it is in one.
-    pub fn end(&self, side: Side) -> Option<u64>
+    pub fn end(&self, side: PointSide) -> Option<u64>
         requires { side.point < points_in self.now }
         ensures { result ≡ end_of (event_slice self.now (event_at self.now side)) }
     {
         self.times(side).end
     }
 
-    /// Whether a moment of a row isn't later than another one: of one thread by their places, of two by the times of their slices.
-    pub fn is_not_later(&self, one: Side, other: Side) -> bool
+    /// Whether a moment of a row isn't later than another one: of one thread by their places, of
+    /// two by the times of their slices.
+    pub fn is_not_later(&self, one: PointSide, other: PointSide) -> bool
         requires one { IsSome (leg_row self.now one.point) }
         requires other { IsSome (leg_row self.now other.point) }
         ensures { result ≡ not_later self.now (moment_at_side self.now one) (moment_at_side self.now other) }
@@ -379,29 +385,29 @@ impl<'a> Points<'a> {
     }
 
     /// Whether there are writers that aren't told.
-    pub fn is_dark(&self) -> bool
-        ensures { result ≡ is_some self.now.dark }
+    pub fn is_untraced(&self) -> bool
+        ensures { result ≡ is_some self.now.untraced }
     {
-        self.run.dark.is_some()
+        self.run.untraced.is_some()
     }
 
     /// Whether all that isn't told, if there is any, happens before a moment of a row.
-    pub fn is_dark_past(&self, side: Side) -> bool
+    pub fn is_untraced_past(&self, side: PointSide) -> bool
         requires { side.point < points_in self.now }
-        ensures { result ≡ (not (is_some self.now.dark) || dark_before self.now (moment_at_side self.now side)) }
+        ensures { result ≡ (not (is_some self.now.untraced) || untraced_before self.now (moment_at_side self.now side)) }
     {
-        match self.run.dark {
-            Some(dark) => dark < self.begin(side),
+        match self.run.untraced {
+            Some(untraced) => untraced < self.begin(side),
             None => true,
         }
     }
 
     /// Whether something that isn't told may happen at the time or later.
-    pub fn is_dark_from(&self, time: u64) -> bool
-        ensures { result ≡ dark_from self.now time }
+    pub fn is_untraced_from(&self, time: u64) -> bool
+        ensures { result ≡ untraced_from self.now time }
     {
-        match self.run.dark {
-            Some(dark) => time <= dark,
+        match self.run.untraced {
+            Some(untraced) => time <= untraced,
             None => false,
         }
     }

@@ -1,10 +1,10 @@
 //! The rows of a course, as sets of values are followed along them.
 
-use crate::course::Course;
+use crate::course::NumberedRun;
 use rept_isa::StepRow;
 use rept_span::Trail;
 
-impl<'a> Trail for Course<'a> {
+impl<'a> Trail for NumberedRun<'a> {
     ghost use Rattle.rept_moments.specs.Courses.{seen_in};
 
     ghost legs = { λ c. (seen_in c).legs };

@@ -7,22 +7,22 @@ ghost use Rattle.rept_moments.specs.Points.{points_in};
 ghost use Rattle.rept_moments.specs.Writers.{writer_of, writers_to};
 
 use crate::points::Points;
-use crate::side::Side;
-use rept_crossing::{Writer, Writers};
+use crate::side::PointSide;
+use rept_crossing::{TimedWriter, Writers};
 use std::alloc::{AllocError as OutOfMemory, Global};
 
 /// The row with its times.
-fn with_times(points: &Points<'_>, point: u32) -> Writer
+fn with_times(points: &Points<'_>, point: u32) -> TimedWriter
     requires { point < points_in points.now }
     ensures { result ≡ writer_of points.now (row_on points.now point) }
 {
-    let end = points.end(Side {
+    let end = points.end(PointSide {
         point,
         is_after: true,
     });
-    Writer {
+    TimedWriter {
         thread: points.thread(point),
-        begin: points.begin(Side {
+        begin: points.begin(PointSide {
             point,
             is_after: false,
         }),
@@ -34,7 +34,7 @@ fn with_times(points: &Points<'_>, point: u32) -> Writer
 }
 
 /// All rows that may write, thread by thread.
-fn listed(alloc: Global, points: &Points<'_>) -> Result<Vec<Writer>, OutOfMemory>
+fn listed(alloc: Global, points: &Points<'_>) -> Result<Vec<TimedWriter>, OutOfMemory>
     ensures { IfOk result (λ v. v.items ≡ writers_to points.now (points_in points.now)) }
 {
     let mut list = Vec::new(alloc);

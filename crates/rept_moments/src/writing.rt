@@ -1,4 +1,4 @@
-//! Which instructions write memory, and when what writes falls between.
+//! Which instructions write memory, and when what writes may act between.
 
 ghost use Rattle.std.specs.Prelude.{◌≡◌, ◌&&◌, not};
 ghost use Rattle.rept_order.specs.Moments.{atomic_writes, writes_memory};

@@ -2,7 +2,7 @@
 use Rattle.std.proofs.Common.{◌≡◌, ℕ, zero, suc, ◌+◌, ◌-◌, ◌<◌, ◌≤◌, ◌⊎◌, true, false, List, [], ◌∷◌, length, Option, Some, None, is_some, inl, inr, refl, sym, ap, subst, ◌∙◌, arith, get_or, slice_get}
 use Rattle.std.proofs.lemmas.Bool.{cases_lt, cases_eq, false≢true}
 use Rattle.std.proofs.lemmas.Option.{slice_get-get_or, slice_get_within}
-use Rattle.rept_nearest.specs.declared.found.Found.{Found}
+use Rattle.rept_nearest.specs.declared.found.NearestValue.{NearestValue}
 use Rattle.rept_nearest.specs.Nets.{Links, IsNextLinked, IsWithinLinks, IsNearest}
 use Rattle.rept_nearest.specs.Nets.IsWithinLinks.{here, onward}
 use Rattle.rept_nearest.specs.Reached.{Reached, IsAmong, HasValue, AddsNumber, ReachesMore, GrowsFrom, IsBeside, GrowsBeside, IsBall}
@@ -43,7 +43,7 @@ module _ (L : Links) (from : ℕ) where
 
   module _ (list : List ℕ) (start links : ℕ) (ball : IsBall L from list start links) where
     -- one that has a value is the nearest
-    pub ball_found : (found : Found) → HasValue L list start links (Some found) → IsNearest L from (Some found)
+    pub ball_found : (found : NearestValue) → HasValue L list start links (Some found) → IsNearest L from (Some found)
     ball_found found (among, value, is) = (value, rw is (ball.within among.0 found.number among.1), rw is ball.earlier)
 
     -- where nothing was added, that is all
@@ -171,6 +171,6 @@ added_ball L from a b early none (inl (there, same)) = let lt = slice_get_within
 added_ball L from a b early none (inr same) = rw (same, none) (first_ball L from early)
 
 -- a search that found nothing
-pub has_none : (L : Links) (list : List ℕ) (start links : ℕ) (x : Option Found) → is_some x ≡ false → HasValue L list start links x → HasValue L list start links None
+pub has_none : (L : Links) (list : List ℕ) (start links : ℕ) (x : Option NearestValue) → is_some x ≡ false → HasValue L list start links x → HasValue L list start links None
 has_none L list start links None e h = h
 has_none L list start links (Some found) e h = cc

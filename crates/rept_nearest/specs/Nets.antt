@@ -1,6 +1,6 @@
 -- Numbers that are linked, and the nearest of them that has a value. This project's own.
 use Rattle.std.specs.Prelude.{◌≡◌, ℕ, suc, ◌<◌, ◌≤◌, Bool, true, false, Option, Some, None}
-use Rattle.rept_nearest.specs.declared.found.Found.{Found}
+use Rattle.rept_nearest.specs.declared.found.NearestValue.{NearestValue}
 
 -- the numbers from 0 to `last`, which of them have a value, and to which other ones each is linked
 pub record Links : Type 0 where
@@ -23,6 +23,6 @@ abbrev pub IsEmptyBelow : Links → ℕ → ℕ → Type 0
 IsEmptyBelow L from n = (k m : ℕ) → k < n → IsWithinLinks L from k m → L.value m ≡ None
 
 -- a number with a value, to which as few links lead as to any; or no links lead to one
-abbrev pub IsNearest : Links → ℕ → Option Found → Type 0
+abbrev pub IsNearest : Links → ℕ → Option NearestValue → Type 0
 IsNearest L from None = (k m : ℕ) → IsWithinLinks L from k m → L.value m ≡ None
 IsNearest L from (Some found) = (L.value found.number ≡ Some found.value) × IsWithinLinks L from found.links found.number × IsEmptyBelow L from found.links

@@ -1,6 +1,6 @@
 -- The numbers that a search has reached, in their order. This project's own.
 use Rattle.std.specs.Prelude.{◌≡◌, ℕ, ◌+◌, ◌<◌, ◌≤◌, ◌⊎◌, Bool, true, false, List, [], ◌∷◌, ◌++◌, length, Option, Some, None, slice_get, slice_index_or, sum_by}
-use Rattle.rept_nearest.specs.declared.found.Found.{Found}
+use Rattle.rept_nearest.specs.declared.found.NearestValue.{NearestValue}
 use Rattle.rept_nearest.specs.Nets.{Links, IsWithinLinks, IsEmptyBelow}
 
 -- numbers below a bound
@@ -19,7 +19,8 @@ one_if_clear false = 1
 abbrev pub AreClear : ℕ → List Bool → Type 0
 AreClear count marks = (length marks ≡ count) × (sum_by one_if_clear marks ≡ count) × ((k : ℕ) → slice_index_or marks k false ≡ false)
 
--- the numbers whose marks are set are those of the list, and what can still be added fits into its capacity
+-- the numbers whose marks are set are those of the list, and what can still be added fits into its
+-- capacity
 pub record AreMarked (marks : List Bool) (list : List ℕ) (capacity : ℕ) : Type 0 where
   pub marked : (m : ℕ) → slice_index_or marks m false ≡ true → IsAmong list m
   pub among : (k m : ℕ) → slice_get list k ≡ Some m → slice_index_or marks m false ≡ true
@@ -35,7 +36,7 @@ abbrev pub AreWithin : Links → List ℕ → Type 0
 AreWithin L list = (k m : ℕ) → slice_get list k ≡ Some m → m ≤ L.last
 
 -- none from an index on has a value, or one has
-abbrev pub HasValue : Links → List ℕ → ℕ → ℕ → Option Found → Type 0
+abbrev pub HasValue : Links → List ℕ → ℕ → ℕ → Option NearestValue → Type 0
 HasValue L list start links None = (k m : ℕ) → start ≤ k → slice_get list k ≡ Some m → L.value m ≡ None
 HasValue L list start links (Some found) = IsAmong list found.number × (L.value found.number ≡ Some found.value) × (found.links ≡ links)
 
@@ -64,8 +65,8 @@ pub record GrowsBeside (L : Links) (old new : Reached) (start : ℕ) : Type 0 wh
   pub all : (k m w : ℕ) → start ≤ k → slice_get old.list k ≡ Some m → L.linked m w ≡ true → IsAmong new.list w
   pub only : (w : ℕ) → IsAmong new.list w → IsAmong old.list w ⊎ IsBeside L old.list w
 
--- They are all that so many links lead to, and none that fewer links lead to has a value. Those below an index have no value, and all that they are
--- linked to was reached.
+-- They are all that so many links lead to, and none that fewer links lead to has a value. Those
+-- below an index have no value, and all that they are linked to was reached.
 pub record IsBall (L : Links) (from : ℕ) (list : List ℕ) (start links : ℕ) : Type 0 where
   pub within : (k m : ℕ) → slice_get list k ≡ Some m → IsWithinLinks L from links m
   pub whole : (m : ℕ) → IsWithinLinks L from links m → IsAmong list m

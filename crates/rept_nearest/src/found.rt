@@ -2,7 +2,7 @@
 
 /// A number that has a value, and so many links away.
 #[derive(Clone, Copy, PartialEq, Eq, Debug)]
-pub struct Found {
+pub struct NearestValue {
     /// the number
     pub number: u32,
     /// its value

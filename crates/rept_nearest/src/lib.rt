@@ -6,6 +6,6 @@ pub mod net;
 mod reach;
 pub mod search;
 
-pub use found::Found;
+pub use found::NearestValue;
 pub use net::Net;
 pub use search::nearest;

@@ -3,7 +3,8 @@
 ghost use Rattle.std.specs.Prelude.{◌≡◌, ◌≤◌, ℕ, true};
 ghost use Rattle.rept_nearest.specs.Nets.{Links, IsNextLinked};
 
-/// The numbers from 0 to a last one, some of which have a value, and which of them are linked. `links` names all of it as functions.
+/// The numbers from 0 to a last one, some of which have a value, and which of them are linked.
+/// `links` names all of it as functions.
 pub trait Net {
     ghost links: { Self → Links };
 

@@ -25,7 +25,7 @@ impl Model for Reach {
     ghost invariant = { λ r. AreMarked r.marks.items r.list.items (vec_capacity r.list) };
 }
 
-/// So many marks that aren't set.
+/// A list of this many marks that aren't set.
 fn no_marks(alloc: Global, count: usize) -> Result<Vec<bool>, OutOfMemory>
     ensures { IfOk result (λ v. AreClear count v.items) }
 {

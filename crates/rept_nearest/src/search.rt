@@ -4,13 +4,13 @@ ghost use Rattle.std.specs.Prelude.{◌≡◌, ◌+◌, ◌<◌, ◌≤◌, IfOk
 ghost use Rattle.rept_nearest.specs.Nets.{IsNearest};
 ghost use Rattle.rept_nearest.specs.Reached.{AreWithin, IsBall, IsAmong, HasValue, ReachesMore, GrowsBeside, GrowsFrom};
 
-use crate::found::Found;
+use crate::found::NearestValue;
 use crate::net::Net;
 use crate::reach::Reach;
 use std::alloc::{AllocError as OutOfMemory, Global};
 
 /// The first number from index `start` on that has a value: it is so many links away.
-fn value_among<N: Net>(net: &N, reach: &Reach, start: usize, links: u32) -> Option<Found>
+fn value_among<N: Net>(net: &N, reach: &Reach, start: usize, links: u32) -> Option<NearestValue>
     requires { AreWithin (N.links net.now) reach.now.list }
     ensures { HasValue (N.links net.now) reach.now.list start links result }
 {
@@ -18,7 +18,7 @@ fn value_among<N: Net>(net: &N, reach: &Reach, start: usize, links: u32) -> Opti
     for k in start..end {
         let number = reach.at(k);
         if let Some(value) = net.value(number) {
-            return Some(Found {
+            return Some(NearestValue {
                 number,
                 value,
                 links,
@@ -61,7 +61,7 @@ fn add_beside<N: Net>(net: &N, reach: &mut Reach, start: usize)
 }
 
 /// The nearest number with a value, from the only one that was reached.
-fn search<N: Net>(net: &N, reach: &mut Reach, from: u32) -> Option<Found>
+fn search<N: Net>(net: &N, reach: &mut Reach, from: u32) -> Option<NearestValue>
     requires few { (N.links net.now).last < 4294967295 }
     requires bound { reach.old.bound ≡ (N.links net.now).last + 1 }
     requires ball { IsBall (N.links net.now) from reach.old.list 0 0 }
@@ -82,9 +82,14 @@ fn search<N: Net>(net: &N, reach: &mut Reach, from: u32) -> Option<Found>
     None
 }
 
-/// The nearest number with a value, by links from this one: none with a value is fewer links away. `None` comes exactly where no links lead to one.
-/// It takes room for one number each, and `OutOfMemory` says that this can't be had. This project's own.
-pub fn nearest<N: Net>(alloc: Global, net: &N, from: u32) -> Result<Option<Found>, OutOfMemory>
+/// The nearest number with a value, by links from this one: none with a value is fewer links away.
+/// `None` comes exactly where no links lead to one. It takes room for one number each, and
+/// `OutOfMemory` says that this can't be had. This project's own.
+pub fn nearest<N: Net>(
+    alloc: Global,
+    net: &N,
+    from: u32,
+) -> Result<Option<NearestValue>, OutOfMemory>
     requires few { (N.links net.now).last < 4294967295 }
     requires from { from ≤ (N.links net.now).last }
     ensures { IfOk result (λ found. IsNearest (N.links net.now) from found) }

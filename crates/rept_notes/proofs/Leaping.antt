@@ -1,4 +1,5 @@
--- Notes of bytes as notes of a front of these bytes, one list of notes after another, and what a table keeps.
+-- Notes of bytes as notes of a front of these bytes, one list of notes after another, and what a
+-- table keeps.
 use Rattle.std.proofs.Common.{◌≡◌, ℕ, zero, suc, ◌+◌, ◌-◌, ◌<◌, ◌≤◌, min, inl, inr, List, [], ◌∷◌, ◌++◌, length, drop, take, set, arith, refl, sym, ◌∙◌, ap, subst, length-drop, get_or, replicate, Bool}
 use Rattle.std.proofs.lemmas.List.{length-take, drop-drop, drop-take, drop_all, take-take, take_min, get_or-drop, get_or-take}
 use Rattle.std.proofs.lemmas.Option.{slice_get-get_or}
@@ -11,7 +12,7 @@ use Rattle.rept_notes.specs.Notes.{Note, HoldsNote, AreNotesThen, first_note, af
 use Rattle.rept_notes.specs.Found.{AreFound, AddsNotes}
 use Rattle.rept_notes.specs.Ahead.{IsAhead, AreLeaps, AreAhead}
 use Rattle.rept_notes.specs.declared.ahead.Ahead.{Ahead}
-use Rattle.rept_notes.specs.declared.note.Found.{Found}
+use Rattle.rept_notes.specs.declared.note.FoundNotes.{FoundNotes}
 use Rattle.rept_notes.proofs.NoteLemmas.{SoFar, one_more, at_most_one, shrinks, place_after, AreFound-then}
 
 pub one_more_ahead : (sought : Note → Bool) (offset : ℕ) (bytes : List ℕ) (ahead ahead' : Ahead) (note : Note)
@@ -25,7 +26,7 @@ one_more_ahead sought offset bytes ahead ahead' note a h n e more = record {
 }
 
 -- what was read ahead of a segment, after what was found before
-pub so_far_joined : (sought : Note → Bool) (offset : ℕ) (bytes : List ℕ) (ahead : Ahead) (found found' : Found) → IsAhead sought offset bytes ahead → ((notes : List Note) → AreFound ahead.found notes → AddsNotes found found' notes)
+pub so_far_joined : (sought : Note → Bool) (offset : ℕ) (bytes : List ℕ) (ahead : Ahead) (found found' : FoundNotes) → IsAhead sought offset bytes ahead → ((notes : List Note) → AreFound ahead.found notes → AddsNotes found found' notes)
     → SoFar sought offset bytes ahead.rest.now found found'
 so_far_joined sought offset bytes ahead found found' a join =
     let more = join (filter sought a.notes) a.found in

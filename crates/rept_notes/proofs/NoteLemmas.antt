@@ -11,7 +11,7 @@ use Rattle.rept_notes.specs.Notes.{Note, HoldsNote, AreNotesThen, AreNotes, Cuts
 use Rattle.rept_notes.specs.Found.{AreFound, AddsNotes, PassesSegment, CutsSegment, note_of, said_of}
 use Rattle.rept_notes.specs.Sought.{SaysOf, CountedNotes, counted, head}
 use Rattle.rept_notes.specs.declared.note.Note.{Note as CodeNote}
-use Rattle.rept_notes.specs.declared.note.Found.{Found}
+use Rattle.rept_notes.specs.declared.note.FoundNotes.{FoundNotes}
 use Rattle.rept_notes.specs.declared.fault.NotePastEnd.{NotePastEnd}
 
 -- what stands after notes is no longer than the bytes
@@ -48,30 +48,30 @@ or-head : (o : Option Note) (xs ys : List Note) → option_or (option_or o (head
 or-head None xs ys = head-append xs ys
 or-head (Some x) xs ys = refl
 
-pub Adds-nothing : (found : Found) → AddsNotes found found []
+pub Adds-nothing : (found : FoundNotes) → AddsNotes found found []
 Adds-nothing found = record { counted = omega arith; first = or-none (option_map note_of found.first) }
 
-pub Adds-then : (sought : Note → Bool) (a b c : Found) (front after : List Note) → AddsNotes a b (filter sought front) → AddsNotes b c (filter sought after) → AddsNotes a c (filter sought (front ++ after))
+pub Adds-then : (sought : Note → Bool) (a b c : FoundNotes) (front after : List Note) → AddsNotes a b (filter sought front) → AddsNotes b c (filter sought after) → AddsNotes a c (filter sought (front ++ after))
 Adds-then sought a b c front after p q = rw filter-append (record {
   counted = omega (arith, p.counted, q.counted, length-append (filter sought front) (filter sought after));
   first = q.first ∙ ap (λ o. option_or o (head (filter sought after))) p.first ∙ or-head (option_map note_of a.first) (filter sought front) (filter sought after);
 })
 
-pub AreFound-then : (sought : Note → Bool) (a b : Found) (front after : List Note) → AreFound a (filter sought front) → AddsNotes a b (filter sought after) → AreFound b (filter sought (front ++ after))
+pub AreFound-then : (sought : Note → Bool) (a b : FoundNotes) (front after : List Note) → AreFound a (filter sought front) → AddsNotes a b (filter sought after) → AreFound b (filter sought (front ++ after))
 AreFound-then sought a b front after p q = rw filter-append (record {
   counted = omega (arith, p.counted, q.counted, length-append (filter sought front) (filter sought after));
   first = q.first ∙ ap (λ o. option_or o (head (filter sought after))) p.first ∙ head-append (filter sought front) (filter sought after);
 })
 
 -- what was found, and what was found after
-pub joined : (found more found' : Found) → found'.count ≡ found.count + more.count → found'.first ≡ option_or found.first more.first → (notes : List Note) → AreFound more notes → AddsNotes found found' notes
+pub joined : (found more found' : FoundNotes) → found'.count ≡ found.count + more.count → found'.first ≡ option_or found.first more.first → (notes : List Note) → AreFound more notes → AddsNotes found found' notes
 joined found more found' count first notes are = record {
   counted = omega (arith, count, are.counted);
   first = ap (option_map note_of) first ∙ map-or note_of found.first more.first ∙ ap (option_or (option_map note_of found.first)) are.first;
 }
 
 -- a note that is sought
-pub added : (sought : Note → Bool) (found found' : Found) (note : CodeNote) → sought (note_of note) ≡ true → found'.count ≡ found.count + 1 → found'.first ≡ option_or found.first (Some note)
+pub added : (sought : Note → Bool) (found found' : FoundNotes) (note : CodeNote) → sought (note_of note) ≡ true → found'.count ≡ found.count + 1 → found'.first ≡ option_or found.first (Some note)
     → AddsNotes found found' (filter sought (note_of note ∷ []))
 added sought found found' note is count first = subst (λ b. AddsNotes found found' (cond b (note_of note ∷ []) [])) (sym is) (record {
   counted = omega (arith, count);
@@ -79,11 +79,11 @@ added sought found found' note is count first = subst (λ b. AddsNotes found fou
 })
 
 -- one that isn't
-pub not_added : (sought : Note → Bool) (found : Found) (note : CodeNote) → sought (note_of note) ≡ false → AddsNotes found found (filter sought (note_of note ∷ []))
+pub not_added : (sought : Note → Bool) (found : FoundNotes) (note : CodeNote) → sought (note_of note) ≡ false → AddsNotes found found (filter sought (note_of note ∷ []))
 not_added sought found note other = subst (λ b. AddsNotes found found (cond b (note_of note ∷ []) [])) (sym other) (Adds-nothing found)
 
 -- the notes of a segment so far
-pub record SoFar (sought : Note → Bool) (offset : ℕ) (bytes rest : List ℕ) (found found' : Found) : Type 0 where
+pub record SoFar (sought : Note → Bool) (offset : ℕ) (bytes rest : List ℕ) (found found' : FoundNotes) : Type 0 where
   pub notes : List Note
   pub before : AreNotesThen offset bytes notes rest
   pub adds : AddsNotes found found' (filter sought notes)
@@ -101,7 +101,7 @@ at_most_one sought note = either (sought note)
 pub shrinks : (rest rest' : List ℕ) → HoldsNote rest → rest' ≡ after_note rest → length rest' + 12 ≤ length rest
 shrinks rest rest' h e = rw (e, length-drop) (omega (arith, h.header))
 
-pub one_more_note : (sought : Note → Bool) (offset : ℕ) (bytes rest rest' : List ℕ) (a b c : Found) (note : Note)
+pub one_more_note : (sought : Note → Bool) (offset : ℕ) (bytes rest rest' : List ℕ) (a b c : FoundNotes) (note : Note)
     → SoFar sought offset bytes rest a b → HoldsNote rest → first_note (offset + (length bytes - length rest)) rest ≡ note → rest' ≡ after_note rest → AddsNotes b c (filter sought (note ∷ []))
     → SoFar sought offset bytes rest' a c
 one_more_note sought offset bytes rest rest' a b c note s h n e more = record {
@@ -113,13 +113,13 @@ one_more_note sought offset bytes rest rest' a b c note s h n e more = record {
 }
 
 -- the segments that are left, and the notes of those before
-pub record Through (sought : Note → Bool) (size : ℕ) (all left : List ElfSegment) (found : Found) : Type 0 where
+pub record Through (sought : Note → Bool) (size : ℕ) (all left : List ElfSegment) (found : FoundNotes) : Type 0 where
   pub notes : List Note
   pub have : (later : List Note) → HaveNotes size left later → HaveNotes size all (notes ++ later)
   pub cut : (offset : ℕ) → AreCutAt size left offset → AreCutAt size all offset
   pub are : AreFound found (filter sought notes)
 
-pub past_one : (sought : Note → Bool) (size : ℕ) (all : List ElfSegment) (s : ElfSegment) (left : List ElfSegment) (found found' : Found) (front : List Note)
+pub past_one : (sought : Note → Bool) (size : ℕ) (all : List ElfSegment) (s : ElfSegment) (left : List ElfSegment) (found found' : FoundNotes) (front : List Note)
     → Through sought size all (s ∷ left) found → IsInFile size s → AreNotes s.offset s.body front → AddsNotes found found' (filter sought front) → Through sought size all left found'
 past_one sought size all s left found found' front t inside are adds = record {
   notes = t.notes ++ front;
@@ -128,7 +128,7 @@ past_one sought size all s left found found' front t inside are adds = record {
   are = AreFound-then sought found found' t.notes front t.are adds;
 }
 
-pub past_segment : (sought : Note → Bool) (size : ℕ) (all segs : List ElfSegment) (i : ℕ) (s : ElfSegment) (found found' : Found)
+pub past_segment : (sought : Note → Bool) (size : ℕ) (all segs : List ElfSegment) (i : ℕ) (s : ElfSegment) (found found' : FoundNotes)
     → Through sought size all (note_segments (drop i segs)) found → slice_get segs i ≡ Some s → PassesSegment sought size s found found' → Through sought size all (note_segments (drop (i + 1) segs)) found'
 past_segment sought size all segs i s found found' t at p = either (is_note s) (subst (λ ss. Through sought size all (note_segments ss) found) (drop-slice_get segs i s at) t) p
   where
@@ -138,7 +138,7 @@ past_segment sought size all segs i s found found' t at p = either (is_note s) (
     either true u q = past_one sought size all s (note_segments (drop (i + 1) segs)) found found' q.1.0 u q.0 q.1.1 q.1.2
     either false u q = subst (Through sought size all (note_segments (drop (i + 1) segs))) (sym q) u
 
-pub cut_segment : (sought : Note → Bool) (size : ℕ) (all segs : List ElfSegment) (i : ℕ) (s : ElfSegment) (found : Found) (offset : ℕ)
+pub cut_segment : (sought : Note → Bool) (size : ℕ) (all segs : List ElfSegment) (i : ℕ) (s : ElfSegment) (found : FoundNotes) (offset : ℕ)
     → Through sought size all (note_segments (drop i segs)) found → slice_get segs i ≡ Some s → CutsSegment size s offset → AreCutAt size all offset
 cut_segment sought size all segs i s found offset t at c = either (is_note s) c.0 (subst (λ ss. Through sought size all (note_segments ss) found) (drop-slice_get segs i s at) t)
   where
@@ -146,7 +146,7 @@ cut_segment sought size all segs i s found offset t at c = either (is_note s) c.
     either true e u = u.cut offset (inl c.1)
     either false e u = cc
 
-pub past_all : (sought : Note → Bool) (size : ℕ) (all segs : List ElfSegment) (i : ℕ) (found : Found) → Through sought size all (note_segments (drop i segs)) found → length segs ≤ i
+pub past_all : (sought : Note → Bool) (size : ℕ) (all segs : List ElfSegment) (i : ℕ) (found : FoundNotes) → Through sought size all (note_segments (drop i segs)) found → length segs ≤ i
     → (notes : List Note) × HaveNotes size all notes × AreFound found (filter sought notes)
 past_all sought size all segs i found t h =
     let u : Through sought size all [] found = subst (λ left. Through sought size all left found) (at_drop_all note_segments segs i h) t in (u.notes, rw append-nil at (u.have [] refl), u.are)
@@ -215,7 +215,7 @@ said_once sought size ss said said' (inr a) (inr b) =
     let wrap : List Note → Result CountedNotes ℕ = λ ns. Ok (counted (filter sought ns)) in a.2 ∙ ap wrap (same_all size (note_segments ss) a.0 b.0 a.1 b.1) ∙ sym b.2
 
 -- what was read is what the notes say
-pub says : (sought : Note → Bool) (size : ℕ) (ss : List ElfSegment) (r : Result Found NotePastEnd)
+pub says : (sought : Note → Bool) (size : ℕ) (ss : List ElfSegment) (r : Result FoundNotes NotePastEnd)
     → IfOk r (λ found. (notes : List Note) × HaveNotes size (note_segments ss) notes × AreFound found (filter sought notes)) → IfErr r (λ fault. AreCutAt size (note_segments ss) fault.offset)
     → SaysOf sought size ss (said_of r)
 says sought size ss (Ok found) (notes, have, are) cut = inr (notes, have, rw (are.counted, are.first) refl)
@@ -236,7 +236,7 @@ err_or_ok : {T E P : Type 0} {e : E} {t : T} → (let r : Result T E = Err e in 
 err_or_ok h = cc
 
 -- what was found, by what the notes say
-pub found_said : (sought : Note → Bool) (size : ℕ) (ss : List ElfSegment) (found : Found) → SaysOf sought size ss (said_of (Ok found)) → (notes : List Note) × HaveNotes size (note_segments ss) notes × AreFound found (filter sought notes)
+pub found_said : (sought : Note → Bool) (size : ℕ) (ss : List ElfSegment) (found : FoundNotes) → SaysOf sought size ss (said_of (Ok found)) → (notes : List Note) × HaveNotes size (note_segments ss) notes × AreFound found (filter sought notes)
 found_said sought size ss found (inl (offset, cut, e)) = err_or_ok (sym e)
 found_said sought size ss found (inr (notes, have, e)) = (notes, have, record { counted = ap count_in e; first = ap first_in e })
 

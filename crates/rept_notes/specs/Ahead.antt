@@ -5,10 +5,10 @@ use Rattle.rept_elf.specs.Segments.{ElfSegment}
 use Rattle.rept_notes.specs.Notes.{Note, AreNotesThen}
 use Rattle.rept_notes.specs.Found.{AreFound}
 use Rattle.rept_notes.specs.declared.ahead.Ahead.{Ahead}
-use Rattle.rept_notes.specs.declared.ahead.Leap.{Leap}
+use Rattle.rept_notes.specs.declared.ahead.NotesFrom.{NotesFrom}
 
--- the bytes, which stand at this offset of the file, are some whole notes and then this rest, and these are the sought among
--- them
+-- the bytes, which stand at this offset of the file, are some whole notes and then this rest, and
+-- these are the sought among them
 pub record IsAhead (sought : Note → Bool) (offset : ℕ) (bytes : List ℕ) (ahead : Ahead) : Type 0 where
   pub notes : List Note
   pub before : AreNotesThen offset bytes notes ahead.rest.now
@@ -16,8 +16,8 @@ pub record IsAhead (sought : Note → Bool) (offset : ℕ) (bytes : List ℕ) (a
   pub fewer : ahead.found.count + length ahead.rest.now ≤ length bytes
 
 -- what is kept of the notes of a file is so from its offset on
-abbrev pub AreLeaps : (Note → Bool) → List ℕ → List (Option Leap) → Type 0
-AreLeaps sought file leaps = (i : ℕ) (leap : Leap) → slice_get leaps i ≡ Some (Some leap) → IsAhead sought leap.at (drop leap.at file) leap.ahead
+abbrev pub AreLeaps : (Note → Bool) → List ℕ → List (Option NotesFrom) → Type 0
+AreLeaps sought file leaps = (i : ℕ) (leap : NotesFrom) → slice_get leaps i ≡ Some (Some leap) → IsAhead sought leap.at (drop leap.at file) leap.ahead
 
 -- what is kept of a segment is so of its bytes
 abbrev pub AreAhead : (Note → Bool) → List ElfSegment → List (Option Ahead) → Type 0

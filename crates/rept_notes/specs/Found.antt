@@ -7,8 +7,8 @@ use Rattle.rept_notes.specs.Notes.{Note as NoteOf, AreNotes, IsInFile, IsCutAt}
 use Rattle.rept_notes.specs.Sought.{CountedNotes, is_sought, is_short, head}
 use Rattle.rept_notes.specs.declared.fault.NotePastEnd.{NotePastEnd}
 use Rattle.rept_notes.specs.declared.note.Note.{Note}
-use Rattle.rept_notes.specs.declared.note.Found.{Found}
-use Rattle.rept_notes.specs.declared.note.Sought.{Sought}
+use Rattle.rept_notes.specs.declared.note.FoundNotes.{FoundNotes}
+use Rattle.rept_notes.specs.declared.note.NoteFilter.{NoteFilter}
 
 -- a note of the code
 abbrev pub note_of : Note → NoteOf
@@ -20,21 +20,21 @@ is_wanted kind None = is_sought kind
 is_wanted kind (Some least) = is_short kind least
 
 -- what the code looks for
-abbrev pub wanted : Sought → NoteOf → Bool
+abbrev pub wanted : NoteFilter → NoteOf → Bool
 wanted sought = is_wanted sought.kind sought.below
 
 -- these notes were found
-pub record AreFound (found : Found) (notes : List NoteOf) : Type 0 where
+pub record AreFound (found : FoundNotes) (notes : List NoteOf) : Type 0 where
   pub counted : found.count ≡ length notes
   pub first : option_map note_of found.first ≡ head notes
 
 -- these notes were found besides
-pub record AddsNotes (found found' : Found) (notes : List NoteOf) : Type 0 where
+pub record AddsNotes (found found' : FoundNotes) (notes : List NoteOf) : Type 0 where
   pub counted : found'.count ≡ found.count + length notes
   pub first : option_map note_of found'.first ≡ option_or (option_map note_of found.first) (head notes)
 
 -- the segment is whole, and its sought notes were found besides; a segment without notes has none
-abbrev pub PassesSegment : (NoteOf → Bool) → ℕ → ElfSegment → Found → Found → Type 0
+abbrev pub PassesSegment : (NoteOf → Bool) → ℕ → ElfSegment → FoundNotes → FoundNotes → Type 0
 PassesSegment sought size s found found' = MatchBool (is_note s)
     (IsInFile size s × ((notes : List NoteOf) × AreNotes s.offset s.body notes × AddsNotes found found' (filter sought notes)))
     (found' ≡ found)
@@ -44,6 +44,6 @@ abbrev pub CutsSegment : ℕ → ElfSegment → ℕ → Type 0
 CutsSegment size s offset = IsTrue (is_note s) × IsCutAt size s offset
 
 -- what was found, as what the notes say
-abbrev pub said_of : Result Found NotePastEnd → Result CountedNotes ℕ
+abbrev pub said_of : Result FoundNotes NotePastEnd → Result CountedNotes ℕ
 said_of (Ok found) = Ok (record { count = found.count; first = option_map note_of found.first })
 said_of (Err fault) = Err fault.offset

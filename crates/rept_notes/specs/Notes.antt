@@ -1,5 +1,6 @@
--- The notes of a core file: System V ABI, chapter 5, "Note Section". A note is the size of its name, the size of its
--- descriptor and its type, of 32 bits each, then the name and the descriptor, each padded to a multiple of 4 bytes.
+-- The notes of a core file: System V ABI, chapter 5, "Note Section". A note is the size of its
+-- name, the size of its descriptor and its type, of 32 bits each, then the name and the descriptor,
+-- each padded to a multiple of 4 bytes.
 use Rattle.std.specs.Prelude.{◌≡◌, ℕ, ◌+◌, ◌*◌, ◌/◌, ◌<◌, ◌≤◌, ◌⊎◌, List, [], ◌∷◌, ◌++◌, length, drop}
 use Rattle.std.specs.List.{filter}
 use Rattle.rept_elf.specs.Header.{word_at}
@@ -43,7 +44,8 @@ first_note offset bytes = record {
   desc = part_of bytes (desc_offset bytes) (desc_size bytes);
 }
 
--- the bytes hold the note that begins them: its padded name, and its descriptor, whose padding may be missing
+-- the bytes hold the note that begins them: its padded name, and its descriptor, whose padding may
+-- be missing
 pub record HoldsNote (bytes : List ℕ) : Type 0 where
   pub header : note_header ≤ length bytes
   pub fits : desc_offset bytes + desc_size bytes ≤ length bytes
@@ -52,7 +54,8 @@ pub record HoldsNote (bytes : List ℕ) : Type 0 where
 abbrev pub after_note : List ℕ → List ℕ
 after_note bytes = drop (note_size bytes) bytes
 
--- the bytes, which stand at this offset of the file, are these notes, one after the other, and then the rest
+-- the bytes, which stand at this offset of the file, are these notes, one after the other, and then
+-- the rest
 abbrev pub AreNotesThen : ℕ → List ℕ → List Note → List ℕ → Type 0
 AreNotesThen offset bytes [] rest = rest ≡ bytes
 AreNotesThen offset bytes (note ∷ notes) rest = HoldsNote bytes × (first_note offset bytes ≡ note) × AreNotesThen (offset + note_size bytes) (after_note bytes) notes rest
@@ -80,7 +83,8 @@ HaveNotes size [] notes = notes ≡ []
 HaveNotes size (s ∷ ss) notes =
     (front : List Note) × (after : List Note) × (notes ≡ front ++ after) × IsInFile size s × AreNotes s.offset s.body front × HaveNotes size ss after
 
--- the file does not hold the segment, or the segment a note, which begins at this offset of the file
+-- the file does not hold the segment, or the segment a note, which begins at this offset of the
+-- file
 abbrev pub IsCutAt : ℕ → ElfSegment → ℕ → Type 0
 IsCutAt size s offset =
     ((size < s.offset + s.filesz) × (offset ≡ s.offset))

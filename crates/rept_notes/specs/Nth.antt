@@ -3,11 +3,11 @@ use Rattle.std.specs.Prelude.{◌≡◌, ℕ, ◌+◌, List, [], length, slice_g
 use Rattle.rept_elf.specs.Segments.{ElfSegment, is_note}
 use Rattle.rept_notes.specs.Found.{note_of}
 use Rattle.rept_notes.specs.Notes.{Note, AreNotes}
-use Rattle.rept_notes.specs.declared.nth.Search.{Search}
-use Rattle.rept_notes.specs.declared.nth.Search.TheVariants.{Found, Past}
+use Rattle.rept_notes.specs.declared.nth.NoteSearch.{NoteSearch}
+use Rattle.rept_notes.specs.declared.nth.NoteSearch.TheVariants.{Found, Past}
 
 -- the note after so many of these, or how many more would have to be passed over
-abbrev pub Searches : List Note → ℕ → Search → Type 0
+abbrev pub Searches : List Note → ℕ → NoteSearch → Type 0
 Searches notes skip (Found note) = slice_get notes skip ≡ Some (note_of note)
 Searches notes skip (Past left) = length notes + left ≡ skip
 

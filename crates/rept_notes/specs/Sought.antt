@@ -33,8 +33,8 @@ pub record CountedNotes : Type 0 where
 abbrev pub counted : List Note → CountedNotes
 counted notes = record { count = length notes; first = head notes }
 
--- what the notes of a core file of so many bytes say of those that are sought: where the first that isn't whole begins, or how many are
--- sought, and the first
+-- what the notes of a core file of so many bytes say of those that are sought: where the first that
+-- isn't whole begins, or how many are sought, and the first
 abbrev pub SaysOf : (Note → Bool) → ℕ → List ElfSegment → Result CountedNotes ℕ → Type 0
 SaysOf sought size ss said =
     ((offset : ℕ) × AreCutAt size (note_segments ss) offset × (said ≡ Err offset))

@@ -1,8 +1,9 @@
 //! Notes that several note segments have, read once.
 //!
-//! Note segments may overlap, so that each of thousands may have all notes of the file. So they are gone through side by
-//! side, one block of the file after the other, and what was read of the notes of a block is kept by the place where they
-//! begin: segments that come to the same note there go on as one.
+//! Note segments may overlap, so that each of thousands may have all notes of the file. So they are
+//! gone through side by side, one block of the file after the other, and what was read of the notes
+//! of a block is kept by the place where they begin: segments that come to the same note there go
+//! on as one.
 
 ghost use Rattle.std.specs.Prelude.{◌≡◌, ◌≤◌, ◌<◌, ◌+◌, ◌-◌, ◌^◌, List, ℕ, Bool, length, drop, take, slice_get, Some};
 ghost use Rattle.rept_elf.specs.Image.{file_of, segments_of, segment_of};
@@ -12,7 +13,7 @@ ghost use Rattle.rept_notes.specs.Found.{wanted};
 ghost use Rattle.rept_notes.specs.Notes.{Note as NoteOf};
 ghost use Rattle.rept_notes.specs.declared.ahead.Ahead.{Ahead as AheadOf};
 
-use crate::note::{Found, NOTE_HEADER, NOTHING, Sought, add_note, first_note, join};
+use crate::note::{FoundNotes, NOTE_HEADER, NOTHING, NoteFilter, add_note, first_note, join};
 use rept_elf::{Image, PT_NOTE, Segment, after};
 
 /// The bytes of a block of the file, and the places at which notes of a block may begin.
@@ -22,14 +23,15 @@ const BLOCK: usize = 4096;
 #[derive(Clone, Copy)]
 pub struct Ahead<'a> {
     /// Their sought notes.
-    pub found: Found<'a>,
+    pub found: FoundNotes<'a>,
     /// The bytes after them.
     pub rest: &'a [u8],
 }
 
-/// The same for the bytes of the file from an offset on.
+/// What was found in the first notes of the bytes of the file from an offset on, and the bytes
+/// after these.
 #[derive(Clone, Copy)]
-pub struct Leap<'a> {
+pub struct NotesFrom<'a> {
     /// The offset.
     pub at: usize,
     /// What was found from there on, and the rest of the file.
@@ -46,8 +48,9 @@ pub fn start(bytes: &[u8]) -> Ahead<'_>
     }
 }
 
-/// The first notes of the file's bytes from this offset on, all that begin in its block and are whole.
-fn walk(bytes: &[u8], at: usize, sought: Sought) -> Ahead<'_>
+/// The first notes of the file's bytes from this offset on, all that begin in its block and are
+/// whole.
+fn walk(bytes: &[u8], at: usize, sought: NoteFilter) -> Ahead<'_>
     requires { at + length bytes.now < 2 ^ 64 - 1 }
     ensures { IsAhead (wanted sought) at bytes.now result }
 {
@@ -66,12 +69,13 @@ fn walk(bytes: &[u8], at: usize, sought: Sought) -> Ahead<'_>
     ahead
 }
 
-/// The notes of a file from an offset up to the end of its block, as they are kept or else read and kept.
+/// The notes of a file from an offset up to the end of its block, as they are kept or else read and
+/// kept.
 fn leap_from<'a>(
-    leaps: &mut [Option<Leap<'a>>],
+    leaps: &mut [Option<NotesFrom<'a>>],
     file: &'a [u8],
     at: usize,
-    sought: Sought,
+    sought: NoteFilter,
 ) -> Ahead<'a>
     requires places { length leaps.old ≡ 4096 }
     requires within { at < 2 ^ 62 }
@@ -87,12 +91,12 @@ fn leap_from<'a>(
         }
     }
     let ahead = walk(after(file, at), at, sought);
-    leaps[place] = Some(Leap { at, ahead });
+    leaps[place] = Some(NotesFrom { at, ahead });
     ahead
 }
 
-/// Goes on over the notes that begin these bytes of the file, of which the rest is the front, where the rest has all of them
-/// and the header of one more.
+/// Goes on over the notes that begin these bytes of the file, of which the rest is the front, where
+/// the rest has all of them and the header of one more.
 fn pass<'a>(ahead: Ahead<'a>, bytes: &'a [u8], leap: Ahead<'a>) -> Ahead<'a>
     requires front { ahead.rest.now ≡ take (length ahead.rest.now) bytes.now }
     requires room { ahead.found.count + length ahead.rest.now < 2 ^ 64 }
@@ -115,8 +119,8 @@ fn go_on<'a>(
     ahead: Ahead<'a>,
     file: &'a [u8],
     block: usize,
-    leaps: &mut [Option<Leap<'a>>],
-    sought: Sought,
+    leaps: &mut [Option<NotesFrom<'a>>],
+    sought: NoteFilter,
 ) -> Ahead<'a>
     requires part { segment.now.body.now ≡ part_of file.now segment.now.offset segment.now.filesz }
     requires size { length segment.now.body.now < 2 ^ 32 }
@@ -139,8 +143,8 @@ fn go_on_all<'a>(
     core: &Image<'a>,
     block: usize,
     aheads: &mut [Option<Ahead<'a>>],
-    leaps: &mut [Option<Leap<'a>>],
-    sought: Sought,
+    leaps: &mut [Option<NotesFrom<'a>>],
+    sought: NoteFilter,
 )
     requires room { length aheads.old ≡ 4096 }
     requires aheads { AreAhead (wanted sought) (segments_of core.now) aheads.old }
@@ -161,15 +165,16 @@ fn go_on_all<'a>(
 }
 
 /// How far a segment was gone through: not at all where nothing is kept.
-pub fn ahead_of<'a>(segment: &Segment<'a>, kept: Option<Ahead<'a>>, sought: Sought) -> Ahead<'a>
+pub fn ahead_of<'a>(segment: &Segment<'a>, kept: Option<Ahead<'a>>, sought: NoteFilter) -> Ahead<'a>
     requires { (ahead : AheadOf) → kept ≡ Some ahead → IsAhead (wanted sought) segment.now.offset segment.now.body.now ahead }
     ensures { IsAhead (wanted sought) segment.now.offset segment.now.body.now result }
 {
     kept.unwrap_or(start(segment.body))
 }
 
-/// Goes through the note segments of a core file side by side, each up to the last block in which it has a note.
-pub fn go_ahead<'a>(core: &Image<'a>, aheads: &mut [Option<Ahead<'a>>], sought: Sought)
+/// Goes through the note segments of a core file side by side, each up to the last block in which
+/// it has a note.
+pub fn go_ahead<'a>(core: &Image<'a>, aheads: &mut [Option<Ahead<'a>>], sought: NoteFilter)
     requires room { length aheads.old ≡ 4096 }
     requires aheads { AreAhead (wanted sought) (segments_of core.now) aheads.old }
     ensures room { length aheads.new ≡ 4096 }

@@ -2,8 +2,9 @@
 
 use thiserror::Error;
 
-/// The file does not hold a note segment, or a note segment does not hold a note. Note segments are gone through in table
-/// order, and the notes of each in turn; the first that is not whole is the fault.
+/// The file does not hold a note segment, or a note segment does not hold a note. Note segments are
+/// gone through in table order, and the notes of each in turn; the first that is not whole is the
+/// fault.
 #[derive(Clone, Copy, Debug, PartialEq, Eq, Error)]
 #[error("a note at {offset} past the end")]
 pub struct NotePastEnd {

@@ -1,4 +1,5 @@
-//! The notes of a core file: those of one type that are named `CORE`. Nothing is copied, and no memory is taken.
+//! The notes of a core file: those of one type that are named `CORE`. Nothing is copied, and no
+//! memory is taken.
 #![tactic(auto)]
 
 mod ahead;
@@ -8,6 +9,6 @@ mod notes;
 mod nth;
 
 pub use fault::NotePastEnd;
-pub use note::{Found, Note};
+pub use note::{FoundNotes, Note};
 pub use notes::{find_notes, find_short};
 pub use nth::find_nth;

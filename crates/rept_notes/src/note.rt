@@ -26,7 +26,7 @@ pub struct Note<'a> {
 
 /// A note that begins some bytes, and what stands after it.
 #[derive(Clone, Copy)]
-pub struct Begun<'a> {
+pub struct LeadingNote<'a> {
     /// The note.
     pub note: Note<'a>,
     /// The bytes after it.
@@ -41,7 +41,7 @@ fn padded(size: u32) -> usize
 }
 
 /// The note that begins the bytes, which stand at this offset of the file, if they hold it.
-pub fn first_note(bytes: &[u8], offset: u64) -> Option<Begun<'_>>
+pub fn first_note(bytes: &[u8], offset: u64) -> Option<LeadingNote<'_>>
     requires { note_header ≤ length bytes.now }
     ensures { MatchOption result (length bytes.now < desc_offset bytes.now + desc_size bytes.now)
         (λ n. HoldsNote bytes.now × (note_at offset bytes.now ≡ note_of n.note) × (n.after.now ≡ after_note bytes.now)) }
@@ -52,7 +52,7 @@ pub fn first_note(bytes: &[u8], offset: u64) -> Option<Begun<'_>>
     if desc_start + desc_len as usize > bytes.len() {
         return None;
     }
-    Some(Begun {
+    Some(LeadingNote {
         note: Note {
             offset,
             kind: word(bytes, 8),
@@ -79,15 +79,16 @@ fn is_core(name: &[u8]) -> bool
 
 /// Which notes are sought, of those that are named `CORE`.
 #[derive(Clone, Copy)]
-pub struct Sought {
+pub struct NoteFilter {
     /// Their type.
     pub kind: u32,
-    /// None for all of them; else the least bytes that a descriptor has of which the note isn't sought.
+    /// None for all of them; else the least bytes that a descriptor has of which the note isn't
+    /// sought.
     pub below: Option<usize>,
 }
 
 /// Whether a note is sought.
-fn is_wanted(note: &Note<'_>, sought: Sought) -> bool
+fn is_wanted(note: &Note<'_>, sought: NoteFilter) -> bool
     ensures { result ≡ wanted sought (note_of note.now) }
 {
     match sought.below {
@@ -105,7 +106,7 @@ pub fn is_sought(note: &Note<'_>, kind: u32) -> bool
 
 /// The sought notes of a core file: how many, and the first.
 #[derive(Clone, Copy, Debug)]
-pub struct Found<'a> {
+pub struct FoundNotes<'a> {
     /// How many.
     pub count: u64,
     /// The first, in the order of the segments and of the notes of each.
@@ -113,18 +114,18 @@ pub struct Found<'a> {
 }
 
 /// No note.
-pub const NOTHING: Found<'static> = Found {
+pub const NOTHING: FoundNotes<'static> = FoundNotes {
     count: 0,
     first: None,
 };
 
 /// What was found, and this note if it is sought.
-pub fn add_note<'a>(found: Found<'a>, note: &Note<'a>, sought: Sought) -> Found<'a>
+pub fn add_note<'a>(found: FoundNotes<'a>, note: &Note<'a>, sought: NoteFilter) -> FoundNotes<'a>
     requires { found.count + 1 < 2 ^ 64 }
     ensures { AddsNotes found.entry result (filter (wanted sought) (note_of note.now ∷ [])) }
 {
     if is_wanted(note, sought) {
-        Found {
+        FoundNotes {
             count: found.count + 1,
             first: found.first.or(Some(*note)),
         }
@@ -134,11 +135,11 @@ pub fn add_note<'a>(found: Found<'a>, note: &Note<'a>, sought: Sought) -> Found<
 }
 
 /// What was found, and what was found in the notes after.
-pub fn join<'a>(found: Found<'a>, more: Found<'a>) -> Found<'a>
+pub fn join<'a>(found: FoundNotes<'a>, more: FoundNotes<'a>) -> FoundNotes<'a>
     requires { found.count + more.count < 2 ^ 64 }
     ensures { (notes : List NoteOf) → AreFound more.entry notes → AddsNotes found.entry result notes }
 {
-    Found {
+    FoundNotes {
         count: found.count + more.count,
         first: found.first.or(more.first),
     }

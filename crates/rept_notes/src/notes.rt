@@ -10,21 +10,21 @@ ghost use Rattle.rept_notes.specs.Sought.{CountedNotes, SaysOf, SaysOfType, is_s
 
 use crate::ahead::{Ahead, ahead_of, go_ahead};
 use crate::fault::NotePastEnd;
-use crate::note::{Found, NOTE_HEADER, NOTHING, Sought, add_note, first_note, join};
+use crate::note::{FoundNotes, NOTE_HEADER, NOTHING, NoteFilter, add_note, first_note, join};
 use rept_elf::{Image, PT_NOTE, Segment};
 
 /// The most segments of a file.
 const MOST_SEGMENTS: usize = 4096;
 
-/// The sought notes of a note segment of which these are the bytes that stand at the offset of the file, and of which it was
-/// read so far ahead.
+/// The sought notes of a note segment of which these are the bytes that stand at the offset of the
+/// file, and of which it was read so far ahead.
 fn read_notes<'a>(
     bytes: &'a [u8],
     offset: u32,
-    sought: Sought,
-    found: Found<'a>,
+    sought: NoteFilter,
+    found: FoundNotes<'a>,
     ahead: Ahead<'a>,
-) -> Result<Found<'a>, NotePastEnd>
+) -> Result<FoundNotes<'a>, NotePastEnd>
     requires size { length bytes.now < 2 ^ 32 }
     requires ahead { IsAhead (wanted sought) offset bytes.now ahead }
     requires room { found.count + length bytes.now < 2 ^ 64 }
@@ -45,15 +45,15 @@ fn read_notes<'a>(
     Ok(now)
 }
 
-/// The sought notes so far, and those of this segment, if it is one of notes, of a file of so many bytes, of which it was
-/// read so far ahead.
+/// The sought notes so far, and those of this segment, if it is one of notes, of a file of so many
+/// bytes, of which it was read so far ahead.
 fn read_segment<'a>(
     segment: &Segment<'a>,
     size: usize,
-    sought: Sought,
-    found: Found<'a>,
+    sought: NoteFilter,
+    found: FoundNotes<'a>,
     ahead: Ahead<'a>,
-) -> Result<Found<'a>, NotePastEnd>
+) -> Result<FoundNotes<'a>, NotePastEnd>
     requires size { length segment.now.body.now < 2 ^ 32 }
     requires ahead { IsAhead (wanted sought) segment.now.offset segment.now.body.now ahead }
     requires room { found.count + length segment.now.body.now < 2 ^ 64 }
@@ -74,7 +74,7 @@ fn read_segment<'a>(
 }
 
 /// The sought notes of a core file.
-fn read_core<'a>(core: &Image<'a>, sought: Sought) -> Result<Found<'a>, NotePastEnd>
+fn read_core<'a>(core: &Image<'a>, sought: NoteFilter) -> Result<FoundNotes<'a>, NotePastEnd>
     ensures ok { IfOk result (λ found. (notes : List NoteOf) × HaveNotes (length (file_of core.now)) (note_segments (segments_of core.now)) notes × AreFound found (filter (wanted sought) notes)) }
     ensures cut { IfErr result (λ fault. AreCutAt (length (file_of core.now)) (note_segments (segments_of core.now)) fault.offset) }
 {
@@ -89,23 +89,30 @@ fn read_core<'a>(core: &Image<'a>, sought: Sought) -> Result<Found<'a>, NotePast
     Ok(found)
 }
 
-/// The notes of a core file that are of this type and named `CORE`: how many, and the first. All notes of the file must be
-/// whole, of whatever type; the fault comes exactly where one isn't. What the notes say is determined by the file.
-pub fn find_notes<'a>(core: &Image<'a>, kind: u32) -> Result<Found<'a>, NotePastEnd>
+/// The notes of a core file that are of this type and named `CORE`: how many, and the first. All
+/// notes of the file must be whole, of whatever type; the fault comes exactly where one isn't. What
+/// the notes say is determined by the file.
+pub fn find_notes<'a>(core: &Image<'a>, kind: u32) -> Result<FoundNotes<'a>, NotePastEnd>
     ensures said { SaysOfType kind (length (file_of core.now)) (segments_of core.now) (said_of result) }
     ensures only { (said : Result CountedNotes ℕ) → SaysOfType kind (length (file_of core.now)) (segments_of core.now) said → said ≡ said_of result }
 {
-    read_core(core, Sought { kind, below: None })
+    read_core(core, NoteFilter { kind, below: None })
 }
 
-/// The same of those of them alone whose descriptor has fewer than so many bytes.
-pub fn find_short<'a>(core: &Image<'a>, kind: u32, least: usize) -> Result<Found<'a>, NotePastEnd>
+/// The notes of a core file that are of this type and named `CORE`, of those alone whose descriptor
+/// has fewer bytes than `least`: how many, and the first. All notes of the file must be whole, of
+/// whatever type.
+pub fn find_short<'a>(
+    core: &Image<'a>,
+    kind: u32,
+    least: usize,
+) -> Result<FoundNotes<'a>, NotePastEnd>
     ensures said { SaysOf (is_short kind least) (length (file_of core.now)) (segments_of core.now) (said_of result) }
     ensures only { (said : Result CountedNotes ℕ) → SaysOf (is_short kind least) (length (file_of core.now)) (segments_of core.now) said → said ≡ said_of result }
 {
     read_core(
         core,
-        Sought {
+        NoteFilter {
             kind,
             below: Some(least),
         },

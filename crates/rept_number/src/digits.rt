@@ -34,8 +34,8 @@ fn value(digits: &[u8]) -> u64
     n
 }
 
-/// The number that a word of the session spells: decimal digits, or `0x` or `0X` and 1 to 8 hexadecimal digits. None for every
-/// other word.
+/// The number that a word of the session spells: decimal digits, or `0x` or `0X` and 1 to 8
+/// hexadecimal digits. None for every other word.
 pub fn number_in(word: &[u8]) -> Option<u32>
     ensures { result ≡ number_of_word word.now }
 {

@@ -35,7 +35,7 @@ module _ (old mid new : Shelved) (name : List ℕ) (kind : FileKind) (files : mi
   refuses_before (refusal.Inconsistent k) h = absurd h
   refuses_before refusal.InputFault h = absurd h
 
--- the bytes that a shelf gave are those of a file that fits
+-- the bytes that a file store gave are those of a file that fits
 fits : (o : Option Files) (kind : FileKind) (name bytes : List ℕ) → length bytes ≤ limit_of kind → IfSome o (λ fs. fs name ≡ Some bytes) → IfSome o (λ fs. FileFits fs kind name)
 fits None kind name bytes short h = tt
 fits (Some fs) kind name bytes short h = (bytes, h, short)

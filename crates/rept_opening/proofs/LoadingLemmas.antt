@@ -10,7 +10,7 @@ use Rattle.rept_words.specs.Words.{CoreNames, Names, Meaning, meaning_of}
 use Rattle.rept_words.specs.Words.Meaning.{Open, Maps, Made}
 use Rattle.rept_words.specs.declared.request.Domain.{Domain}
 use Rattle.rept_words.specs.declared.request.Domain.TheVariants as domain
-use Rattle.rept_opening.specs.declared.load.Manner.{Manner}
+use Rattle.rept_opening.specs.declared.load.OpenOptions.{OpenOptions}
 use Rattle.rept_opening.specs.declared.refusal.FileKind.{FileKind}
 use Rattle.rept_opening.specs.declared.refusal.FileKind.TheVariants as file
 use Rattle.rept_opening.specs.declared.refusal.Refusal.{Refusal}
@@ -53,7 +53,7 @@ not_over limit n h = grind (arith, nat_tests)
 is_over : (limit n : ℕ) → limit < n → nat_lt limit n ≡ true
 is_over limit n h = grind (arith, nat_tests)
 
-module _ (files : Files) (names : Names) (manner : Manner) where
+module _ (files : Files) (names : Names) (manner : OpenOptions) where
   passes : (kind : FileKind) (name : List ℕ) (next : List ℕ → Loading) (fits : FileFits files kind name) → fetched kind (files name) next ≡ next fits.0
   passes kind name next fits =
       ap (λ (o : Option (List ℕ)). fetched kind o next) fits.1 ∙ ap (λ (b : Bool). cond b (Refused (refusal.TooLarge kind)) (next fits.0)) (not_over (limit_of kind) (length fits.0) fits.2)
@@ -78,7 +78,7 @@ module _ (files : Files) (names : Names) (manner : Manner) where
       (λ next. ap (λ (o : Option (List ℕ)). fetched kind o next) large.1 ∙ ap (λ (b : Bool). cond b (Refused (refusal.TooLarge kind)) (next large.0)) (is_over (limit_of kind) (length large.0) large.2))
 
 -- a core file and a trace come to the first one that is refused
-module _ (files : Files) (names : CoreNames) (manner : Manner) where
+module _ (files : Files) (names : CoreNames) (manner : OpenOptions) where
   core_passes : (fits : FileFits files file.Core names.core) (next : List ℕ → Loading) → fetched file.Core (files names.core) next ≡ next fits.0
   core_passes fits next =
       ap (λ (o : Option (List ℕ)). fetched file.Core o next) fits.1 ∙ ap (λ (b : Bool). cond b (Refused (refusal.TooLarge file.Core)) (next fits.0)) (not_over (limit_of file.Core) (length fits.0) fits.2)
@@ -112,13 +112,13 @@ one_fetched : (kind : FileKind) (o : Option (List ℕ)) (next : List ℕ → Loa
 one_fetched kind None next h = tt
 one_fetched kind (Some bytes) next h = either_loads (nat_lt (limit_of kind) (length bytes)) (refusal.TooLarge kind) (next bytes) (h bytes)
 
-pub all_fetched : (files : Files) (names : Names) (manner : Manner) → LoadsFiles (fetched_all files names manner)
+pub all_fetched : (files : Files) (names : Names) (manner : OpenOptions) → LoadsFiles (fetched_all files names manner)
 all_fetched files names manner =
     one_fetched file.Exe (files names.exe) (λ exe. fetched file.Core (files names.core) (λ core. fetched file.Trace (files names.trace) (λ trace. Loaded (crash_bytes exe core trace manner))))
     (λ exe. one_fetched file.Core (files names.core) (λ core. fetched file.Trace (files names.trace) (λ trace. Loaded (crash_bytes exe core trace manner)))
     (λ core. one_fetched file.Trace (files names.trace) (λ trace. Loaded (crash_bytes exe core trace manner)) (λ trace. tt)))
 
-pub core_fetched : (files : Files) (names : CoreNames) (manner : Manner) → LoadsFiles (fetched_core files names manner)
+pub core_fetched : (files : Files) (names : CoreNames) (manner : OpenOptions) → LoadsFiles (fetched_core files names manner)
 core_fetched files names manner =
     one_fetched file.Core (files names.core) (λ core. fetched file.Trace (files names.trace) (λ trace. LoadedCore (core_bytes core trace manner)))
     (λ core. one_fetched file.Trace (files names.trace) (λ trace. LoadedCore (core_bytes core trace manner)) (λ trace. tt))

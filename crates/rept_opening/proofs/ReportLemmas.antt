@@ -11,7 +11,7 @@ use Rattle.rept_moments.specs.Courses.{IsCourseOf}
 use Rattle.rept_moments.specs.Points.{points_in}
 use Rattle.rept_timeline.specs.Small.{IsSmall}
 use Rattle.rept_timeline.proofs.Counting.{all_points}
-use Rattle.rept_moments.specs.declared.course.Course as courses
+use Rattle.rept_moments.specs.declared.course.NumberedRun as courses
 use Rattle.rept_report.specs.Closure.{ClosureHas}
 use Rattle.rept_report.specs.OneThread.{path_setting}
 use Rattle.rept_report.specs.Setting.{Setting}

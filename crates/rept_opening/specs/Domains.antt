@@ -1,4 +1,5 @@
--- The sets as which the values of registers are followed, by the domain that the words ask for. This project's own.
+-- The sets as which the values of registers are followed, by the domain that the words ask for.
+-- This project's own.
 use Rattle.rept_partial.specs.Ranges.{range_sets}
 use Rattle.rept_partial.specs.declared.range.Range.{Range}
 use Rattle.rept_span.specs.Tables.{range_moves}
@@ -15,7 +16,7 @@ abbrev pub SetsOf : Domain → Type 0
 SetsOf domain.Ranges = Range
 SetsOf domain.KnownBits = Both
 
--- with what the instructions do to them, and what is drawn from the rows
+-- with what the instructions do to them, and what is inferred from the rows
 abbrev pub means_of : (d : Domain) → Means (SetsOf d)
 means_of domain.Ranges = means range_sets range_moves atomic_rules
 means_of domain.KnownBits = means both_sets both_moves atomic_rules

@@ -1,4 +1,5 @@
--- What is read of an executable and of a core file (ELF-32 Object File Format; Linux core notes of RISC-V).
+-- What is read of an executable and of a core file (ELF-32 Object File Format; Linux core notes of
+-- RISC-V).
 use Rattle.std.specs.Prelude.{ℕ, List, Option, None}
 use Rattle.rept_dump.specs.Program.{Program}
 use Rattle.rept_dump.specs.Program.Program.{OneFile, MappedFiles}
@@ -12,7 +13,8 @@ use Rattle.rept_found.specs.Crash.{Crash}
 abbrev pub executable_fault : List ℕ → Option ElfFault
 executable_fault exe = first_failure (checks want.Exec exe)
 
--- why the files of a program are refused: its executable. Mapped files are never, since those that are refused are left out.
+-- why the files of a program are refused: its executable. Mapped files are never, since those that
+-- are refused are left out.
 abbrev pub program_fault : Program → Option ElfFault
 program_fault (OneFile exe) = executable_fault exe
 program_fault (MappedFiles ms) = None

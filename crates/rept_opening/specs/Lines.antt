@@ -23,15 +23,15 @@ use Rattle.rept_opening.specs.declared.refusal.FileKind.{FileKind}
 use Rattle.rept_opening.specs.declared.refusal.FileKind.TheVariants as file
 use Rattle.rept_opening.specs.declared.refusal.Refusal.{Refusal}
 use Rattle.rept_opening.specs.declared.refusal.Refusal.TheVariants as refusal
-use Rattle.rept_opening.specs.declared.status.Status.{Status}
-use Rattle.rept_opening.specs.declared.status.Status.TheVariants as ends
+use Rattle.rept_opening.specs.declared.status.ExitStatus.{ExitStatus}
+use Rattle.rept_opening.specs.declared.status.ExitStatus.TheVariants as ends
 
 -- a trace that is refused or has no path; or memory ran out
-abbrev pub status_of_path : PathFault → Status
+abbrev pub status_of_path : PathFault → ExitStatus
 status_of_path path.OutOfMemory = ends.OutOfMemory
 status_of_path _ = ends.Trace
 
-abbrev pub status_of : Refusal → Status
+abbrev pub status_of : Refusal → ExitStatus
 status_of refusal.Usage = ends.Usage
 status_of (refusal.LoadFault f) = ends.LoadFault
 status_of (refusal.NoFile f) = ends.NoFile
@@ -81,8 +81,9 @@ map_fault_text maps.NoMap = codes "core 7"
 map_fault_text (maps.BadMap offset) = codes "core 8 " ++ decimal offset
 map_fault_text (maps.TooManyMaps count) = codes "core 9 " ++ decimal count
 
--- The number of a fault of the trace's bytes, and what it holds: the number of the byte of the header, of the packet or of the stream, or an
--- offset. The packets are those of Efficient Trace for RISC-V 2.0.
+-- The number of a fault of the trace's bytes, and what it holds: the number of the byte of the
+-- header, of the packet or of the stream, or an offset. The packets are those of Efficient Trace
+-- for RISC-V 2.0.
 abbrev pub trace_fault_text : TraceFault → List ℕ
 trace_fault_text packets.BadMagic = codes "1"
 trace_fault_text (packets.BadHeader i) = codes "2 " ++ decimal i
@@ -93,8 +94,8 @@ trace_fault_text (packets.BadSupport k) = codes "6 " ++ decimal k
 trace_fault_text (packets.StreamPastEnd s) = codes "7 " ++ decimal s
 trace_fault_text (packets.Rest offset) = codes "8 " ++ decimal offset
 
--- The number of the reason why a trace has no path, and what it holds: numbers of packets and counts in decimal, addresses and
--- code words in hexadecimal.
+-- The number of the reason why a trace has no path, and what it holds: numbers of packets and
+-- counts in decimal, addresses and code words in hexadecimal.
 abbrev pub path_fault_text : PathFault → List ℕ
 path_fault_text (path.NoStart k) = codes "path 1 " ++ decimal k
 path_fault_text (path.NotCode a) = codes "path 2 " ++ hex_word a
@@ -119,7 +120,8 @@ abbrev pub cell_text : Cell → List ℕ
 cell_text (Register r) = codes "x" ++ decimal r
 cell_text (Byte address) = hex_word address
 
--- the value of a register as a word, that of a byte as two digits; which cell it is, `cell_text` prints before it
+-- the value of a register as a word, that of a byte as two digits; which cell it is, `cell_text`
+-- prints before it
 abbrev pub value_text_in : Cell → ℕ → List ℕ
 value_text_in (Register r) value = hex_word value
 value_text_in (Byte address) value = hex_byte (value % 256)
@@ -128,8 +130,8 @@ abbrev pub two_values_text : Place → Cell → ℕ → ℕ → List ℕ
 two_values_text place cell v w =
     codes "inconsistent two-values " ++ place_text place ++ codes " " ++ cell_text cell ++ codes " " ++ value_text_in cell v ++ codes " " ++ value_text_in cell w
 
--- Two values of a register or byte, a register without a value, or a step that went another way: at a point, or of a byte at a moment
--- (`after-J` after a step, `end`).
+-- Two values of a register or byte, a register without a value, or a step that went another way: at
+-- a point, or of a byte at a moment (`after-J` after a step, `end`).
 abbrev pub conflict_text : Place → ConflictKind → List ℕ
 conflict_text place (TwoValues point cell v w) = two_values_text place cell v w
 conflict_text place (EmptyRange point reg) = codes "inconsistent empty-range " ++ place_text place ++ codes " x" ++ decimal reg

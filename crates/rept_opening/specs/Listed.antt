@@ -17,15 +17,17 @@ use Rattle.rept_opening.specs.declared.listed.ListStop.TheVariants as stops
 use Rattle.rept_opening.specs.declared.refusal.Refusal.{Refusal}
 use Rattle.rept_opening.specs.declared.refusal.Refusal.TheVariants as refusal
 
--- The core file is accepted as an image, and so is its list, which says nothing else. The names are those of the list, the shelf was asked for the file of each, and what is kept is what is kept of these files.
-pub record AreLoaded (core : List ℕ) (shelf : PortMove Shelved) (l : ListedFiles) : Type 0 where
+-- The core file is accepted as an image, and so is its list, which says nothing else. The names are
+-- those of the list, the file store was asked for the file of each, and what is kept is what is
+-- kept of these files.
+pub record AreLoaded (core : List ℕ) (file_store : PortMove Shelved) (l : ListedFiles) : Type 0 where
   pub image : file_of l.core ≡ core
   pub accepted : core_image_fault core ≡ None
   pub listed : ListSays core (Ok (desc_of l.maps))
   pub only : (said : Result (List ℕ) MapFault) → ListSays core said → said ≡ Ok (desc_of l.maps)
   pub names : map (λ n. n.now) l.names.items ≡ asked_names (desc_of l.maps)
-  pub kept : IfSome shelf.before.files (λ files. map (option_map (λ v. v.items)) l.kept.items ≡ kept_all files most_in_all (asked_names (desc_of l.maps)))
-  pub loads : shelf.after.loads ≡ loads_after (length (asked_names (desc_of l.maps))) shelf.before.loads
+  pub kept : IfSome file_store.before.files (λ files. map (option_map (λ v. v.items)) l.kept.items ≡ kept_all files most_in_all (asked_names (desc_of l.maps)))
+  pub loads : file_store.after.loads ≡ loads_after (length (asked_names (desc_of l.maps))) file_store.before.loads
 
 -- the core file is refused as an image; or its list is, which says nothing else
 abbrev pub IsListRefused : List ℕ → Refusal → Type 0
@@ -33,7 +35,7 @@ IsListRefused core r =
     ((fault : ElfFault) × (core_image_fault core ≡ Some fault) × (r ≡ refusal.CoreImage fault))
     ⊎ ((fault : MapFault) × (core_image_fault core ≡ None) × ListSays core (Err fault) × ((said : Result (List ℕ) MapFault) → ListSays core said → said ≡ Err fault) × (r ≡ refusal.Maps fault))
 
--- the list is accepted, and the shelf was asked for the files of so many of its names
+-- the list is accepted, and the file store was asked for the files of so many of its names
 pub record IsListCutShort (core : List ℕ) (asked : PortMove ℕ) : Type 0 where
   pub desc : List ℕ
   pub listed : ListSays core (Ok desc)
@@ -41,18 +43,19 @@ pub record IsListCutShort (core : List ℕ) (asked : PortMove ℕ) : Type 0 wher
   pub within : count ≤ length (asked_names desc)
   pub loads : asked.after ≡ loads_after count asked.before
 
--- The load of the file of this name, which is one of the accepted list's, failed, where a fault was counted: it was the last.
-pub record LoadStops (core : List ℕ) (shelf : PortMove Shelved) (name : List ℕ) : Type 0 where
+-- The load of the file of this name, which is one of the accepted list's, failed, where a fault was
+-- counted: it was the last.
+pub record LoadStops (core : List ℕ) (file_store : PortMove Shelved) (name : List ℕ) : Type 0 where
   pub accepted : core_image_fault core ≡ None
   pub desc : List ℕ
   pub listed : ListSays core (Ok desc)
   pub place : ℕ
   pub within : place < length (asked_names desc)
   pub named : slice_get (asked_names desc) place ≡ Some name
-  pub loads : shelf.after.loads ≡ loads_after (suc place) shelf.before.loads
-  pub rose : Rose shelf.before.faults shelf.after.faults
+  pub loads : file_store.after.loads ≡ loads_after (suc place) file_store.before.loads
+  pub rose : Rose file_store.before.faults file_store.after.faults
 
 -- why no files are listed: a refusal, before any load; or memory ran out; or a load failed
 abbrev pub HasNoFiles : List ℕ → PortMove Shelved → ListStop → Type 0
-HasNoFiles core shelf (stops.Refused r) = (IsListRefused core r × (shelf.after ≡ shelf.before)) ⊎ ((r ≡ refusal.OutOfMemory) × IsListCutShort core (move shelf.before.loads shelf.after.loads))
-HasNoFiles core shelf (stops.LoadFault name) = LoadStops core shelf name.now
+HasNoFiles core file_store (stops.Refused r) = (IsListRefused core r × (file_store.after ≡ file_store.before)) ⊎ ((r ≡ refusal.OutOfMemory) × IsListCutShort core (move file_store.before.loads file_store.after.loads))
+HasNoFiles core file_store (stops.LoadFault name) = LoadStops core file_store name.now

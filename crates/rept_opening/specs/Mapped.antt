@@ -11,7 +11,8 @@ use Rattle.rept_session.specs.Texts.{visible}
 use Rattle.rept_opening.specs.Forms.{core_image_fault}
 use Rattle.rept_opening.specs.Loading.{CrashBytes, CoreBytes, parts_bytes}
 
--- the bytes of the core file and the trace, and the files among which those that the core file lists are looked for
+-- the bytes of the core file and the trace, and the files among which those that the core file
+-- lists are looked for
 pub record MappedCrash : Type 0 where
   pub files : Files
   pub bytes : CoreBytes
@@ -19,7 +20,8 @@ pub record MappedCrash : Type 0 where
 abbrev pub mapped_crash : Files → CoreBytes → MappedCrash
 mapped_crash files bytes = record { files = files; bytes = bytes }
 
--- what the core file's list of mapped files says: the descriptor of its file note, or the first fault
+-- what the core file's list of mapped files says: the descriptor of its file note, or the first
+-- fault
 abbrev pub ListSays : List ℕ → Result (List ℕ) MapFault → Type 0
 ListSays core said = MapsSay (length core) (segments core) said
 
@@ -27,7 +29,8 @@ ListSays core said = MapsSay (length core) (segments core) said
 abbrev pub mapped_part : MapEntry → Option (List ℕ) → Mapping
 mapped_part e file = record { start = e.start; end = e.end; offset = e.offset; file = file }
 
--- the entries of a file note from an index on, which have these names, with what is kept of each name's file
+-- the entries of a file note from an index on, which have these names, with what is kept of each
+-- name's file
 abbrev pub parts_from : (List ℕ → Option (List ℕ)) → List ℕ → ℕ → List (List ℕ) → List Mapping
 parts_from kept desc i [] = []
 parts_from kept desc i (n ∷ ns) = mapped_part (entry_named desc i n) (kept n) ∷ parts_from kept desc (i + 1) ns
@@ -51,6 +54,7 @@ pub record IsMappedAs (m : MappedCrash) (bytes : CrashBytes) : Type 0 where
   pub listed : ListSays m.bytes.core (Ok desc)
   pub same : bytes ≡ mapped_bytes m desc
 
--- the line of a mapped file whose load failed: its name, with `?` for each byte that is no visible character
+-- the line of a mapped file whose load failed: its name, with `?` for each byte that is no visible
+-- character
 abbrev pub name_line : List ℕ → List ℕ
 name_line name = codes "load-fault " ++ map visible name ++ 10 ∷ []

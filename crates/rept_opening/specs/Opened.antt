@@ -22,7 +22,7 @@ use Rattle.rept_opening.specs.Loading.Loading.{Refused, Loaded, LoadedCore, Made
 use Rattle.rept_opening.specs.Mapped.{mapped_crash, IsMappedAs}
 use Rattle.rept_opening.specs.Reading.{NotesSay}
 use Rattle.rept_opening.specs.TraceRun.{IsRunOf}
-use Rattle.rept_opening.specs.declared.load.Manner.{Manner}
+use Rattle.rept_opening.specs.declared.load.OpenOptions.{OpenOptions}
 
 -- a run, the crash in which it ends, and the sets as which values are followed along it
 pub record CrashRun (W : Type 0) : Type 0 where
@@ -45,21 +45,23 @@ run_setting p = setting p.means p.crash (course_of p.run)
 abbrev pub contradiction_in : {W : Type 0} → CrashRun W → ConflictKind → Contradiction
 contradiction_in p kind = contradiction_on (course_of p.run) kind
 
--- what a session tells by: the report of the run, an order in which it was learnt, the program counters and the processes of the notes, the functions that
--- the program's files name, and the count of packets that were left out
+-- what a session tells by: the report of the run, an order in which it was learnt, the program
+-- counters and the processes of the notes, the functions that the program's files name, and the
+-- count of packets that were left out
 pub record IsAccountOf {W : Type 0} (p : CrashRun W) (a : Account) : Type 0 where
   pub report : IsReport (run_setting p) a.known
   pub log : IsLogOf (run_setting p) a.known a.log
   pub scene : a.scene ≡ scene_of p.crash
   pub skipped : a.skipped ≡ p.run.skipped
 
--- the bytes of a trace file, the crash in which the run ends, the number of the packet to begin from, and the domain of values
+-- the bytes of a trace file, the crash in which the run ends, the number of the packet to begin
+-- from, and the domain of values
 pub record CrashTrace : Type 0 where
   pub crash : Crash
   pub trace : List ℕ
-  pub manner : Manner
+  pub manner : OpenOptions
 
-abbrev pub crash_trace : Crash → List ℕ → Manner → CrashTrace
+abbrev pub crash_trace : Crash → List ℕ → OpenOptions → CrashTrace
 crash_trace crash trace manner = record { crash = crash; trace = trace; manner = manner }
 
 -- a run of the trace, with its crash, and the sets of the domain
@@ -70,11 +72,13 @@ run_in t run = crash_run (means_of t.manner.domain) t.crash run
 abbrev pub trace_in : CrashBytes → List (List ℕ) → CrashTrace
 trace_in bytes notes = crash_trace (crash_in bytes.program bytes.core notes) bytes.trace bytes.manner
 
--- what the core file's notes say: of each thread, where the trace is one of several streams; else of the only one
+-- what the core file's notes say: of each thread, where the trace is one of several streams; else
+-- of the only one
 abbrev pub CoreSays : CrashBytes → Result (List (List ℕ)) CoreFault → Type 0
 CoreSays bytes said = NotesSay (is_several bytes.trace) bytes.core said
 
--- the program's files and the core file are accepted, which may have many threads or has one, and these are the descriptors of the register notes
+-- the program's files and the core file are accepted, which may have many threads or has one, and
+-- these are the descriptors of the register notes
 pub record ReadsAs (many : Bool) (bytes : CrashBytes) (notes : List (List ℕ)) : Type 0 where
   pub program_accepted : program_fault bytes.program ≡ None
   pub core_accepted : core_image_fault bytes.core ≡ None
@@ -90,7 +94,8 @@ pub record Opening : Type 0 where
   pub notes : List (List ℕ)
   pub run : Run
 
--- the crash that they tell, the run that ends in it, and its analysis in the domain that is asked for
+-- the crash that they tell, the run that ends in it, and its analysis in the domain that is asked
+-- for
 abbrev pub crash_at : Opening → Crash
 crash_at o = crash_in o.bytes.program o.bytes.core o.notes
 
@@ -106,14 +111,16 @@ route_at o = route_of (run_at o)
 abbrev pub setting_at : (o : Opening) → Setting (SetsOf (domain_at o))
 setting_at o = run_setting (run_at o)
 
--- what was loaded comes to the bytes of this crash: these were loaded, or the core file that was lists its other files
+-- what was loaded comes to the bytes of this crash: these were loaded, or the core file that was
+-- lists its other files
 abbrev pub IsCrashOf : Files → Loading → CrashBytes → Type 0
 IsCrashOf files (Refused r) bytes = ⊥
 IsCrashOf files (Loaded loaded) bytes = bytes ≡ loaded
 IsCrashOf files (LoadedCore core) bytes = IsMappedAs (mapped_crash files core) bytes
 IsCrashOf files (MadeRun seed steps) bytes = ⊥
 
--- the words and the files come to it: the files are accepted, this is what the notes hold, and the trace tells this run
+-- the words and the files come to it: the files are accepted, this is what the notes hold, and the
+-- trace tells this run
 pub record Opens (words : List (List ℕ)) (files : Files) (o : Opening) : Type 0 where
   pub loaded : IsCrashOf files (loading words files) o.bytes
   pub read : ReadsNotes o.bytes o.notes

@@ -1,4 +1,5 @@
--- What an executable and a core file are read as, or the first reason why they aren't (ELF-32 Object File Format; Linux core notes of RISC-V).
+-- What an executable and a core file are read as, or the first reason why they aren't (ELF-32
+-- Object File Format; Linux core notes of RISC-V).
 use Rattle.std.specs.Prelude.{◌≡◌, ℕ, Bool, false, List, [], ◌∷◌, length, slice_get, Some, None, Result, Ok, Err, MatchBool, MatchOption}
 use Rattle.rept_elf.specs.Segments.{ElfSegment, segments}
 use Rattle.rept_dump.specs.Dump.{registers_of, threads_of, HasThreads}
@@ -13,16 +14,19 @@ use Rattle.rept_opening.specs.Loading.{CrashBytes}
 use Rattle.rept_opening.specs.declared.refusal.Refusal.{Refusal}
 use Rattle.rept_opening.specs.declared.refusal.Refusal.TheVariants as refusal
 
--- what the notes of a core file of so many bytes say where there is one thread: the descriptor of the only register note, or why they don't give it
+-- what the notes of a core file of so many bytes say where there is one thread: the descriptor of
+-- the only register note, or why they don't give it
 abbrev pub SaysOfOne : ℕ → List ElfSegment → Result (List (List ℕ)) CoreFault → Type 0
 SaysOfOne size ss (Ok notes) = (note : List ℕ) × SaysRegisters size ss (Ok note) × (notes ≡ note ∷ [])
 SaysOfOne size ss (Err fault) = SaysRegisters size ss (Err fault)
 
--- what the notes of a core file say where there may be many threads, and where there is one: the descriptors of the register notes, one of each thread, or why they don't give them
+-- what the notes of a core file say where there may be many threads, and where there is one: the
+-- descriptors of the register notes, one of each thread, or why they don't give them
 abbrev pub NotesSay : Bool → List ℕ → Result (List (List ℕ)) CoreFault → Type 0
 NotesSay many core said = MatchBool many (SaysOfAll (length core) (segments core) said) (SaysOfOne (length core) (segments core) said)
 
--- These are the register notes of a dump, one of each of its threads, no two of one process; its own registers are those of the first.
+-- These are the register notes of a dump, one of each of its threads, no two of one process; its
+-- own registers are those of the first.
 pub record AreNotesOf (dump : Dump) (notes : List (List ℕ)) : Type 0 where
   pub threads : HasThreads dump notes
   pub count : threads_of dump ≡ length notes

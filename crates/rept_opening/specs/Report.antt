@@ -1,4 +1,5 @@
--- What an analysis of a run rests on, what it comes to, and why there is no report. This project's own.
+-- What an analysis of a run rests on, what it comes to, and why there is no report. This project's
+-- own.
 use Rattle.std.specs.Prelude.{◌≡◌, ◌⊎◌, List, length, ℕ}
 use Rattle.rept_elf.specs.Header.{half_at}
 use Rattle.rept_dump.specs.Dump.{HasThreads}
@@ -28,12 +29,14 @@ pub record AreEndsOf (dump : Dump) (run : Run) (ends : Ends) : Type 0 where
 abbrev pub IsFoundOf : {W R : Type 0} → CrashRun W → CrashView W R → Type 0
 IsFoundOf p v = IsFoundIn p.means (route_of p) (scene_of p.crash) v
 
--- why there is none: the closure has a conflict, and no execution ends in the crash; or memory ran out
+-- why there is none: the closure has a conflict, and no execution ends in the crash; or memory ran
+-- out
 abbrev pub HasNoReport : {W : Type 0} → CrashRun W → Refusal → Type 0
 HasNoReport p r = ((kind : ConflictKind) × ClosureHas (run_setting p) kind × IsExcluded p × (r ≡ refusal.Inconsistent (contradiction_in p kind))) ⊎ (r ≡ refusal.OutOfMemory)
 
--- What was asked, over an account of the run, and so it ended: of what a session tells of the account; of the signal of the first thread's register note (`pr_cursig` of
--- `struct elf_prstatus`, at 12); and of what was done to the input and the output.
+-- What was asked, over an account of the run, and so it ended: of what a session tells of the
+-- account; of the signal of the first thread's register note (`pr_cursig` of `struct elf_prstatus`,
+-- at 12); and of what was done to the input and the output.
 pub record IsAsked {W E : Type 0} (Asks : SessionTold → ℕ → PortMove Port → PortMove Port → E → Type 0) (p : CrashRun W) (source sink : PortMove Port) (end : E) : Type 0 where
   pub account : Account
   pub report : IsAccountOf p account

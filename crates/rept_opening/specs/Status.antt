@@ -1,9 +1,9 @@
 -- The number of a status, as the process ends with it.
 use Rattle.std.specs.Prelude.{ℕ}
-use Rattle.rept_opening.specs.declared.status.Status.{Status}
-use Rattle.rept_opening.specs.declared.status.Status.TheVariants as ends
+use Rattle.rept_opening.specs.declared.status.ExitStatus.{ExitStatus}
+use Rattle.rept_opening.specs.declared.status.ExitStatus.TheVariants as ends
 
-abbrev pub number_of_status : Status → ℕ
+abbrev pub number_of_status : ExitStatus → ℕ
 number_of_status ends.Ok = 0
 number_of_status ends.Inconsistent = 1
 number_of_status ends.Usage = 2

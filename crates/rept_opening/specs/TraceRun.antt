@@ -1,4 +1,5 @@
--- The run of a trace file, of one stream or of several, over a program and the threads of its core file. This project's own.
+-- The run of a trace file, of one stream or of several, over a program and the threads of its core
+-- file. This project's own.
 use Rattle.std.specs.Prelude.{◌≡◌, ◌≢◌, ◌⊎◌, ℕ, ◌<◌, List, length, Result, IfOk, IfErr, MatchBool, MatchResult}
 use Rattle.rept_dump.specs.Dump.{threads_of}
 use Rattle.rept_dump.specs.declared.dump.Dump.{Dump}
@@ -14,7 +15,8 @@ use Rattle.rept_path.specs.declared.rebuilding.Path.{Path}
 use Rattle.rept_found.specs.Crash.{Crash}
 use Rattle.rept_opening.specs.Path.{IsTracePath, HasNoPath}
 
--- what the run of a trace of several streams is told by: the program, the threads of the register notes, the bytes, and the packet of each stream from which on its window may begin
+-- what the run of a trace of several streams is told by: the program, the threads of the register
+-- notes, the bytes, and the packet of each stream from which on its window may begin
 abbrev pub traced_in : Crash → List ℕ → ℕ → Traced
 traced_in crash trace from = record { program = crash.exe; notes = crash.notes; trace = trace; from = from }
 
@@ -38,7 +40,8 @@ IsRunOf crash trace from run = MatchBool (is_several trace) (IsSharedRun crash t
 abbrev pub HasNoRunOf : Crash → List ℕ → ℕ → PathFault → Type 0
 HasNoRunOf crash trace from fault = MatchBool (is_several trace) (HasNoSharedRun crash trace from fault) (HasNoPath crash trace from fault)
 
--- What was read of a trace is the run that it tells, or why it tells none: there is no other run, and no other reason. Want of memory is none of the definition's.
+-- What was read of a trace is the run that it tells, or why it tells none: there is no other run,
+-- and no other reason. Want of memory is none of the definition's.
 pub record IsRunRead (crash : Crash) (trace : List ℕ) (from : ℕ) (result : Result Run PathFault) : Type 0 where
   pub run : IfOk result (IsRunOf crash trace from)
   pub refusal : IfErr result (λ e. (e ≡ OutOfMemory) ⊎ HasNoRunOf crash trace from e)
@@ -46,7 +49,8 @@ pub record IsRunRead (crash : Crash) (trace : List ℕ) (from : ℕ) (result : R
   pub only_refusal : (fault : PathFault) → HasNoRunOf crash trace from fault → MatchResult result (λ _. ⊥) (λ e. (e ≡ OutOfMemory) ⊎ (e ≡ fault))
   pub reason : (fault : PathFault) → HasNoRunOf crash trace from fault → fault ≢ OutOfMemory
 
--- The run can be analysed as one that ends in the dump: it is sound and small enough, and has one thread for each of the dump's, of which there are some.
+-- The run can be analysed as one that ends in the dump: it is sound and small enough, and has one
+-- thread for each of the dump's, of which there are some.
 pub record FitsDump (dump : Dump) (run : Run) : Type 0 where
   pub sound : IsSoundCourse (course_of run)
   pub small : IsSmall (course_of run)

@@ -1,4 +1,5 @@
--- What is true of the report of a run, and what a conflict excludes: in every execution of all threads, and of a run that is one path in every execution of that path. This project's own.
+-- What is true of the report of a run, and what a conflict excludes: in every execution of all
+-- threads, and of a run that is one path in every execution of that path. This project's own.
 use Rattle.std.specs.Prelude.{◌≡◌, ℕ, List, Some}
 use Rattle.rept_isa.specs.declared.row.StepRow.{StepRow}
 use Rattle.rept_machine.specs.State.{State}
@@ -16,12 +17,14 @@ use Rattle.rept_opening.specs.Opened.{CrashRun, route_of}
 abbrev pub path_by : {W : Type 0} → CrashRun W → List StepRow → ThreadPath W
 path_by p rows = path_of p.means p.crash rows
 
--- Where a run is one path, of one thread in one slice, all of which is told: what is shown of it is what is shown of the path, and it holds in every execution of the path.
+-- Where a run is one path, of one thread in one slice, all of which is told: what is shown of it is
+-- what is shown of the path, and it holds in every execution of the path.
 pub record IsTrueAlone {W : Type 0} (p : CrashRun W) (known : Knowledge) (rows : List StepRow) : Type 0 where
   pub shown : (scene : Scene) → shown_on (route_of p) known scene ≡ shown_of (path_by p rows) known scene
   pub holds : IsTrueReport (path_by p rows) known
 
--- What a session tells of a report of the run holds in every execution of all threads that ends in the crash, and reasons rest on the report; and of one path the same in its own words.
+-- What a session tells of a report of the run holds in every execution of all threads that ends in
+-- the crash, and reasons rest on the report; and of one path the same in its own words.
 pub record IsTrue {W : Type 0} (p : CrashRun W) (known : Knowledge) : Type 0 where
   pub threads : IsTrueTrip (route_of p) known
   pub alone : (rows : List StepRow) → path_rows p.run ≡ Some rows → IsTrueAlone p known rows

@@ -14,7 +14,7 @@ use crate::refusal::Refusal;
 use rept_amo::Atomic;
 use rept_analysis::Stop;
 use rept_dump::Dump;
-use rept_found::{Found, ThreadEnds, name_conflict, prepare, reports_are_true, search};
+use rept_found::{AnalysedCrash, ThreadEnds, name_conflict, prepare, reports_are_true, search};
 use rept_span::Transfer;
 use rept_steps::Run;
 use rept_timeline::RunPaths;
@@ -46,14 +46,15 @@ pub fn basis_of<'a>(alloc: Global, run: &'a Run, dump: &Dump<'_>) -> Result<Basi
     }
 }
 
-/// Learns all that follows of a run that ends in a dump, with values followed as sets of `W`. The refusals are a conflict that the closure has, with no execution that ends in the dump, and want of
-/// memory.
+/// Learns all that follows of a run that ends in a dump, with values followed as sets of `W`. The
+/// refusals are a conflict that the closure has, with no execution that ends in the dump, and want
+/// of memory.
 pub fn analyse<'a, W: Transfer>(
     alloc: Global,
     run: &Run,
     basis: &'a Basis<'a>,
     dump: &'a Dump<'a>,
-) -> Result<Found<'a, W, Atomic>, Refusal>
+) -> Result<AnalysedCrash<'a, W, Atomic>, Refusal>
     requires fits { FitsDump dump.now run.now }
     requires course { IsCourseOf (course_of run.now) basis.now.paths.ways }
     requires ended { AreEndsOf dump.now run.now basis.now.ends }

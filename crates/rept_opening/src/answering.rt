@@ -35,8 +35,8 @@ pub struct Circumstances {
 }
 
 /// How the questions ended that arrived on an input and were answered on an output: a session, or a
-/// debugger's dialog. `asks` relates what a session tells of a report, the signal, and what was done
-/// to both ports, to such an end.
+/// debugger's dialog. `asks` relates what a session tells of a report, the signal, and what was
+/// done to both ports, to such an end.
 pub trait Asking: Copy {
     ghost asks: { SessionTold → ℕ → PortMove Port → PortMove Port → Self → Type 0 };
 

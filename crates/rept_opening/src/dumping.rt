@@ -10,8 +10,9 @@ use crate::refusal::Refusal;
 use rept_dump::{CoreFault, Dump};
 use rept_elf::{Image, Want};
 
-/// The dump of an executable and the core file of its crash, which may have `many` threads, each with a register note, or has one. The first of these is
-/// the refusal: the executable's, that of the core file as an image, and that of its notes.
+/// The dump of an executable and the core file of its crash, which may have `many` threads, each
+/// with a register note, or has one. The first of these is the refusal: the executable's, that of
+/// the core file as an image, and that of its notes.
 pub fn read_dump<'a>(exe: &'a [u8], core: &'a [u8], many: bool) -> Result<Dump<'a>, Refusal>
     ensures dump { IfOk result (IsDumpOf many exe.now core.now) }
     ensures notes { IfOk result (HasNotes many) }

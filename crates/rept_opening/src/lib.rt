@@ -1,4 +1,5 @@
-//! A crash that is opened: its words and files, the run that its trace tells, the report of that, and what is asked of it.
+//! A crash that is opened: its words and files, the run that its trace tells, the report of that,
+//! and what is asked of it.
 #![tactic(auto)]
 
 mod analysis;
@@ -17,8 +18,8 @@ mod texts;
 pub use answering::{Asking, Circumstances, open_report};
 pub use dumping::read_dump;
 pub use listed::{ListStop, ListedFiles, images_in, load_listed};
-pub use load::{Asked, CoreFiles, CrashFiles, Manner, load_files};
+pub use load::{CoreFiles, CrashFiles, LoadedRequest, OpenOptions, load_files};
 pub use refusal::{FileKind, Refusal};
 pub use running::trace_run;
-pub use status::Status;
+pub use status::ExitStatus;
 pub use telling::{deliver, tell, tell_failed, tell_no_memory};

@@ -13,7 +13,7 @@ use crate::refusal::Refusal;
 use rept_elf::{Image, Want};
 use rept_mapfiles::{LoadStop, asked_names, images_of, load_names};
 use rept_maps::{Images, Maps};
-use rept_ports::Shelf;
+use rept_ports::FileStore;
 use rept_word::OutOfMemory;
 use std::alloc::Global;
 
@@ -39,19 +39,20 @@ pub enum ListStop<'a> {
     LoadFault(&'a str),
 }
 
-/// Reads a core file and its list of mapped files, and loads those, as `load_names` does. The first of these is the refusal: that of the core file as an image, that of its list, and the load of a
+/// Reads a core file and its list of mapped files, and loads those, as `load_names` does. The first
+/// of these is the refusal: that of the core file as an image, that of its list, and the load of a
 /// name that failed; want of memory may come after the list was read.
-pub fn load_listed<'a, H: Shelf>(
+pub fn load_listed<'a, H: FileStore>(
     alloc: Global,
-    shelf: &mut H,
+    file_store: &mut H,
     core: &'a [u8],
 ) -> Result<ListedFiles<'a>, ListStop<'a>>
-    ensures loaded { IfOk result (AreLoaded core.now (move (H.port shelf.old) (H.port shelf.new))) }
-    ensures stopped { IfErr result (HasNoFiles core.now (move (H.port shelf.old) (H.port shelf.new))) }
-    ensures files { (H.port shelf.new).files ≡ (H.port shelf.old).files }
-    ensures later { (H.port shelf.old).faults ≤ (H.port shelf.new).faults }
-    ensures once { IfSome (H.port shelf.old).files (λ _. (H.port shelf.new).faults ≤ (H.port shelf.old).faults + 1) }
-    ensures calm { OnOk result (IfSome (H.port shelf.old).files (λ _. (H.port shelf.new).faults ≡ (H.port shelf.old).faults)) }
+    ensures loaded { IfOk result (AreLoaded core.now (move (H.port file_store.old) (H.port file_store.new))) }
+    ensures stopped { IfErr result (HasNoFiles core.now (move (H.port file_store.old) (H.port file_store.new))) }
+    ensures files { (H.port file_store.new).files ≡ (H.port file_store.old).files }
+    ensures later { (H.port file_store.old).faults ≤ (H.port file_store.new).faults }
+    ensures once { IfSome (H.port file_store.old).files (λ _. (H.port file_store.new).faults ≤ (H.port file_store.old).faults + 1) }
+    ensures calm { OnOk result (IfSome (H.port file_store.old).files (λ _. (H.port file_store.new).faults ≡ (H.port file_store.old).faults)) }
 {
     let image = match Image::read(core, Want::Core) {
         Ok(image) => image,
@@ -65,7 +66,7 @@ pub fn load_listed<'a, H: Shelf>(
         Ok(names) => names,
         Err(_) => return Err(ListStop::Refused(Refusal::OutOfMemory)),
     };
-    let kept = match load_names(alloc, shelf, names.as_slice()) {
+    let kept = match load_names(alloc, file_store, names.as_slice()) {
         Ok(kept) => kept,
         Err(LoadStop::Failed(place)) => return Err(ListStop::LoadFault(names[place])),
         Err(LoadStop::OutOfMemory) => return Err(ListStop::Refused(Refusal::OutOfMemory)),
@@ -82,8 +83,8 @@ pub fn load_listed<'a, H: Shelf>(
 pub fn images_in<'a>(alloc: Global, listed: &'a ListedFiles<'_>) -> Result<Images<'a>, OutOfMemory>
     ensures places { IfOk result (λ images. length images ≡ map_count (desc_of listed.now.maps)) }
 
-    // Where the shelf tells its files, they are those of the names.
-    ensures mapped { (core : List ℕ) (shelf : PortMove Shelved) → AreLoaded core shelf listed.now → IfOk result (λ images. IfSome shelf.before.files (λ files. mappings (desc_of listed.now.maps) images ≡ mapped_files files (desc_of listed.now.maps))) }
+    // Where the file store tells its files, they are those of the names.
+    ensures mapped { (core : List ℕ) (file_store : PortMove Shelved) → AreLoaded core file_store listed.now → IfOk result (λ images. IfSome file_store.before.files (λ files. mappings (desc_of listed.now.maps) images ≡ mapped_files files (desc_of listed.now.maps))) }
 {
     images_of(
         alloc,

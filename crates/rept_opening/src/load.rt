@@ -6,18 +6,18 @@ ghost use Rattle.rept_ports.specs.Shelves.{Loads};
 ghost use Rattle.rept_words.specs.Words.{meaning_of};
 ghost use Rattle.rept_words.specs.Asked.{core_named_by, named_by};
 ghost use Rattle.rept_opening.specs.declared.refusal.FileKind.{FileKind};
-ghost use Rattle.rept_opening.specs.Loading.{core_bytes, crash_bytes, limit_of, fetched_all, fetched_core, first_packet, loading, loads_to, asked_for, BothLoaded, CoreStopsAt, FitBefore, IsAsked, LoadRefuses, LoadingStops, NamesNone, ShelfMoves, IsLastLoad};
+ghost use Rattle.rept_opening.specs.Loading.{core_bytes, crash_bytes, limit_of, fetched_all, fetched_core, first_packet, loading, loads_to, asked_for, BothLoaded, CoreStopsAt, FitBefore, IsAsked, LoadRefuses, LoadingStops, NamesNone, FileStoreMoves, IsLastLoad};
 ghost use Rattle.rept_opening.specs.Loading.Loading.{Loaded, LoadedCore};
 
 use crate::refusal::{FileKind, Refusal};
-use rept_ports::{LoadFault, Shelf};
+use rept_ports::{FileStore, LoadFault};
 use rept_words::{CoreNames, Domain, FileNames, Request, meaning};
 use std::alloc::Global;
 
-/// How the files of a crash are studied: the number of the packet from which the path is rebuilt, and the domain in which values are
-/// followed.
+/// How the files of a crash are studied: the number of the packet from which the path is rebuilt,
+/// and the domain in which values are followed.
 #[derive(Clone, Copy)]
-pub struct Manner {
+pub struct OpenOptions {
     pub from: u32,
     pub domain: Domain,
 }
@@ -28,20 +28,21 @@ pub struct CrashFiles {
     pub exe: Vec<u8>,
     pub core: Vec<u8>,
     pub trace: Vec<u8>,
-    pub manner: Manner,
+    pub manner: OpenOptions,
 }
 
-/// The bytes of the core file and the trace of a crash whose core file lists the files of the program, and how they are studied.
+/// The bytes of the core file and the trace of a crash whose core file lists the files of the
+/// program, and how they are studied.
 #[derive(Drop)]
 pub struct CoreFiles {
     pub core: Vec<u8>,
     pub trace: Vec<u8>,
-    pub manner: Manner,
+    pub manner: OpenOptions,
 }
 
 /// What the words ask for: the files of a crash, which are loaded, or a made run.
 #[derive(Drop)]
-pub enum Asked {
+pub enum LoadedRequest {
     Files(CrashFiles),
     Maps(CoreFiles),
     Made { seed: u32, steps: u32 },
@@ -59,18 +60,18 @@ fn limit(kind: FileKind) -> usize
 }
 
 /// Loads one file.
-fn load_file<H: Shelf>(
+fn load_file<H: FileStore>(
     alloc: Global,
-    shelf: &mut H,
+    file_store: &mut H,
     name: &str,
     kind: FileKind,
 ) -> Result<Vec<u8>, Refusal>
-    ensures bytes { IfOk result (λ v. IfSome (H.port shelf.old).files (λ files. files name.now ≡ Some v.items)) }
+    ensures bytes { IfOk result (λ v. IfSome (H.port file_store.old).files (λ files. files name.now ≡ Some v.items)) }
     ensures within { IfOk result (λ v. length v.items ≤ limit_of kind) }
-    ensures loads { Loads (H.port shelf.old) (H.port shelf.new) result }
-    ensures err { IfErr result (LoadRefuses (move (H.port shelf.old) (H.port shelf.new)) name.now kind) }
+    ensures loads { Loads (H.port file_store.old) (H.port file_store.new) result }
+    ensures err { IfErr result (LoadRefuses (move (H.port file_store.old) (H.port file_store.new)) name.now kind) }
 {
-    match shelf.load(alloc, name, limit(kind)) {
+    match file_store.load(alloc, name, limit(kind)) {
         Ok(bytes) => Ok(bytes),
         Err(LoadFault::Failed) => Err(Refusal::LoadFault(kind)),
         Err(LoadFault::Missing) => Err(Refusal::NoFile(kind)),
@@ -90,28 +91,28 @@ fn first_packet_of(from: Option<u32>) -> u32
 }
 
 /// Loads the three files, in this order.
-fn load_names<H: Shelf>(
+fn load_names<H: FileStore>(
     alloc: Global,
-    shelf: &mut H,
+    file_store: &mut H,
     names: FileNames<'_>,
-    manner: Manner,
+    manner: OpenOptions,
 ) -> Result<CrashFiles, Refusal>
-    ensures loaded { IfOk result (λ l. IfSome (H.port shelf.old).files (λ files. fetched_all files (named_by names.entry) manner ≡ Loaded (crash_bytes l.exe.items l.core.items l.trace.items l.manner))) }
+    ensures loaded { IfOk result (λ l. IfSome (H.port file_store.old).files (λ files. fetched_all files (named_by names.entry) manner ≡ Loaded (crash_bytes l.exe.items l.core.items l.trace.items l.manner))) }
     ensures within { IfOk result (λ l. length l.trace.items ≤ limit_of FileKind.Trace) }
-    ensures before { IsOk result → IfSome (H.port shelf.old).files (λ files. FitBefore files (named_by names.entry) FileKind.Trace) }
-    ensures loads { IsOk result → (H.port shelf.new).loads ≡ loads_to FileKind.Trace (H.port shelf.old).loads }
-    ensures faults { ShelfMoves (move (H.port shelf.old) (H.port shelf.new)) result }
-    ensures refused { IfErr result (λ r. (kind : FileKind) × IsLastLoad (move (H.port shelf.old) (H.port shelf.new)) (named_by names.entry) kind r) }
+    ensures before { IsOk result → IfSome (H.port file_store.old).files (λ files. FitBefore files (named_by names.entry) FileKind.Trace) }
+    ensures loads { IsOk result → (H.port file_store.new).loads ≡ loads_to FileKind.Trace (H.port file_store.old).loads }
+    ensures faults { FileStoreMoves (move (H.port file_store.old) (H.port file_store.new)) result }
+    ensures refused { IfErr result (λ r. (kind : FileKind) × IsLastLoad (move (H.port file_store.old) (H.port file_store.new)) (named_by names.entry) kind r) }
 {
-    let exe = match load_file(alloc, shelf, names.exe, FileKind::Exe) {
+    let exe = match load_file(alloc, file_store, names.exe, FileKind::Exe) {
         Ok(exe) => exe,
         Err(refusal) => return Err(refusal),
     };
-    let core = match load_file(alloc, shelf, names.core, FileKind::Core) {
+    let core = match load_file(alloc, file_store, names.core, FileKind::Core) {
         Ok(core) => core,
         Err(refusal) => return Err(refusal),
     };
-    match load_file(alloc, shelf, names.trace, FileKind::Trace) {
+    match load_file(alloc, file_store, names.trace, FileKind::Trace) {
         Ok(trace) => Ok(CrashFiles {
             exe,
             core,
@@ -123,23 +124,23 @@ fn load_names<H: Shelf>(
 }
 
 /// Loads the core file and the trace, in this order.
-fn load_core_names<H: Shelf>(
+fn load_core_names<H: FileStore>(
     alloc: Global,
-    shelf: &mut H,
+    file_store: &mut H,
     names: CoreNames<'_>,
-    manner: Manner,
+    manner: OpenOptions,
 ) -> Result<CoreFiles, Refusal>
-    ensures loaded { IfOk result (λ l. IfSome (H.port shelf.old).files (λ files. fetched_core files (core_named_by names.entry) manner ≡ LoadedCore (core_bytes l.core.items l.trace.items l.manner))) }
+    ensures loaded { IfOk result (λ l. IfSome (H.port file_store.old).files (λ files. fetched_core files (core_named_by names.entry) manner ≡ LoadedCore (core_bytes l.core.items l.trace.items l.manner))) }
     ensures within { IfOk result (λ l. length l.trace.items ≤ limit_of FileKind.Trace) }
-    ensures both { IfOk result (λ l. BothLoaded (core_named_by names.entry) l.core.items (move (H.port shelf.old) (H.port shelf.new))) }
-    ensures faults { ShelfMoves (move (H.port shelf.old) (H.port shelf.new)) result }
-    ensures refused { IfErr result (λ r. (kind : FileKind) × CoreStopsAt (move (H.port shelf.old) (H.port shelf.new)) (core_named_by names.entry) kind r) }
+    ensures both { IfOk result (λ l. BothLoaded (core_named_by names.entry) l.core.items (move (H.port file_store.old) (H.port file_store.new))) }
+    ensures faults { FileStoreMoves (move (H.port file_store.old) (H.port file_store.new)) result }
+    ensures refused { IfErr result (λ r. (kind : FileKind) × CoreStopsAt (move (H.port file_store.old) (H.port file_store.new)) (core_named_by names.entry) kind r) }
 {
-    let core = match load_file(alloc, shelf, names.core, FileKind::Core) {
+    let core = match load_file(alloc, file_store, names.core, FileKind::Core) {
         Ok(core) => core,
         Err(refusal) => return Err(refusal),
     };
-    match load_file(alloc, shelf, names.trace, FileKind::Trace) {
+    match load_file(alloc, file_store, names.trace, FileKind::Trace) {
         Ok(trace) => Ok(CoreFiles {
             core,
             trace,
@@ -150,16 +151,16 @@ fn load_core_names<H: Shelf>(
 }
 
 /// Loads the files that the words name, if they ask for files.
-pub fn load_files<H: Shelf>(
+pub fn load_files<H: FileStore>(
     alloc: Global,
     words: &[String],
-    shelf: &mut H,
-) -> Result<Asked, Refusal>
-    ensures loaded { IfOk result (λ asked. IfSome (H.port shelf.old).files (λ files. loading (map string_bytes words.now) files ≡ asked_for asked)) }
-    ensures asked { IfOk result (λ asked. IsAsked asked (meaning_of (map string_bytes words.now)) (move (H.port shelf.old) (H.port shelf.new))) }
-    ensures faults { ShelfMoves (move (H.port shelf.old) (H.port shelf.new)) result }
-    ensures refused { IfErr result (LoadingStops (meaning_of (map string_bytes words.now)) (move (H.port shelf.old) (H.port shelf.new))) }
-    ensures idle { NamesNone (meaning_of (map string_bytes words.now)) → shelf.new ≡ shelf.old }
+    file_store: &mut H,
+) -> Result<LoadedRequest, Refusal>
+    ensures loaded { IfOk result (λ asked. IfSome (H.port file_store.old).files (λ files. loading (map string_bytes words.now) files ≡ asked_for asked)) }
+    ensures asked { IfOk result (λ asked. IsAsked asked (meaning_of (map string_bytes words.now)) (move (H.port file_store.old) (H.port file_store.new))) }
+    ensures faults { FileStoreMoves (move (H.port file_store.old) (H.port file_store.new)) result }
+    ensures refused { IfErr result (LoadingStops (meaning_of (map string_bytes words.now)) (move (H.port file_store.old) (H.port file_store.new))) }
+    ensures idle { NamesNone (meaning_of (map string_bytes words.now)) → file_store.new ≡ file_store.old }
     ensures usage { result ≡ Err Refusal.Usage → meaning_of (map string_bytes words.now) ≡ None }
     ensures no_meaning { meaning_of (map string_bytes words.now) ≡ None → (result ≡ Err Refusal.Usage) ⊎ (result ≡ Err Refusal.OutOfMemory) }
 {
@@ -174,26 +175,26 @@ pub fn load_files<H: Shelf>(
                 },
             ),
         ) => {
-            let manner = Manner {
+            let manner = OpenOptions {
                 from: first_packet_of(from),
                 domain,
             };
-            match load_names(alloc, shelf, names, manner) {
-                Ok(files) => Ok(Asked::Files(files)),
+            match load_names(alloc, file_store, names, manner) {
+                Ok(files) => Ok(LoadedRequest::Files(files)),
                 Err(refusal) => Err(refusal),
             }
         }
         Ok(Some(Request::Maps { names, from })) => {
-            let manner = Manner {
+            let manner = OpenOptions {
                 from: first_packet_of(from),
                 domain: Domain::Ranges,
             };
-            match load_core_names(alloc, shelf, names, manner) {
-                Ok(files) => Ok(Asked::Maps(files)),
+            match load_core_names(alloc, file_store, names, manner) {
+                Ok(files) => Ok(LoadedRequest::Maps(files)),
                 Err(refusal) => Err(refusal),
             }
         }
-        Ok(Some(Request::Made { seed, steps })) => Ok(Asked::Made { seed, steps }),
+        Ok(Some(Request::Made { seed, steps })) => Ok(LoadedRequest::Made { seed, steps }),
         Err(_) => Err(Refusal::OutOfMemory),
     }
 }

@@ -6,7 +6,7 @@ ghost use Rattle.rept_session.specs.Texts.{place_text};
 ghost use Rattle.rept_opening.specs.Lines.{line_of, words_of, status_of, status_of_path, file_word, elf_fault_text, core_fault_text, map_fault_text, contradiction_text, conflict_text, two_values_text, cell_text, value_text_in};
 
 use crate::path_line::push_path_fault;
-use crate::status::Status;
+use crate::status::ExitStatus;
 use crate::texts::push_numbered;
 use rept_dump::CoreFault;
 use rept_elf::ElfFault;
@@ -53,21 +53,21 @@ pub enum Refusal {
 
 impl Refusal {
     /// The status that goes with it.
-    pub fn status(&self) -> Status
+    pub fn status(&self) -> ExitStatus
         ensures { result ≡ status_of self.now }
     {
         match self {
-            Refusal::Usage => Status::Usage,
-            Refusal::LoadFault(_) => Status::LoadFault,
-            Refusal::NoFile(_) => Status::NoFile,
-            Refusal::TooLarge(_) => Status::TooLarge,
-            Refusal::Executable(_) => Status::Executable,
-            Refusal::CoreImage(_) | Refusal::Core(_) | Refusal::Maps(_) => Status::Core,
+            Refusal::Usage => ExitStatus::Usage,
+            Refusal::LoadFault(_) => ExitStatus::LoadFault,
+            Refusal::NoFile(_) => ExitStatus::NoFile,
+            Refusal::TooLarge(_) => ExitStatus::TooLarge,
+            Refusal::Executable(_) => ExitStatus::Executable,
+            Refusal::CoreImage(_) | Refusal::Core(_) | Refusal::Maps(_) => ExitStatus::Core,
             Refusal::Path(fault) => path_status(fault),
-            Refusal::Inconsistent(_) => Status::Inconsistent,
-            Refusal::InputFault => Status::InputFault,
-            Refusal::OutOfMemory => Status::OutOfMemory,
-            Refusal::TooMuchInput => Status::TooMuchInput,
+            Refusal::Inconsistent(_) => ExitStatus::Inconsistent,
+            Refusal::InputFault => ExitStatus::InputFault,
+            Refusal::OutOfMemory => ExitStatus::OutOfMemory,
+            Refusal::TooMuchInput => ExitStatus::TooMuchInput,
         }
     }
 
@@ -105,13 +105,14 @@ fn push_words(text: &mut Text, refusal: &Refusal) -> Result<(), OutOfMemory>
     }
 }
 
-/// That a trace tells no run has a status of its own, running out of memory while it is rebuilt has not.
-fn path_status(fault: &PathFault) -> Status
+/// That a trace tells no run has a status of its own, running out of memory while it is rebuilt has
+/// not.
+fn path_status(fault: &PathFault) -> ExitStatus
     ensures { result ≡ status_of_path fault.now }
 {
     match fault {
-        PathFault::OutOfMemory => Status::OutOfMemory,
-        _ => Status::Trace,
+        PathFault::OutOfMemory => ExitStatus::OutOfMemory,
+        _ => ExitStatus::Trace,
     }
 }
 

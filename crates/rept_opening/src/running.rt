@@ -14,7 +14,8 @@ use rept_runs::{is_several, read_run};
 use rept_steps::{Run, Steps};
 use std::alloc::Global;
 
-/// The run that a trace file tells of the program and the threads of a dump, from the packet of this number on: of several streams, or of one, which tells the path of one thread. A trace of
+/// The run that a trace file tells of the program and the threads of a dump, from the packet of
+/// this number on: of several streams, or of one, which tells the path of one thread. A trace of
 /// several streams wants the registers of each thread. The refusal says why it tells none.
 pub fn trace_run(alloc: Global, trace: &[u8], dump: &Dump<'_>, from: u32) -> Result<Run, PathFault>
     requires few { length trace.now < 2 ^ 32 }

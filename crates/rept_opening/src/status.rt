@@ -5,7 +5,7 @@ ghost use Rattle.rept_opening.specs.Status.{number_of_status};
 
 /// How a call of the program ends.
 #[derive(Clone, Copy)]
-pub enum Status {
+pub enum ExitStatus {
     /// The input was read to its end, or to `quit`, and all answers were written.
     Ok,
     /// No execution fits the files.
@@ -34,25 +34,25 @@ pub enum Status {
     TooMuchInput,
 }
 
-impl Status {
+impl ExitStatus {
     /// The number with which the process ends.
     pub fn number(self) -> u8
         ensures { result ≡ number_of_status self }
     {
         match self {
-            Status::Ok => 0,
-            Status::Inconsistent => 1,
-            Status::Usage => 2,
-            Status::LoadFault => 3,
-            Status::NoFile => 4,
-            Status::TooLarge => 5,
-            Status::Executable => 6,
-            Status::Core => 7,
-            Status::Trace => 8,
-            Status::InputFault => 9,
-            Status::OutputFault => 10,
-            Status::OutOfMemory => 11,
-            Status::TooMuchInput => 12,
+            ExitStatus::Ok => 0,
+            ExitStatus::Inconsistent => 1,
+            ExitStatus::Usage => 2,
+            ExitStatus::LoadFault => 3,
+            ExitStatus::NoFile => 4,
+            ExitStatus::TooLarge => 5,
+            ExitStatus::Executable => 6,
+            ExitStatus::Core => 7,
+            ExitStatus::Trace => 8,
+            ExitStatus::InputFault => 9,
+            ExitStatus::OutputFault => 10,
+            ExitStatus::OutOfMemory => 11,
+            ExitStatus::TooMuchInput => 12,
         }
     }
 }

@@ -1,5 +1,6 @@
--- Each execution of the rows of one thread is one of the course. Three ticks belong to each row: a call is entered at the first, changes
--- memory at the second and returns at the third, and another row is executed at the first.
+-- Each execution of the rows of one thread is one of the course. Three ticks belong to each row: a
+-- call is entered at the first, changes memory at the second and returns at the third, and another
+-- row is executed at the first.
 use Rattle.std.proofs.Common.{◌≡◌, ◌≢◌, ℕ, zero, suc, ◌+◌, ◌*◌, ◌/◌, ◌%◌, ◌<◌, ◌≤◌, eqb, cond, Bool, true, false, List, [], ◌∷◌, length, Some, slice_get, unwrap_or, inl, inr, refl, sym, ap, ◌∙◌, subst, arith, lit<}
 use Rattle.std.proofs.lemmas.Bool.{false≢true, cases_Bool, cases_order, cases_eq, cases_lt, ne_eqb}
 use Rattle.rept_isa.specs.declared.instr.Instr.{Instr}

@@ -1,5 +1,5 @@
--- The order says no more than what each arrangement of the events has: where it doesn't put an event before another one, some
--- arrangement has them the other way round.
+-- The order says no more than what each arrangement of the events has: where it doesn't put an
+-- event before another one, some arrangement has them the other way round.
 use Rattle.std.proofs.Common.{◌≡◌, ℕ, zero, suc, ◌+◌, ◌*◌, ◌<◌, ◌≤◌, Bool, true, false, cond, List, [], ◌∷◌, length, Some, None, slice_get, unwrap_or, inl, inr, refl, sym, ap, ◌∙◌, subst, arith, mul-le-mul_right}
 use Rattle.std.proofs.lemmas.Bool.{false≢true, cases_Bool, cases_order}
 use Rattle.rept_steps.specs.declared.slice.Slice.{Slice}

@@ -38,7 +38,8 @@ either false h = refl
 pub reach_back : (slices : List Slice) (from to step i j : ℕ) → TakeRows from slices to → i ≤ j → reaches_at slices j step ≡ false → reaches_at slices i step ≡ false
 reach_back slices from to step i j taken least not_there = either (reaches_at slices i step) (λ here. let there = reach_on slices from to step i j taken least here in cc)
 
--- all before a number don't reach past the row, and all from it on do: it is that of the row's slice
+-- all before a number don't reach past the row, and all from it on do: it is that of the row's
+-- slice
 slot_is : (slices : List Slice) (step p : ℕ) → ((k : ℕ) → k < p → reaches_at slices k step ≡ false) → reaches_at slices p step ≡ true → slot slices step ≡ p
 slot_is [] step zero before at = refl
 slot_is [] step (suc p) before at = let none : true ≡ false = before 0 (omega arith) in absurd (cc)

@@ -7,7 +7,7 @@ use Rattle.rept_machine.specs.Step.{IsStep}
 use Rattle.rept_steps.specs.Course.{Course, Row, rows_of, IsRow, row_at, calls}
 use Rattle.rept_order.specs.Moments.{Act, IsAct}
 use Rattle.rept_order.specs.Moments.Moment.{before, after}
-use Rattle.rept_order.specs.Moments.Act.{row, dark}
+use Rattle.rept_order.specs.Moments.Act.{row, untraced}
 use Rattle.rept_order.specs.History.{History, Ending, IsExecution, state_at}
 use Rattle.rept_order.specs.Points.{thread_registers, memory_at, state_from}
 use Rattle.rept_order.specs.Legs.{Point, number_of, point_at, registers_on}
@@ -47,7 +47,7 @@ module _ (C : Course) (D : Ending) (h : History) (x : IsExecution C D h) where
 
   act_writes : (act : Act) (a : ℕ) → IsAct C act → ActWrites C D h act a → WritesIn C D (run_of_history C h) act a
   act_writes (row r) a is w = written_at (row_at C r) r a is w
-  act_writes dark a is w = tt
+  act_writes untraced a is w = tt
 
   pub execution_is_run : IsCourseRun C D (run_of_history C h)
   execution_is_run = record {
@@ -55,6 +55,6 @@ module _ (C : Course) (D : Ending) (h : History) (x : IsExecution C D h) where
     steps = step_is;
     registers_end = λ t s v below some is. ap (λ (f : ℕ → ℕ). f s) (registers_here t (length (rows_of C t)) below (omega arith)) ∙ registers_saved C D h x t s v some is;
     bytes_end = x.bytes_end;
-    quiet = λ s a is its order still. still_stays C D h x s a is its order (λ act inside falls w. still act inside falls (act_writes act a inside w));
+    quiet = λ s a is its order still. still_stays C D h x s a is its order (λ act inside may_act w. still act inside may_act (act_writes act a inside w));
     one = λ s a k. one_memory C D h x s k a;
   }

@@ -10,13 +10,13 @@ use Rattle.rept_machine.specs.Calls.{MayChange}
 use Rattle.rept_machine.specs.State.{State}
 use Rattle.rept_machine.proofs.StepLaws.{effect_keeps_byte}
 use Rattle.rept_steps.specs.Course.{Course, Row, IsRow, row_at, is_call_row, calls}
-use Rattle.rept_order.specs.Events.{Part, Event, FitsRow, first_event, last_event, Before, DarkPrecedes}
+use Rattle.rept_order.specs.Events.{Part, Event, FitsRow, first_event, last_event, Before, UntracedPrecedes}
 use Rattle.rept_order.specs.Events.Part.{whole, entry, return}
 use Rattle.rept_order.specs.Events.IsBefore.{by_call}
-use Rattle.rept_order.specs.Moments.{Moment, IsMoment, Act, IsAct, DarkBefore, WhollyBefore, WhollyAfter}
+use Rattle.rept_order.specs.Moments.{Moment, IsMoment, Act, IsAct, UntracedBefore, WhollyBefore, WhollyAfter}
 use Rattle.rept_order.specs.Moments.Moment.{before, after, at_end}
-use Rattle.rept_order.specs.Moments.Act.{row, dark}
-use Rattle.rept_order.specs.History.{Happening, History, Ending, IsExecution, tick, seen_by, state_at, Occurs, ExecutesRow, DarkChanges, Does}
+use Rattle.rept_order.specs.Moments.Act.{row, untraced}
+use Rattle.rept_order.specs.History.{Happening, History, Ending, IsExecution, tick, seen_by, state_at, Occurs, ExecutesRow, UntracedChanges, Does}
 use Rattle.rept_order.specs.History.Happening.{event, change, nothing}
 use Rattle.rept_order.specs.Writing.{WritesBy, RowWrites, ActWrites, By}
 use Rattle.rept_order.proofs.Sequence.{part_of, first_whole, last_whole, first_entry, last_return}
@@ -67,42 +67,42 @@ module _ (C : Course) (D : Ending) (h : History) (x : IsExecution C D h) where
     where
       same : q ≡ r
       same = cc by
-  within_by k (change dark) r below is does by = cc by
+  within_by k (change untraced) r below is does by = cc by
   within_by k nothing r below is does by = absurd by
 
   pub row_within : (k : ℕ) (r : Row) → k < h.ticks → By (h.happening k) (row r) → IsWithin r k
   row_within k r below by = within_by k (h.happening k) r below refl (x.does k below) by
 
-  dark_by : (k : ℕ) (g : Happening) → Does C D h k g → By g dark → DarkChanges C h k
-  dark_by k (event e) does by = absurd by
-  dark_by k (change (row q)) does by = cc by
-  dark_by k (change dark) does by = does
-  dark_by k nothing does by = absurd by
+  untraced_by : (k : ℕ) (g : Happening) → Does C D h k g → By g untraced → UntracedChanges C h k
+  untraced_by k (event e) does by = absurd by
+  untraced_by k (change (row q)) does by = cc by
+  untraced_by k (change untraced) does by = does
+  untraced_by k nothing does by = absurd by
 
-  pub dark_within : (k : ℕ) → k < h.ticks → By (h.happening k) dark → DarkChanges C h k
-  dark_within k below by = dark_by k (h.happening k) (x.does k below) by
+  pub untraced_within : (k : ℕ) → k < h.ticks → By (h.happening k) untraced → UntracedChanges C h k
+  untraced_within k below by = untraced_by k (h.happening k) (x.does k below) by
 
   pub act_is : (act : Act) (k : ℕ) → k < h.ticks → By (h.happening k) act → IsAct C act
   act_is (row r) k below by = (row_within k r below by).is_row
-  act_is dark k below by = (dark_within k below by).told
+  act_is untraced k below by = (untraced_within k below by).told
 
-  dark_place : (k : ℕ) (e : Event) → DarkChanges C h k → DarkPrecedes C e → k < h.place e
-  dark_place k e does (f, told, way) = let less = does.early f told in let onward = or_kept C D h x f e way in omega arith
+  untraced_place : (k : ℕ) (e : Event) → UntracedChanges C h k → UntracedPrecedes C e → k < h.place e
+  untraced_place k e does (f, told, way) = let less = does.early f told in let onward = or_kept C D h x f e way in omega arith
 
-  dark_early : (k : ℕ) (m : Moment) → k < h.ticks → DarkChanges C h k → DarkBefore C m → k < tick C h m
-  dark_early k (before r) below does way = dark_place k (first_event C r) does way
-  dark_early k (after r) below does way = let less = dark_place k (last_event C r) does way in omega arith
-  dark_early k at_end below does way = below
+  untraced_early : (k : ℕ) (m : Moment) → k < h.ticks → UntracedChanges C h k → UntracedBefore C m → k < tick C h m
+  untraced_early k (before r) below does way = untraced_place k (first_event C r) does way
+  untraced_early k (after r) below does way = let less = untraced_place k (last_event C r) does way in omega arith
+  untraced_early k at_end below does way = below
 
-  -- Whoever acts at a tick: where the order puts it wholly before a moment, the tick is before the moment, and after it where it
-  -- puts it wholly after.
+  -- Whoever acts at a tick: where the order puts it wholly before a moment, the tick is before the
+  -- moment, and after it where it puts it wholly after.
   pub acts_before : (act : Act) (k : ℕ) (m : Moment) → k < h.ticks → By (h.happening k) act → IsMoment C m → WhollyBefore C act m → k < tick C h m
   acts_before (row r) k m below by is way =
       let within = row_within k r below by in
       let kept = order_kept C D h x (after r) m within.is_row is way in
       let inside = within.to in
       omega arith
-  acts_before dark k m below by is way = dark_early k m below (dark_within k below by) way
+  acts_before untraced k m below by is way = untraced_early k m below (untraced_within k below by) way
 
   pub acts_after : (act : Act) (k : ℕ) (w : Moment) → k < h.ticks → By (h.happening k) act → IsMoment C w → WhollyAfter C act w → tick C h w ≤ k
   acts_after (row r) k w below by is way =
@@ -110,7 +110,7 @@ module _ (C : Course) (D : Ending) (h : History) (x : IsExecution C D h) where
       let kept = order_kept C D h x w (before r) is within.is_row way in
       let inside = within.from in
       omega arith
-  acts_after dark k w below by is way = absurd way
+  acts_after untraced k w below by is way = absurd way
 
   module _ (a : ℕ) where
     -- no one who acts at the tick writes the byte
@@ -137,7 +137,7 @@ module _ (C : Course) (D : Ending) (h : History) (x : IsExecution C D h) where
     keeps_by : (k : ℕ) (g : Happening) → k < h.ticks → h.happening k ≡ g → Does C D h k g → ((act : Act) → By g act → ActWrites C D h act a → ⊥) → (h.world (suc k)).memory a ≡ (h.world k).memory a
     keeps_by k (event e) below is does spared = event_keeps e.row e.part k below is does (spared (row e.row) refl)
     keeps_by k (change (row r)) below is does spared = does.memory a (λ m. spared (row r) refl (call_writes (row_at C r) D.image_end (state_at C h r.thread (before r)) (state_at C h r.thread (after r)) a does.call m))
-    keeps_by k (change dark) below is does spared = absurd (spared dark refl tt)
+    keeps_by k (change untraced) below is does spared = absurd (spared untraced refl tt)
     keeps_by k nothing below is does spared = does.memory a
 
     -- a tick at which no one who may write the byte acts leaves it as it was

@@ -11,11 +11,11 @@ pub mod Between
 pub mod Decide
 pub mod Nexts
 pub mod Alone
-pub mod Dark
+pub mod Untraced
 pub mod Legs
 pub mod OneWriter
 pub mod Lone
-pub mod Falling
+pub mod Acting
 pub mod Interleaved
 pub mod Links
 pub mod Arrangements

@@ -2,22 +2,22 @@
 use Rattle.std.proofs.Common.{◌≡◌, ◌≢◌, ℕ, suc, ◌<◌, ◌≤◌, Bool, true, false, cond, List, [], ◌∷◌, length, inl, inr, refl, sym, ap, ◌∙◌, subst, arith}
 use Rattle.std.proofs.lemmas.Bool.{false≢true, cases_Bool}
 use Rattle.rept_steps.specs.Course.{Course, IsSoundCourse}
-use Rattle.rept_order.specs.Moments.{Moment, IsMoment, NotLater, Earlier, Act, IsAct, WhollyBefore, Stretch, stretch, Falls}
+use Rattle.rept_order.specs.Moments.{Moment, IsMoment, NotLater, Earlier, Act, IsAct, WhollyBefore, Stretch, stretch, MayAct}
 use Rattle.rept_order.specs.Moments.Moment.{before, after, at_end}
 use Rattle.rept_order.specs.Times.{is_earlier, wholly_before}
 use Rattle.rept_order.specs.Links.{all_moments, later_count, moments_left, HasNextMoment}
 use Rattle.rept_order.proofs.Between.{before_later, not_both, only_own}
 use Rattle.rept_order.proofs.Decide.{earlier_true, earlier_from, cases_earlier}
-use Rattle.rept_order.proofs.Falling.{before_true, before_from}
+use Rattle.rept_order.proofs.Acting.{before_true, before_from}
 use Rattle.rept_order.proofs.Nexts.{In, every, listed, earlier_trans}
 
 module _ (C : Course) (sound : IsSoundCourse C) where
-  -- what lies before a moment lies before each later one, and doesn't fall between
-  pub past_onward : (act : Act) (m w : Moment) → WhollyBefore C act m → NotLater C m w → WhollyBefore C act w × (Falls C act (stretch m w) → ⊥)
-  past_onward act m w way order = (before_later C act m w way order, λ falls. falls.not_before way)
+  -- what lies before a moment lies before each later one, and can't act between
+  pub past_onward : (act : Act) (m w : Moment) → WhollyBefore C act m → NotLater C m w → WhollyBefore C act w × (MayAct C act (stretch m w) → ⊥)
+  past_onward act m w way order = (before_later C act m w way order, λ may_act. may_act.not_before way)
 
-  -- what lies before a moment, and doesn't fall between it and an earlier one, lies before that
-  pub past_back : (act : Act) (m w : Moment) → IsAct C act → IsMoment C m → WhollyBefore C act w → (Falls C act (stretch m w) → ⊥) → WhollyBefore C act m
+  -- what lies before a moment, and can't act between it and an earlier one, lies before that
+  pub past_back : (act : Act) (m w : Moment) → IsAct C act → IsMoment C m → WhollyBefore C act w → (MayAct C act (stretch m w) → ⊥) → WhollyBefore C act m
   past_back act m w is its way out =
       elim (cases_Bool (wholly_before C act m)) [
         | inl early ↦ before_true C sound act m is its early

@@ -5,9 +5,9 @@ use Rattle.rept_steps.specs.declared.threads.ThreadRows.{ThreadRows}
 use Rattle.rept_steps.specs.Course.{Course, Row, row_of, rows_of, no_thread, IsRow, IsAlone, IsSoundCourse}
 use Rattle.rept_order.specs.Events.{Event, IsEvent, first_event, last_event, Precedes, PrecedesOrIs}
 use Rattle.rept_order.specs.Events.IsBefore.{by_row}
-use Rattle.rept_order.specs.Moments.{Moment, IsMoment, Earlier, Act, IsAct, WhollyAfter, Stretch, stretch, Falls, may_by, stores, IsUntouchedStep, IsNext, ArePause, AreOne}
+use Rattle.rept_order.specs.Moments.{Moment, IsMoment, Earlier, Act, IsAct, WhollyAfter, Stretch, stretch, MayAct, may_by, stores, IsUntouchedStep, IsNext, ArePause, AreOne}
 use Rattle.rept_order.specs.Moments.Moment.{before, after, at_end}
-use Rattle.rept_order.specs.Moments.Act.{row, dark}
+use Rattle.rept_order.specs.Moments.Act.{row, untraced}
 use Rattle.rept_order.specs.Moments.ArePause.{between, last}
 use Rattle.rept_order.specs.Times.{Sooner}
 use Rattle.rept_order.specs.Times.IsOwnBefore.{rows, call}
@@ -44,8 +44,8 @@ module _ (C : Course) (sound : IsSoundCourse C) (alone : IsAlone C) where
   named : (q r : Row) → IsRow C q → IsRow C r → q.step ≡ r.step → q ≡ r
   named q r is its same = ap (λ (t : ℕ). row_of t q.step) (one_thread q r is its) ∙ ap (λ (i : ℕ). row_of r.thread i) same
 
-  no_dark : IsAct C dark → ⊥
-  no_dark is = none_number (sym alone.told ∙ is.1)
+  no_untraced : IsAct C untraced → ⊥
+  no_untraced is = none_number (sym alone.told ∙ is.1)
 
   precedes_rows : (e f : Event) → IsEvent C f → Precedes C e f → e.row.step ≤ f.row.step
   precedes_rows e f its way = by (precedes_sooner C sound e f way)
@@ -74,17 +74,17 @@ module _ (C : Course) (sound : IsSoundCourse C) (alone : IsAlone C) where
       alone = λ q plain same. ap row (same_before (ap (λ (x : Stretch). x.from) same));
     })
 
-    spared_row : (q r : Row) → IsRow C q → IsRow C r → may r a ≡ false → Falls C (row q) (stretch (before r) (after r)) → may q a ≡ false
-    spared_row q r is its out falls =
+    spared_row : (q r : Row) → IsRow C q → IsRow C r → may r a ≡ false → MayAct C (row q) (stretch (before r) (after r)) → may q a ≡ false
+    spared_row q r is its out may_act =
         elim (cases_order q.step r.step) [
           | inl same ↦ subst (λ (x : Row). may x a ≡ false) (sym (named q r is its same)) out
-          | inr (inl less) ↦ absurd (falls.not_before (earlier_first q r is its less))
-          | inr (inr more) ↦ absurd (falls.not_after (earlier_first r q its is more))
+          | inr (inl less) ↦ absurd (may_act.not_before (earlier_first q r is its less))
+          | inr (inr more) ↦ absurd (may_act.not_after (earlier_first r q its is more))
         ]
 
-    spared : (r : Row) → IsRow C r → may r a ≡ false → (act : Act) → IsAct C act → Falls C act (stretch (before r) (after r)) → may_by may act a ≡ false
-    spared r its out (row q) is falls = spared_row q r is its out falls
-    spared r its out dark is falls = absurd (no_dark is)
+    spared : (r : Row) → IsRow C r → may r a ≡ false → (act : Act) → IsAct C act → MayAct C act (stretch (before r) (after r)) → may_by may act a ≡ false
+    spared r its out (row q) is may_act = spared_row q r is its out may_act
+    spared r its out untraced is may_act = absurd (no_untraced is)
 
     pub alone_quiet : (r : Row) → IsRow C r → may r a ≡ false → IsUntouchedStep C may (stretch (before r) (after r)) a
     alone_quiet r is out = record {
@@ -92,12 +92,12 @@ module _ (C : Course) (sound : IsSoundCourse C) (alone : IsAlone C) where
       quiet = record { in_order = row_forward C r is; spared = spared r is out };
     }
 
-  falls_pause : (q r : Row) (w : Moment) → IsRow C q → IsRow C r → (suc r.step ≤ q.step → WhollyAfter C (row q) w) → Falls C (row q) (stretch (after r) w) → ⊥
-  falls_pause q r w is its past falls =
+  may_act_pause : (q r : Row) (w : Moment) → IsRow C q → IsRow C r → (suc r.step ≤ q.step → WhollyAfter C (row q) w) → MayAct C (row q) (stretch (after r) w) → ⊥
+  may_act_pause q r w is its past may_act =
       elim (cases_order q.step r.step) [
-        | inl same ↦ falls.not_before (inl (ap (λ (x : Row). last_event C x) (named q r is its same)))
-        | inr (inl less) ↦ falls.not_before (inr (directly C _ _ (record { first = last_is_event C q is; second = last_is_event C r its; why = by_row (one_thread q r is its) less })))
-        | inr (inr more) ↦ falls.not_after (past more)
+        | inl same ↦ may_act.not_before (inl (ap (λ (x : Row). last_event C x) (named q r is its same)))
+        | inr (inl less) ↦ may_act.not_before (inr (directly C _ _ (record { first = last_is_event C q is; second = last_is_event C r its; why = by_row (one_thread q r is its) less })))
+        | inr (inr more) ↦ may_act.not_after (past more)
       ]
 
   after_next : (t i : ℕ) (q : Row) → IsRow C q → suc i < length (rows_of C t) → suc i ≤ q.step → WhollyAfter C (row q) (before (row_of t (suc i)))
@@ -108,17 +108,17 @@ module _ (C : Course) (sound : IsSoundCourse C) (alone : IsAlone C) where
         | inr (inr more) ↦ inr (directly C _ _ (record { first = first_is_event C (row_of t (suc i)) inside; second = first_is_event C q is; why = by_row (one_thread (row_of t (suc i)) q inside is) more }))
       ]
 
-  still_between : (t i : ℕ) → suc i < length (rows_of C t) → (act : Act) → IsAct C act → Falls C act (stretch (after (row_of t i)) (before (row_of t (suc i)))) → may_by (λ r b. stores C r) act 0 ≡ false
-  still_between t i inside (row q) is falls = absurd (falls_pause q (row_of t i) (before (row_of t (suc i))) is (omega arith) (after_next t i q is inside) falls)
-  still_between t i inside dark is falls = absurd (no_dark is)
+  still_between : (t i : ℕ) → suc i < length (rows_of C t) → (act : Act) → IsAct C act → MayAct C act (stretch (after (row_of t i)) (before (row_of t (suc i)))) → may_by (λ r b. stores C r) act 0 ≡ false
+  still_between t i inside (row q) is may_act = absurd (may_act_pause q (row_of t i) (before (row_of t (suc i))) is (omega arith) (after_next t i q is inside) may_act)
+  still_between t i inside untraced is may_act = absurd (no_untraced is)
 
-  still_last : (t i : ℕ) → suc i ≡ length (rows_of C t) → (act : Act) → IsAct C act → Falls C act (stretch (after (row_of t i)) at_end) → may_by (λ r b. stores C r) act 0 ≡ false
-  still_last t i inside (row q) is falls = absurd (falls_pause q (row_of t i) at_end is (omega arith) (λ most. let same : length (rows_of C q.thread) ≡ length (rows_of C t) = ap (λ (u : ℕ). length (rows_of C u)) (one_thread q (row_of t i) is (omega arith)) in absurd (omega arith)) falls)
-  still_last t i inside dark is falls = absurd (no_dark is)
+  still_last : (t i : ℕ) → suc i ≡ length (rows_of C t) → (act : Act) → IsAct C act → MayAct C act (stretch (after (row_of t i)) at_end) → may_by (λ r b. stores C r) act 0 ≡ false
+  still_last t i inside (row q) is may_act = absurd (may_act_pause q (row_of t i) at_end is (omega arith) (λ most. let same : length (rows_of C q.thread) ≡ length (rows_of C t) = ap (λ (u : ℕ). length (rows_of C u)) (one_thread q (row_of t i) is (omega arith)) in absurd (omega arith)) may_act)
+  still_last t i inside untraced is may_act = absurd (no_untraced is)
 
   pub pause_alone : (x : Stretch) → ArePause C x → AreOne C x
-  pause_alone x (between t i inside is) = record { pause = between t i inside is; still = λ act its falls. still_between t i inside act its (subst (λ (y : Stretch). Falls C act y) is falls) }
-  pause_alone x (last t i inside is) = record { pause = last t i inside is; still = λ act its falls. still_last t i inside act its (subst (λ (y : Stretch). Falls C act y) is falls) }
+  pause_alone x (between t i inside is) = record { pause = between t i inside is; still = λ act its may_act. still_between t i inside act its (subst (λ (y : Stretch). MayAct C act y) is may_act) }
+  pause_alone x (last t i inside is) = record { pause = last t i inside is; still = λ act its may_act. still_last t i inside act its (subst (λ (y : Stretch). MayAct C act y) is may_act) }
 
   none_between : (r : Row) (x : Moment) → IsRow C r → IsMoment C x → Earlier C (before r) x → Earlier C x (after r) → ⊥
   none_between r (before q) is its from to =

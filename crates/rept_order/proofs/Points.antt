@@ -16,9 +16,9 @@ use Rattle.rept_steps.specs.Course.{Course, Row, row_of, rows_of, IsRow, row_at,
 use Rattle.rept_order.specs.Events.{Part, Event, FitsRow, first_event, last_event}
 use Rattle.rept_order.specs.Events.Part.{whole, entry, return}
 use Rattle.rept_order.specs.Events.IsBefore.{by_row}
-use Rattle.rept_order.specs.Moments.{Moment, IsMoment, Act, IsAct, Stretch, stretch, Falls, IsUntouched, may_by, atomic_writes, writes_memory, is_writing, stores, ArePause, AreOne}
+use Rattle.rept_order.specs.Moments.{Moment, IsMoment, Act, IsAct, Stretch, stretch, MayAct, IsUntouched, may_by, atomic_writes, writes_memory, is_writing, stores, ArePause, AreOne}
 use Rattle.rept_order.specs.Moments.Moment.{before, after, at_end}
-use Rattle.rept_order.specs.Moments.Act.{row, dark}
+use Rattle.rept_order.specs.Moments.Act.{row, untraced}
 use Rattle.rept_order.specs.Moments.ArePause.{between, last}
 use Rattle.rept_order.specs.History.{Happening, History, Ending, IsExecution, tick, seen_by, state_at, Occurs, Does}
 use Rattle.rept_order.specs.History.Happening.{event, change, nothing}
@@ -78,11 +78,11 @@ module _ (C : Course) (D : Ending) (h : History) (x : IsExecution C D h) where
   pub one_memory : (s : Stretch) → AreOne C s → (a : ℕ) → memory_at C h s.to a ≡ memory_at C h s.from a
   one_memory s one a =
       let p = pause_in_order s one.pause in
-      quiet_stays C D h x (λ r b. stores C r) (stores_cover C D h) s a p.0 p.1 (record { in_order = p.3; spared = λ act is falls. still act (one.still act is falls) })
+      quiet_stays C D h x (λ r b. stores C r) (stores_cover C D h) s a p.0 p.1 (record { in_order = p.3; spared = λ act is may_act. still act (one.still act is may_act) })
     where
       still : (act : Act) → may_by (λ r b. stores C r) act 0 ≡ false → may_by (λ r b. stores C r) act a ≡ false
       still (row r) e = e
-      still dark e = e
+      still untraced e = e
 
   -- registers change by events of their thread alone
   register_by : (k t s : ℕ) (g : Happening) → h.happening k ≡ g → Does C D h k g → ((e : Event) → h.happening k ≡ event e → e.row.thread ≡ t → ⊥) → (h.world (suc k)).register t s ≡ (h.world k).register t s
@@ -93,7 +93,7 @@ module _ (C : Course) (D : Ending) (h : History) (x : IsExecution C D h) where
       by_part entry d = d.registers t s
       by_part return d = d.others t s (λ same. out e is (sym same))
   register_by k t s (change (row r)) is does out = does.registers t s
-  register_by k t s (change dark) is does out = does.registers t s
+  register_by k t s (change untraced) is does out = does.registers t s
   register_by k t s nothing is does out = does.registers t s
 
   registers_stay : (n k t s : ℕ) → k + n ≤ h.ticks → ((j : ℕ) (e : Event) → k ≤ j → j < k + n → h.happening j ≡ event e → e.row.thread ≡ t → ⊥) → (h.world (k + n)).register t s ≡ (h.world k).register t s
@@ -252,7 +252,8 @@ module _ (C : Course) (D : Ending) (h : History) (x : IsExecution C D h) (t i : 
       let waits = registers_stay C D h x (h.place (part_of (row_of t i) return) - suc (h.place (part_of (row_of t i) entry))) (suc (h.place (part_of (row_of t i) entry))) t s (omega arith) (λ j e from to is own. none_pending call j e (omega arith) from (omega arith) is own) in
       ap (λ (k : ℕ). (h.world k).register t s) ticks.1 ∙ returned.1.own s other ∙ ap (λ (k : ℕ). (h.world k).register t s) (sym far) ∙ waits ∙ entered.registers t s ∙ ap (λ (k : ℕ). (h.world k).register t s) (sym ticks.0)
 
-  -- a call changes x10 alone of its thread's registers, and goes on behind itself: it is a step with any memory, the same before and after
+  -- a call changes x10 alone of its thread's registers, and goes on behind itself: it is a step
+  -- with any memory, the same before and after
   pub call_step : (its_row : StepRow) (memory : ℕ → ℕ) → row_at C (row_of t i) ≡ Some its_row → calls C (row_of t i) ≡ true → IsStep D.image_end its_row (state_from (thread_registers C h t i) memory) (state_from (thread_registers C h t (suc i)) memory)
   call_step its_row memory is call =
       let returned = (happens_at return call).1 in
@@ -265,7 +266,8 @@ module _ (C : Course) (D : Ending) (h : History) (x : IsExecution C D h) (t i : 
       })
 
 module _ (C : Course) (D : Ending) (h : History) (x : IsExecution C D h) where
-  -- the last point of a thread has what was saved of its registers, the end what was saved of the memory
+  -- the last point of a thread has what was saved of its registers, the end what was saved of the
+  -- memory
   pub registers_saved : (t s v : ℕ) → 0 < s → slice_get (D.registers t) s ≡ Some v → thread_registers C h t (length (rows_of C t)) s ≡ v
   registers_saved t s v some is = ap (λ (m : Moment). (h.world (tick C h m)).register t s) (moment_last C D h x t (length (rows_of C t)) (omega arith)) ∙ x.registers_end t s v some is
 

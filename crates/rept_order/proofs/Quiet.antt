@@ -3,9 +3,9 @@ use Rattle.std.proofs.Common.{◌≡◌, ℕ, zero, suc, ◌+◌, ◌-◌, ◌<�
 use Rattle.std.proofs.lemmas.Bool.{false≢true}
 use Rattle.rept_steps.specs.Course.{Course, Row, IsRow, calls}
 use Rattle.rept_order.specs.Events.Part.{whole}
-use Rattle.rept_order.specs.Moments.{Moment, IsMoment, NotLater, Act, IsAct, Stretch, Falls, IsUntouched, may_by}
+use Rattle.rept_order.specs.Moments.{Moment, IsMoment, NotLater, Act, IsAct, Stretch, MayAct, IsUntouched, may_by}
 use Rattle.rept_order.specs.Moments.Moment.{before, after}
-use Rattle.rept_order.specs.Moments.Act.{row, dark}
+use Rattle.rept_order.specs.Moments.Act.{row, untraced}
 use Rattle.rept_order.specs.History.{Happening, History, Ending, IsExecution, tick}
 use Rattle.rept_order.specs.History.Happening.{event}
 use Rattle.rept_order.specs.Writing.{ActWrites, By, IsStill, Covers}
@@ -27,11 +27,11 @@ module _ (C : Course) (D : Ending) (h : History) (x : IsExecution C D h) where
     where
       only : (act : Act) → By (event (part_of r whole)) act → act ≡ row r
       only (row q) same = ap (λ (p : Row). row p) (sym same)
-      only dark same = absurd same
+      only untraced same = absurd same
 
-  -- who acts between two moments falls between them
-  pub acts_fall : (act : Act) (k : ℕ) (s : Stretch) → k < h.ticks → By (h.happening k) act → IsMoment C s.from → IsMoment C s.to → tick C h s.from ≤ k → k < tick C h s.to → Falls C act s
-  acts_fall act k s below by is its from to = record {
+  -- who acts between two moments may act between them
+  pub acts_may_act : (act : Act) (k : ℕ) (s : Stretch) → k < h.ticks → By (h.happening k) act → IsMoment C s.from → IsMoment C s.to → tick C h s.from ≤ k → k < tick C h s.to → MayAct C act s
+  acts_may_act act k s below by is its from to = record {
     not_before = λ way. let less = acts_before C D h x act k s.from below by is way in omega arith;
     not_after = λ way. let more = acts_after C D h x act k s.to below by its way in omega arith;
     alone = λ r plain same. alone_at act k r below by (subst (λ (m : Moment). IsMoment C m) (ap (λ (y : Stretch). y.from) same) is) plain (subst (λ (m : Moment). tick C h m ≤ k) (ap (λ (y : Stretch). y.from) same) from) (subst (λ (m : Moment). k < tick C h m) (ap (λ (y : Stretch). y.to) same) to);
@@ -46,7 +46,7 @@ module _ (C : Course) (D : Ending) (h : History) (x : IsExecution C D h) where
       let last = early C D h x s.to its in
       let below : k < h.ticks = omega arith in
       let inside : k < tick C h s.to = omega arith in
-      let here = keeps C D h x a k below (λ act by. still act (act_is C D h x act k below by) (acts_fall act k s below by is its from inside)) in
+      let here = keeps C D h x a k below (λ act by. still act (act_is C D h x act k below by) (acts_may_act act k s below by is its from inside)) in
       let rest = stays n (suc k) a s is its still (omega arith) (omega arith) in
       let same : k + suc n ≡ suc k + n = omega arith in
       rw same (rest ∙ here)
@@ -59,10 +59,10 @@ module _ (C : Course) (D : Ending) (h : History) (x : IsExecution C D h) where
       ap (λ (i : ℕ). (h.world i).memory a) (sym far) ∙ stays (tick C h s.to - tick C h s.from) (tick C h s.from) a s is its still (omega arith) far
 
   module _ (may : Row → ℕ → Bool) (covers : Covers C D h may) where
-    may_act : (act : Act) (a : ℕ) → IsAct C act → ActWrites C D h act a → may_by may act a ≡ true
-    may_act (row r) a is w = covers r a is w
-    may_act dark a is w = refl
+    may_cover : (act : Act) (a : ℕ) → IsAct C act → ActWrites C D h act a → may_by may act a ≡ true
+    may_cover (row r) a is w = covers r a is w
+    may_cover untraced a is w = refl
 
     -- and so is one that is quiet between them
     pub quiet_stays : (s : Stretch) (a : ℕ) → IsMoment C s.from → IsMoment C s.to → IsUntouched C may s a → (h.world (tick C h s.to)).memory a ≡ (h.world (tick C h s.from)).memory a
-    quiet_stays s a is its quiet = still_stays s a is its quiet.in_order (λ act inside falls w. false≢true (sym (quiet.spared act inside falls) ∙ may_act act a inside w))
+    quiet_stays s a is its quiet = still_stays s a is its quiet.in_order (λ act inside may_act w. false≢true (sym (quiet.spared act inside may_act) ∙ may_cover act a inside w))

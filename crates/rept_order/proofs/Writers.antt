@@ -3,7 +3,7 @@ use Rattle.std.proofs.Common.{◌≡◌, ℕ, ◌<◌, true, refl, arith}
 use Rattle.rept_steps.specs.Course.{Course, Row}
 use Rattle.rept_order.specs.Moments.{IsMoment, Act, IsAct, may_by}
 use Rattle.rept_order.specs.Moments.Moment.{before, after}
-use Rattle.rept_order.specs.Moments.Act.{row, dark}
+use Rattle.rept_order.specs.Moments.Act.{row, untraced}
 use Rattle.rept_order.specs.History.{Ending, History, IsExecution, tick}
 use Rattle.rept_order.specs.Writing.{ActWrites, By, Covers}
 use Rattle.rept_order.specs.Writers.{Writer, Reach, CourseSpot, IsCourseCandidate, ComesLast, IsCourseWriter, NoneWrites, WriterHoldsInHistory, SurelyWrites}
@@ -12,16 +12,16 @@ use Rattle.rept_order.proofs.Ticks.{order_kept}
 use Rattle.rept_order.proofs.Keeps.{act_is, acts_before, acts_after}
 
 module _ (C : Course) (D : Ending) (can : Reach) (h : History) (covers : Covers C D h can.may) (sure : SurelyWrites C D h can) (x : IsExecution C D h) (s : CourseSpot) (is : IsMoment C s.moment) where
-  may_act : (act : Act) → IsAct C act → ActWrites C D h act s.address → may_by can.may act s.address ≡ true
-  may_act (row r) inside w = covers r s.address inside w
-  may_act dark inside w = refl
+  may_cover : (act : Act) → IsAct C act → ActWrites C D h act s.address → may_by can.may act s.address ≡ true
+  may_cover (row r) inside w = covers r s.address inside w
+  may_cover untraced inside w = refl
 
   acts_candidate : (act : Act) (k : ℕ) → k < tick C h s.moment → k < h.ticks → By (h.happening k) act → ActWrites C D h act s.address → IsCourseCandidate C can s act
   acts_candidate act k below last by w =
       let inside = act_is C D h x act k last by in
       record {
         is = inside;
-        may = may_act act inside w;
+        may = may_cover act inside w;
         not_after = λ way. let past = acts_after C D h x act k s.moment last by is way in omega arith;
       }
 

@@ -1,4 +1,5 @@
--- A run of one thread in one slice, all of which is told: its executions are those of the rows by themselves.
+-- A run of one thread in one slice, all of which is told: its executions are those of the rows by
+-- themselves.
 use Rattle.std.specs.Prelude.{◌≡◌, ℕ, suc, ◌<◌, ◌≤◌, [], length}
 use Rattle.rept_machine.specs.State.{State}
 use Rattle.rept_machine.specs.Execution.{Execution}

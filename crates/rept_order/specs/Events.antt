@@ -1,5 +1,6 @@
--- What happens in a run of several threads, and which of it comes before which. A row that is no call happens at once. A call
--- is entered in its slice, and it returns as the thread's next slice begins. This project's own.
+-- What happens in a run of several threads, and which of it comes before which. A row that is no
+-- call happens at once. A call is entered in its slice, and it returns as the thread's next slice
+-- begins. This project's own.
 use Rattle.std.specs.Prelude.{◌≡◌, ℕ, ◌<◌, ◌⊎◌, Bool, true, false, List, [], ◌∷◌, Option, Some}
 use Rattle.rept_steps.specs.declared.slice.Slice.{Slice}
 use Rattle.rept_steps.specs.Course.{Course, Row, IsRow, calls, slices_of, slice_of, slice_after}
@@ -76,15 +77,15 @@ Precedes C e f = (xs : List Event) × Chain C e xs f
 abbrev pub PrecedesOrIs : Course → Event → Event → Type 0
 PrecedesOrIs C e f = (e ≡ f) ⊎ Precedes C e f
 
--- its slice begins after the dark
-pub record IsAfterDark (C : Course) (e : Event) : Type 0 where
+-- its slice begins after the untraced prefix
+pub record IsAfterUntraced (C : Course) (e : Event) : Type 0 where
   pub event : IsEvent C e
-  pub dark : ℕ
+  pub untraced : ℕ
   pub slice : Slice
-  pub is_dark : C.dark ≡ Some dark
+  pub is_untraced : C.untraced ≡ Some untraced
   pub in_slice : event_slice C e ≡ Some slice
-  pub late : dark < slice.begin
+  pub late : untraced < slice.begin
 
--- the order puts all that the dark writes before the event
-abbrev pub DarkPrecedes : Course → Event → Type 0
-DarkPrecedes C e = (f : Event) × IsAfterDark C f × PrecedesOrIs C f e
+-- the order puts all that the untraced prefix writes before the event
+abbrev pub UntracedPrecedes : Course → Event → Type 0
+UntracedPrecedes C e = (f : Event) × IsAfterUntraced C f × PrecedesOrIs C f e

@@ -1,5 +1,6 @@
--- One numbering for all threads: their points one after the other, thread 0 first. Leg g leads from point g to point g + 1. It is a
--- row of a thread, or the seam between the last point of a thread and the first one of the next. This project's own.
+-- One numbering for all threads: their points one after the other, thread 0 first. Leg g leads from
+-- point g to point g + 1. It is a row of a thread, or the seam between the last point of a thread
+-- and the first one of the next. This project's own.
 use Rattle.std.specs.Prelude.{ℕ, zero, suc, ◌+◌, ◌-◌, nat_lt, if◌then◌else◌, List, [], ◌∷◌, length, Option}
 use Rattle.rept_isa.specs.declared.row.StepRow.{StepRow}
 use Rattle.rept_steps.specs.declared.threads.ThreadRows.{ThreadRows}

@@ -1,5 +1,6 @@
--- What an execution has where an analysis looks: the registers of a thread at its points, and the memory at moments. A thread of n
--- rows has the points 0 to n. Point p is the moment before row p, and the last one is the end. This project's own.
+-- What an execution has where an analysis looks: the registers of a thread at its points, and the
+-- memory at moments. A thread of n rows has the points 0 to n. Point p is the moment before row p,
+-- and the last one is the end. This project's own.
 use Rattle.std.specs.Prelude.{ℕ, nat_lt, if◌then◌else◌, length}
 use Rattle.rept_machine.specs.State.{State}
 use Rattle.rept_steps.specs.Course.{Course, row_of, rows_of}

@@ -7,7 +7,7 @@ use Rattle.rept_steps.specs.Course.{Course, row_of, Row, calls}
 use Rattle.rept_order.specs.Events.{Event, Part, first_part, last_part}
 use Rattle.rept_order.specs.Moments.{Moment, Act}
 use Rattle.rept_order.specs.Moments.Moment.{before, after, at_end}
-use Rattle.rept_order.specs.Moments.Act.{row, dark}
+use Rattle.rept_order.specs.Moments.Act.{row, untraced}
 
 abbrev pub moment_named : values.Moment → Moment
 moment_named (values.TheVariants.Before t i) = before (row_of t i)
@@ -16,7 +16,7 @@ moment_named values.TheVariants.End = at_end
 
 abbrev pub act_named : acts.Act → Act
 act_named (acts.TheVariants.Row t i) = row (row_of t i)
-act_named acts.TheVariants.Dark = dark
+act_named acts.TheVariants.Untraced = untraced
 
 abbrev pub edge_part : Bool → Bool → Part
 edge_part false is_call = first_part is_call

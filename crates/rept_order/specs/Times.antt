@@ -1,12 +1,12 @@
--- The order by times alone: within a thread by the rows' numbers, and between threads by where slices end and begin. This project's
--- own.
+-- The order by times alone: within a thread by the rows' numbers, and between threads by where
+-- slices end and begin. This project's own.
 use Rattle.std.specs.Prelude.{◌≡◌, ℕ, ◌<◌, ◌⊎◌, nat_lt, ◌==◌, ◌&&◌, ◌||◌, not, Bool, true, false, Option, Some, None}
 use Rattle.rept_steps.specs.declared.slice.Slice.{Slice}
 use Rattle.rept_steps.specs.Course.{Course, Row, calls, slices_of, slice_of}
 use Rattle.rept_order.specs.Events.{Event, Part, event_slice, first_event, last_event}
 use Rattle.rept_order.specs.Events.Part.{whole, entry, return}
 use Rattle.rept_order.specs.Moments.{Moment, Act}
-use Rattle.rept_order.specs.Moments.Act.{row, dark}
+use Rattle.rept_order.specs.Moments.Act.{row, untraced}
 use Rattle.rept_order.specs.Moments.Moment.{before, after, at_end}
 
 -- within a thread
@@ -22,7 +22,8 @@ abbrev pub begin_from : Option Slice → Option Slice → ℕ
 begin_from None other = begin_in other
 begin_from (Some s) other = s.begin
 
--- the time before which the event doesn't happen: the begin of its slice; of a return in no slice, that of the call
+-- the time before which the event doesn't happen: the begin of its slice; of a return in no slice,
+-- that of the call
 abbrev pub begin_of : Course → Event → ℕ
 begin_of C e = begin_from (event_slice C e) (slice_of (slices_of C e.row.thread) e.row.step)
 
@@ -89,30 +90,30 @@ abbrev pub late_by : Option ℕ → ℕ → Bool
 late_by None time = false
 late_by (Some d) time = nat_lt d time
 
--- whether the order puts all that the dark writes before the moment
-abbrev pub dark_before : Course → Moment → Bool
-dark_before C (before r) = late_by C.dark (begin_of C (first_event C r))
-dark_before C (after r) = late_by C.dark (begin_of C (last_event C r))
-dark_before C at_end = true
+-- whether the order puts all that the untraced prefix writes before the moment
+abbrev pub untraced_before : Course → Moment → Bool
+untraced_before C (before r) = late_by C.untraced (begin_of C (first_event C r))
+untraced_before C (after r) = late_by C.untraced (begin_of C (last_event C r))
+untraced_before C at_end = true
 
 -- whether it puts the whole act before the moment, or after it
 abbrev pub wholly_before : Course → Act → Moment → Bool
 wholly_before C (row r) m = not_later C (after r) m
-wholly_before C dark m = dark_before C m
+wholly_before C untraced m = untraced_before C m
 
 abbrev pub wholly_after : Course → Act → Moment → Bool
 wholly_after C (row r) w = not_later C w (before r)
-wholly_after C dark w = false
+wholly_after C untraced w = false
 
 abbrev pub is_row : Act → Row → Bool
 is_row (row q) r = same_row q r
-is_row dark r = false
+is_row untraced r = false
 
 -- whether the moments aren't those of one row that is no call, or the act is that row
 abbrev pub has_room : Course → Act → Moment → Moment → Bool
 has_room C act (before q) (after r) = not (same_row q r && not (calls C r)) || is_row act r
 has_room C act _ _ = true
 
--- whether the act falls between the two moments
-abbrev pub falls_between : Course → Act → Moment → Moment → Bool
-falls_between C act m w = not (wholly_before C act m) && (not (wholly_after C act w) && has_room C act m w)
+-- whether the act may act between the two moments
+abbrev pub may_act_between : Course → Act → Moment → Moment → Bool
+may_act_between C act m w = not (wholly_before C act m) && (not (wholly_after C act w) && has_room C act m w)

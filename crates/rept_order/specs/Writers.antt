@@ -1,4 +1,5 @@
--- Which row wrote a byte, by the order alone, and what that says of an execution. This project's own.
+-- Which row wrote a byte, by the order alone, and what that says of an execution. This project's
+-- own.
 use Rattle.std.specs.Prelude.{◌≡◌, ◌≢◌, ℕ, ◌<◌, ◌≤◌, Bool, true}
 use Rattle.rept_steps.specs.Course.{Course, Row, IsRow}
 use Rattle.rept_order.specs.Moments.{Moment, Act, IsAct, WhollyBefore, WhollyAfter, may_by}
@@ -17,7 +18,8 @@ pub data Writer : Type 0 where
   -- nothing writes it before the moment
   none : Writer
 
--- what is known of writing: whether a row may write a byte, and whether it writes each byte that it may write
+-- what is known of writing: whether a row may write a byte, and whether it writes each byte that it
+-- may write
 pub record Reach : Type 0 where
   pub may : Row → ℕ → Bool
   pub sure : Row → Bool

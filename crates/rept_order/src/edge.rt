@@ -27,7 +27,8 @@ fn reaches(slices: &[Slice], number: usize, step: u32) -> bool
     }
 }
 
-/// The number of the slice that a row is in, found by halves; past the last row, the count of slices.
+/// The number of the slice that a row is in, found by halves; past the last row, the count of
+/// slices.
 fn slice_number(slices: &[Slice], step: u32) -> usize
     requires { (n : ℕ) × TakeRows 0 slices.now n }
     ensures few { result ≤ length slices.now }

@@ -1,5 +1,5 @@
-//! How the rows of several threads may have followed one another: their slices and times, the order that these give, and the
-//! executions that keep it.
+//! How the rows of several threads may have followed one another: their slices and times, the order
+//! that these give, and the executions that keep it.
 #![tactic(auto)]
 
 mod edge;

@@ -32,5 +32,5 @@ pub enum Act {
         step: u32,
     },
     /// What isn't told of the begin.
-    Dark,
+    Untraced,
 }

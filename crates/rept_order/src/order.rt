@@ -4,8 +4,8 @@ ghost use Rattle.std.specs.Prelude.{◌≡◌, ◌↔◌, ℕ, IsTrue};
 ghost use Rattle.rept_steps.specs.Runs.{course_of};
 ghost use Rattle.rept_steps.specs.Course.{calls, row_of, slices_of, slice_of, TakeRows, IsSoundCourse};
 ghost use Rattle.rept_order.specs.Events.{event_slice};
-ghost use Rattle.rept_order.specs.Times.{begin_of, ends_by, is_entry, is_return, own_before, sooner, same_part, sooner_or_same, not_later, dark_before, wholly_before, wholly_after, is_row, has_room, same_moment, is_earlier, falls_between};
-ghost use Rattle.rept_order.specs.Moments.{IsMoment, Earlier, IsAct, stretch, Falls};
+ghost use Rattle.rept_order.specs.Times.{begin_of, ends_by, is_entry, is_return, own_before, sooner, same_part, sooner_or_same, not_later, untraced_before, wholly_before, wholly_after, is_row, has_room, same_moment, is_earlier, may_act_between};
+ghost use Rattle.rept_order.specs.Moments.{IsMoment, Earlier, IsAct, stretch, MayAct};
 ghost use Rattle.rept_order.specs.Runs.{edge_event, moment_named, moment_beside, act_named};
 
 use crate::edge::{Edge, slice_following, slice_holding};
@@ -185,7 +185,7 @@ impl<'a> Order<'a> {
         }
     }
 
-    /// The same of the moment before a row or after it.
+    /// Whether the order puts a moment no later than the moment before a row or after it.
     fn is_not_later_than(&self, m: Moment, edge: Edge) -> bool
         requires { IsSoundCourse (course_in self.now) }
         ensures { result ≡ not_later (course_in self.now) (moment_named m) (moment_beside edge) }
@@ -219,10 +219,10 @@ impl<'a> Order<'a> {
         }
     }
 
-    /// Whether the order puts all that the dark writes before the moment.
-    pub fn is_dark_before(&self, m: Moment) -> bool
+    /// Whether the order puts all that the untraced prefix writes before the moment.
+    pub fn is_untraced_before(&self, m: Moment) -> bool
         requires { IsSoundCourse (course_in self.now) }
-        ensures { result ≡ dark_before (course_in self.now) (moment_named m) }
+        ensures { result ≡ untraced_before (course_in self.now) (moment_named m) }
     {
         let edge = match m {
             Moment::Before { thread, step } => Edge {
@@ -238,8 +238,8 @@ impl<'a> Order<'a> {
             Moment::End => return true,
         };
         let begin = self.begin(edge);
-        match self.run.dark {
-            Some(dark) => dark < begin,
+        match self.run.untraced {
+            Some(untraced) => untraced < begin,
             None => false,
         }
     }
@@ -251,7 +251,7 @@ impl<'a> Order<'a> {
     {
         match act {
             Act::Row { thread, step } => self.is_not_later(Moment::After { thread, step }, m),
-            Act::Dark => self.is_dark_before(m),
+            Act::Untraced => self.is_untraced_before(m),
         }
     }
 
@@ -262,11 +262,12 @@ impl<'a> Order<'a> {
     {
         match act {
             Act::Row { thread, step } => self.is_not_later(w, Moment::Before { thread, step }),
-            Act::Dark => false,
+            Act::Untraced => false,
         }
     }
 
-    /// Whether the moment is earlier than the other one. The run must be sound, and have the rows of both moments.
+    /// Whether the moment is earlier than the other one. The run must be sound, and have the rows
+    /// of both moments.
     pub fn earlier(&self, m: Moment, w: Moment) -> bool
         requires sound { IsSoundCourse (course_in self.now) }
         requires first { IsMoment (course_in self.now) (moment_named m) }
@@ -276,7 +277,7 @@ impl<'a> Order<'a> {
         self.is_earlier(m, w)
     }
 
-    /// As `earlier`, of any moments.
+    /// Whether one of any two moments is earlier than the other one.
     fn is_earlier(&self, m: Moment, w: Moment) -> bool
         requires { IsSoundCourse (course_in self.now) }
         ensures { result ≡ is_earlier (course_in self.now) (moment_named m) (moment_named w) }
@@ -286,22 +287,23 @@ impl<'a> Order<'a> {
         order && !same
     }
 
-    /// Whether the act falls between the two moments, if only in part. The run must be sound, have the rows of both moments and of the
-    /// Act, and a time of the dark if the dark is asked for.
-    pub fn falls(&self, act: Act, m: Moment, w: Moment) -> bool
+    /// Whether the act may act between the two moments, if only in part. The run must be sound,
+    /// have the rows of both moments and of the Act, and a time of the untraced prefix if the
+    /// untraced prefix is asked for.
+    pub fn may_act(&self, act: Act, m: Moment, w: Moment) -> bool
         requires sound { IsSoundCourse (course_in self.now) }
         requires act { IsAct (course_in self.now) (act_named act) }
         requires first { IsMoment (course_in self.now) (moment_named m) }
         requires second { IsMoment (course_in self.now) (moment_named w) }
-        ensures { IsTrue result ↔ Falls (course_in self.now) (act_named act) (stretch (moment_named m) (moment_named w)) }
+        ensures { IsTrue result ↔ MayAct (course_in self.now) (act_named act) (stretch (moment_named m) (moment_named w)) }
     {
-        self.falls_between(act, m, w)
+        self.may_act_between(act, m, w)
     }
 
-    /// As `falls`, of any moments and acts.
-    fn falls_between(&self, act: Act, m: Moment, w: Moment) -> bool
+    /// Whether any act may act between any two moments, if only in part.
+    fn may_act_between(&self, act: Act, m: Moment, w: Moment) -> bool
         requires { IsSoundCourse (course_in self.now) }
-        ensures { result ≡ falls_between (course_in self.now) (act_named act) (moment_named m) (moment_named w) }
+        ensures { result ≡ may_act_between (course_in self.now) (act_named act) (moment_named m) (moment_named w) }
     {
         let before = self.is_wholly_before(act, m);
         let after = self.is_wholly_after(act, w);
@@ -341,7 +343,7 @@ fn is_row(act: Act, thread: u32, step: u32) -> bool
             thread: own,
             step: its,
         } => own == thread && its == step,
-        Act::Dark => false,
+        Act::Untraced => false,
     }
 }
 

@@ -3,10 +3,10 @@ use Rattle.std.proofs.Common.{◌≡◌, ℕ, zero, suc, ◌+◌, ◌<◌, ◌�
 use Rattle.std.proofs.lemmas.Bool.{cases_Bool, cases_eq, cases_lt, and_from, true≢false}
 use Rattle.rept_report.specs.Moments.{Moments}
 use Rattle.rept_report.specs.Spots.{Passage, passage}
-use Rattle.rept_report.specs.Timeline.{Timeline, IsTimeline, IsFallingFrom}
+use Rattle.rept_report.specs.Timeline.{Timeline, IsTimeline, IsActingFrom}
 use Rattle.rept_report.proofs.Search.{spares}
-use Rattle.rept_origin.specs.declared.step.Way.{Way}
-use Rattle.rept_origin.specs.declared.step.Way.TheVariants.{Onward, Back}
+use Rattle.rept_origin.specs.declared.step.Direction.{Direction}
+use Rattle.rept_origin.specs.declared.step.Direction.TheVariants.{Onward, Back}
 use Rattle.rept_origin.specs.Bridges.{ByteAlong, leads_by, carries_by, carried_next, IsLeastFrom}
 
 neither : (b c : Bool) → (b ≡ true → c ≡ false) → not (b && c) ≡ true
@@ -21,48 +21,48 @@ also_false true d e = e
 also_false false d e = refl
 
 module _ (moments : Moments) (may : ℕ → ℕ → Bool) (x : Passage) where
-  spared_below : (n : ℕ) → ((i : ℕ) → i < n → moments.falls i x.from x.to ≡ true → may i x.address ≡ false) → spares moments may x n ≡ true
+  spared_below : (n : ℕ) → ((i : ℕ) → i < n → moments.may_act i x.from x.to ≡ true → may i x.address ≡ false) → spares moments may x n ≡ true
   spared_below zero h = refl
-  spared_below (suc n) h = and_from (not (moments.falls n x.from x.to && may n x.address)) (spares moments may x n) (neither (moments.falls n x.from x.to) (may n x.address) (h n (omega arith))) (spared_below n (λ i below. h i (omega (arith, below))))
+  spared_below (suc n) h = and_from (not (moments.may_act n x.from x.to && may n x.address)) (spares moments may x n) (neither (moments.may_act n x.from x.to) (may n x.address) (h n (omega arith))) (spared_below n (λ i below. h i (omega (arith, below))))
 
-  spared_not : (n i : ℕ) → i < n → moments.falls i x.from x.to ≡ true → may i x.address ≡ true → spares moments may x n ≡ false
-  spared_not zero i below falls writes = absurd (omega (arith, below))
-  spared_not (suc n) i below falls writes = elim (cases_eq i n) [
-    | inl same ↦ blocked (moments.falls n x.from x.to) (may n x.address) (spares moments may x n) (subst (λ (k : ℕ). moments.falls k x.from x.to ≡ true) same falls) (subst (λ (k : ℕ). may k x.address ≡ true) same writes)
-    | inr ne ↦ also_false (not (moments.falls n x.from x.to && may n x.address)) (spares moments may x n) (spared_not n i (omega (arith, below, ne)) falls writes)
+  spared_not : (n i : ℕ) → i < n → moments.may_act i x.from x.to ≡ true → may i x.address ≡ true → spares moments may x n ≡ false
+  spared_not zero i below may_act writes = absurd (omega (arith, below))
+  spared_not (suc n) i below may_act writes = elim (cases_eq i n) [
+    | inl same ↦ blocked (moments.may_act n x.from x.to) (may n x.address) (spares moments may x n) (subst (λ (k : ℕ). moments.may_act k x.from x.to ≡ true) same may_act) (subst (λ (k : ℕ). may k x.address ≡ true) same writes)
+    | inr ne ↦ also_false (not (moments.may_act n x.from x.to && may n x.address)) (spares moments may x n) (spared_not n i (omega (arith, below, ne)) may_act writes)
   ]
 
 module _ (t : Timeline) (b : ByteAlong) (m w : ℕ) where
-  -- none of the rows below a number that fall between may write the byte
+  -- none of the rows below a number that may act between may write the byte
   abbrev pub AreSparedBelow : ℕ → Type 0
-  AreSparedBelow least = (i : ℕ) → i < least → t.moments.falls i m w ≡ true → b.may i b.address ≡ false
+  AreSparedBelow least = (i : ℕ) → i < least → t.moments.may_act i m w ≡ true → b.may i b.address ≡ false
 
   abbrev pub is_spared : Bool
   is_spared = spares t.moments b.may (passage b.address m w) t.legs.count
 
   pub spared_first : AreSparedBelow 0
-  spared_first i below falls = absurd (omega (arith, below))
+  spared_first i below may_act = absurd (omega (arith, below))
 
-  pub spared_more : (least i : ℕ) → IsFallingFrom t m w least (Some i) → b.may i b.address ≡ false → AreSparedBelow least → AreSparedBelow (i + 1)
-  spared_more least i (inside, falls, low, first) spared before j below falling = elim (cases_lt j least) [
-    | inl less ↦ before j less falling
+  pub spared_more : (least i : ℕ) → IsActingFrom t m w least (Some i) → b.may i b.address ≡ false → AreSparedBelow least → AreSparedBelow (i + 1)
+  spared_more least i (inside, may_act, low, first) spared before j below acting = elim (cases_lt j least) [
+    | inl less ↦ before j less acting
     | inr more ↦ elim (cases_eq j i) [
       | inl same ↦ rw same spared
-      | inr ne ↦ absurd (true≢false (sym falling ∙ first j more (omega (arith, below, ne))))
+      | inr ne ↦ absurd (true≢false (sym acting ∙ first j more (omega (arith, below, ne))))
     ]
   ]
 
-  pub none_falls : (least : ℕ) → IsFallingFrom t m w least None → AreSparedBelow least → true ≡ is_spared
-  none_falls least none before = sym (spared_below t.moments b.may (passage b.address m w) t.legs.count (λ i below falls. elim (cases_lt i least) [
-    | inl less ↦ before i less falls
-    | inr more ↦ absurd (true≢false (sym falls ∙ none i more below))
+  pub none_may_act : (least : ℕ) → IsActingFrom t m w least None → AreSparedBelow least → true ≡ is_spared
+  none_may_act least none before = sym (spared_below t.moments b.may (passage b.address m w) t.legs.count (λ i below may_act. elim (cases_lt i least) [
+    | inl less ↦ before i less may_act
+    | inr more ↦ absurd (true≢false (sym may_act ∙ none i more below))
   ]))
 
-  pub one_writes : (least i : ℕ) → IsFallingFrom t m w least (Some i) → b.may i b.address ≡ true → false ≡ is_spared
-  one_writes least i (inside, falls, low, first) writes = sym (spared_not t.moments b.may (passage b.address m w) t.legs.count i inside falls writes)
+  pub one_writes : (least i : ℕ) → IsActingFrom t m w least (Some i) → b.may i b.address ≡ true → false ≡ is_spared
+  one_writes least i (inside, may_act, low, first) writes = sym (spared_not t.moments b.may (passage b.address m w) t.legs.count i inside may_act writes)
 
   pub all_spared : (least : ℕ) → t.legs.count ≤ least → AreSparedBelow least → true ≡ is_spared
-  all_spared least done before = sym (spared_below t.moments b.may (passage b.address m w) t.legs.count (λ i below falls. before i (omega (arith, below, done)) falls))
+  all_spared least done before = sym (spared_below t.moments b.may (passage b.address m w) t.legs.count (λ i below may_act. before i (omega (arith, below, done)) may_act))
 
 -- a search for the least number by numbers of which it may hold at all
 module _ (f next : ℕ → Bool) (only : (n : ℕ) → f n ≡ true → next n ≡ true) (least : ℕ) where
@@ -104,17 +104,17 @@ module _ (f next : ℕ → Bool) (only : (n : ℕ) → f n ≡ true → next n �
       outside k more = elim (cases_Bool (next k)) [ inl is ↦ let early = inside k is in absurd (omega (arith, early, past, more)) | inr out ↦ out ]
 
 -- the steps to a moment, one way
-abbrev pub leads : Timeline → ℕ → Way → ℕ → Bool
+abbrev pub leads : Timeline → ℕ → Direction → ℕ → Bool
 leads t m way w = leads_by t m (record { from = w; way = way })
 
-abbrev pub carries : Timeline → ByteAlong → ℕ → Way → ℕ → Bool
+abbrev pub carries : Timeline → ByteAlong → ℕ → Direction → ℕ → Bool
 carries t b m way w = carries_by t b m (record { from = w; way = way })
 
-pub carries_leads : (t : Timeline) (b : ByteAlong) (m : ℕ) (way : Way) (w : ℕ) → carries t b m way w ≡ true → leads t m way w ≡ true
+pub carries_leads : (t : Timeline) (b : ByteAlong) (m : ℕ) (way : Direction) (w : ℕ) → carries t b m way w ≡ true → leads t m way w ≡ true
 carries_leads t b m Onward w e = carried_next t b w m e
 carries_leads t b m Back w e = carried_next t b m w e
 
-pub leads_inside : (t : Timeline) → IsTimeline t → (m : ℕ) (way : Way) (w : ℕ) → leads t m way w ≡ true → w ≤ t.moments.end
+pub leads_inside : (t : Timeline) → IsTimeline t → (m : ℕ) (way : Direction) (w : ℕ) → leads t m way w ≡ true → w ≤ t.moments.end
 leads_inside t laws m Onward w e = (laws.moments.inside w m e).0
 leads_inside t laws m Back w e = (laws.moments.inside m w e).1
 

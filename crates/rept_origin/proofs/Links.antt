@@ -1,13 +1,13 @@
 -- The way to the nearest number that has a value, by its first step.
 use Rattle.std.proofs.Common.{◌≡◌, ℕ, zero, suc, ◌+◌, ◌<◌, ◌≤◌, ◌⊎◌, Bool, true, false, ◌||◌, nat_lt, inl, inr, Option, Some, None, IsSome, refl, sym, subst, ◌∙◌, arith}
 use Rattle.std.proofs.lemmas.Bool.{cases_eq, cases_lt, lt-ltb, ltb-true, or_cases, true≢false}
-use Rattle.rept_nearest.specs.declared.found.Found.{Found}
+use Rattle.rept_nearest.specs.declared.found.NearestValue.{NearestValue}
 use Rattle.rept_nearest.specs.Nets.{Links, IsWithinLinks, IsNearest}
 use Rattle.rept_nearest.specs.Nets.IsWithinLinks.{here, onward}
 use Rattle.rept_report.proofs.Told.{none_some}
 use Rattle.rept_report.specs.Timeline.{Timeline, IsTimeline}
-use Rattle.rept_origin.specs.declared.step.Way.{Way}
-use Rattle.rept_origin.specs.declared.step.Way.TheVariants.{Onward, Back}
+use Rattle.rept_origin.specs.declared.step.Direction.{Direction}
+use Rattle.rept_origin.specs.declared.step.Direction.TheVariants.{Onward, Back}
 use Rattle.rept_origin.specs.Bridges.{ByteAlong, carries_over, carries_by, links_over, linked_inside, is_nearer, IsLinkBeside, IsLeastFrom, IsNearerAmong}
 
 module _ (L : Links) where
@@ -37,12 +37,12 @@ module _ (L : Links) where
 
   -- none of the numbers below one of which something holds is fewer links away from a value
   abbrev pub AreNotNearer : (ℕ → Bool) → ℕ → ℕ → Type 0
-  AreNotNearer f links least = (w : ℕ) → w < least → f w ≡ true → (there : Option Found) × IsNearest L w there × (is_nearer there links ≡ false)
+  AreNotNearer f links least = (w : ℕ) → w < least → f w ≡ true → (there : Option NearestValue) × IsNearest L w there × (is_nearer there links ≡ false)
 
   pub not_nearer_first : (f : ℕ → Bool) (links : ℕ) → AreNotNearer f links 0
   not_nearer_first f links w below holds = absurd (omega (arith, below))
 
-  pub not_nearer_more : (f : ℕ → Bool) (links least w : ℕ) (there : Option Found) → IsLeastFrom f least (Some w) → IsNearest L w there → is_nearer there links ≡ false → AreNotNearer f links least → AreNotNearer f links (w + 1)
+  pub not_nearer_more : (f : ℕ → Bool) (links least w : ℕ) (there : Option NearestValue) → IsLeastFrom f least (Some w) → IsNearest L w there → is_nearer there links ≡ false → AreNotNearer f links least → AreNotNearer f links (w + 1)
   not_nearer_more f links least w there (it, low, first) near out before x below holds = elim (cases_lt x least) [
     | inl less ↦ before x less holds
     | inr more ↦ elim (cases_eq x w) [
@@ -61,13 +61,13 @@ module _ (L : Links) where
   pub none_nearer_past : (f : ℕ → Bool) (links least last : ℕ) → ((w : ℕ) → f w ≡ true → w ≤ last) → last < least → AreNotNearer f links least → IsNearerAmong f L links None
   none_nearer_past f links least last inside past before w holds = let early = inside w holds in before w (omega (arith, early, past)) holds
 
-  module _ (number : ℕ) (found : Found) (nearest : IsNearest L number (Some found)) (far : 0 < found.links) where
+  module _ (number : ℕ) (found : NearestValue) (nearest : IsNearest L number (Some found)) (far : 0 < found.links) where
     -- one with a value isn't fewer links away
     not_less : (k m v : ℕ) → k < found.links → IsWithinLinks L number k m → L.value m ≡ Some v → ⊥
     not_less k m v less h e = none_some (sym (nearest.2 k m less h) ∙ e)
 
     -- where fewer links lead to one from beside, it is one less
-    pub is_beside : (w : ℕ) (there : Option Found) → L.linked number w ≡ true → IsNearest L w there → is_nearer there found.links ≡ true → IsLinkBeside L number found.links w
+    pub is_beside : (w : ℕ) (there : Option NearestValue) → L.linked number w ≡ true → IsNearest L w there → is_nearer there found.links ≡ true → IsLinkBeside L number found.links w
     is_beside w None link near fewer = absurd (true≢false (sym fewer))
     is_beside w (Some there) link near fewer = record { linked = link; found = there; nearest = near; nearer = exactly }
       where
@@ -81,14 +81,14 @@ module _ (L : Links) where
         ]
 
     -- one of them is
-    some_nearer : (w k v : ℕ) (there : Option Found) → IsNearest L w there → IsWithinLinks L w k found.number → L.value found.number ≡ Some v → k < found.links → is_nearer there found.links ≡ false → ⊥
+    some_nearer : (w k v : ℕ) (there : Option NearestValue) → IsNearest L w there → IsWithinLinks L w k found.number → L.value found.number ≡ Some v → k < found.links → is_nearer there found.links ≡ false → ⊥
     some_nearer w k v None near within value less out = none_some (sym (near k found.number within) ∙ value)
     some_nearer w k v (Some there) near within value less out = elim (cases_lt k there.links) [
       | inl short ↦ none_some (sym (near.2 k found.number short within) ∙ value)
       | inr long ↦ true≢false (sym (lt-ltb there.links found.links (omega (arith, long, less))) ∙ out)
     ]
 
-    pub one_is_nearer : ((w : ℕ) → L.linked number w ≡ true → (there : Option Found) × IsNearest L w there × (is_nearer there found.links ≡ false)) → ⊥
+    pub one_is_nearer : ((w : ℕ) → L.linked number w ≡ true → (there : Option NearestValue) × IsNearest L w there × (is_nearer there found.links ≡ false)) → ⊥
     one_is_nearer before = go found.links refl
       where
         go : (j : ℕ) → found.links ≡ j → ⊥
@@ -100,7 +100,7 @@ module _ (L : Links) where
               some_nearer step.beside k found.value out.0 out.1 step.within nearest.0 (omega (arith, e)) out.2
         ]
 
-way_linked : (t : Timeline) (b : ByteAlong) (m : ℕ) (way : Way) (w : ℕ) → carries_by t b m (record { from = w; way = way }) ≡ true → (links_over t b).linked m w ≡ true
+way_linked : (t : Timeline) (b : ByteAlong) (m : ℕ) (way : Direction) (w : ℕ) → carries_by t b m (record { from = w; way = way }) ≡ true → (links_over t b).linked m w ≡ true
 way_linked t b m Onward w e = rw e refl
 way_linked t b m Back w e = second (carries_over t b w m) (carries_over t b m w) e
   where
@@ -108,15 +108,15 @@ way_linked t b m Back w e = second (carries_over t b w m) (carries_over t b m w)
     second true d e = refl
     second false d e = e
 
-pub way_inside : (t : Timeline) (b : ByteAlong) → IsTimeline t → (m : ℕ) (way : Way) (w : ℕ) → carries_by t b m (record { from = w; way = way }) ≡ true → w ≤ (links_over t b).last
+pub way_inside : (t : Timeline) (b : ByteAlong) → IsTimeline t → (m : ℕ) (way : Direction) (w : ℕ) → carries_by t b m (record { from = w; way = way }) ≡ true → w ≤ (links_over t b).last
 way_inside t b laws m way w e = linked_inside t laws b m w (way_linked t b m way w e)
 
 -- the steps by which a byte is carried to a moment, both ways
-module _ (t : Timeline) (b : ByteAlong) (m : ℕ) (found : Found) (near : IsNearest (links_over t b) m (Some found)) (far : 0 < found.links) where
-  abbrev by : Way → ℕ → Bool
+module _ (t : Timeline) (b : ByteAlong) (m : ℕ) (found : NearestValue) (near : IsNearest (links_over t b) m (Some found)) (far : 0 < found.links) where
+  abbrev by : Direction → ℕ → Bool
   by way w = carries_by t b m (record { from = w; way = way })
 
-  pub step_is_beside : (way : Way) (from : ℕ) → IsNearerAmong (by way) (links_over t b) found.links (Some from) → IsLinkBeside (links_over t b) m found.links from
+  pub step_is_beside : (way : Direction) (from : ℕ) → IsNearerAmong (by way) (links_over t b) found.links (Some from) → IsLinkBeside (links_over t b) m found.links from
   step_is_beside way from (holds, (there, at, fewer)) = is_beside (links_over t b) m found near far from there (way_linked t b m way from holds) at fewer
 
   -- where none is nearer from which the byte is carried back, one is from which it is carried on

@@ -1,7 +1,8 @@
--- In a log the numbers linked so are the moments between which a byte is carried, and links are uses of the rules that carry it.
+-- In a log the numbers linked so are the moments between which a byte is carried, and links are
+-- uses of the rules that carry it.
 use Rattle.std.proofs.Common.{◌≡◌, ℕ, zero, suc, ◌+◌, ◌<◌, ◌≤◌, Bool, true, false, ◌||◌, cond, eqb, inl, inr, List, Option, Some, None, refl, sym, subst, ◌∙◌, arith}
 use Rattle.std.proofs.lemmas.Bool.{cases_eq, cases_lt, cond-true, cond-false, eq-eqb, ne_eqb}
-use Rattle.rept_nearest.specs.declared.found.Found.{Found}
+use Rattle.rept_nearest.specs.declared.found.NearestValue.{NearestValue}
 use Rattle.rept_nearest.specs.Nets.{Links, IsWithinLinks, IsNearest}
 use Rattle.rept_nearest.specs.Nets.IsWithinLinks.{here, onward}
 use Rattle.rept_reason.specs.declared.fact.Fact.{Fact}
@@ -73,11 +74,11 @@ module _ {W : Type 0} (S : Setting W) (laws : HasLaws S) (fs : List Fact) (a : �
       record { number = from.number; value = from.value; within = within_before L m w (second_true (carries S (told fs) (passage a w m)) (carries S (told fs) (passage a m w)) (is_carried S laws (told fs) (passage a m w) c)) k from.number from.within; has = from.has }
 
   -- fewer uses don't reach it
-  pub not_sooner : (m : ℕ) (found : Found) → IsNearest L m (Some found) → (k : ℕ) → k < found.links → IsReached S fs a k m → ⊥
+  pub not_sooner : (m : ℕ) (found : NearestValue) → IsNearest L m (Some found) → (k : ℕ) → k < found.links → IsReached S fs a k m → ⊥
   not_sooner m found near k less x = let from = reached_within k m x in none_some (sym (near.2 k from.number less from.within) ∙ from.has)
 
   -- as many do
-  pub as_soon : (m : ℕ) (found : Found) → IsNearest L m (Some found) → IsReached S fs a found.links m
+  pub as_soon : (m : ℕ) (found : NearestValue) → IsNearest L m (Some found) → IsReached S fs a found.links m
   as_soon m found near =
       let up = within_reached m found.links found.number near.1 zero (reached_here found.number (source_is found.number found.value near.0)) in
       let le = up.1 in
@@ -90,7 +91,7 @@ module _ {W : Type 0} (S : Setting W) (laws : HasLaws S) (fs : List Fact) (a : �
   never m none k x = let from = reached_within k m x in none_some (sym (none k from.number from.within) ∙ from.has)
 
   -- a moment beside it that is one link nearer needs fewer uses
-  pub beside_is_nearer : (m w : ℕ) (found : Found) → IsNearest L m (Some found) → IsLinkBeside L m found.links w → IsNearer S fs a w m
+  pub beside_is_nearer : (m w : ℕ) (found : NearestValue) → IsNearest L m (Some found) → IsLinkBeside L m found.links w → IsNearer S fs a w m
   beside_is_nearer m w found near beside = record {
     uses = beside.found.links;
     here = as_soon w beside.found beside.nearest;

@@ -1,15 +1,16 @@
--- Between which moments a byte is carried, and on which way it is carried to one. This project's own.
+-- Between which moments a byte is carried, and on which way it is carried to one. This project's
+-- own.
 use Rattle.std.specs.Prelude.{◌≡◌, ℕ, ◌+◌, ◌<◌, ◌≤◌, Bool, true, false, not, ◌&&◌, ◌||◌, nat_lt, Option, Some, None}
 use Rattle.std.proofs.Common.{inl, inr}
 use Rattle.std.proofs.lemmas.Bool.{and_parts, or_cases}
-use Rattle.rept_nearest.specs.declared.found.Found.{Found}
+use Rattle.rept_nearest.specs.declared.found.NearestValue.{NearestValue}
 use Rattle.rept_nearest.specs.Nets.{Links, IsNearest}
 use Rattle.rept_report.specs.Spots.{passage}
 use Rattle.rept_report.specs.Timeline.{Timeline, IsTimeline}
 use Rattle.rept_report.proofs.Search.{spares}
-use Rattle.rept_origin.specs.declared.step.Way.{Way}
-use Rattle.rept_origin.specs.declared.step.Way.TheVariants.{Onward, Back}
-use Rattle.rept_origin.specs.declared.step.Step.{Step}
+use Rattle.rept_origin.specs.declared.step.Direction.{Direction}
+use Rattle.rept_origin.specs.declared.step.Direction.TheVariants.{Onward, Back}
+use Rattle.rept_origin.specs.declared.step.Carriage.{Carriage}
 
 -- a byte of the memory
 pub record ByteAlong : Type 0 where
@@ -20,21 +21,21 @@ pub record ByteAlong : Type 0 where
   pub rows : ℕ
   pub may : ℕ → ℕ → Bool
 
--- whether it is carried from a moment to a next one: nothing that falls between may write it
+-- whether it is carried from a moment to a next one: nothing that may act between may write it
 abbrev pub carries_over : Timeline → ByteAlong → ℕ → ℕ → Bool
-carries_over t b m w = t.moments.next m w && (not (t.moments.dark m w) && spares t.moments b.may (passage b.address m w) t.legs.count)
+carries_over t b m w = t.moments.next m w && (not (t.moments.untraced m w) && spares t.moments b.may (passage b.address m w) t.legs.count)
 
 -- by the way the one or the other
-abbrev pub by_way : Way → Bool → Bool → Bool
+abbrev pub by_way : Direction → Bool → Bool → Bool
 by_way Onward on back = on
 by_way Back on back = back
 
 -- whether a step leads to a moment
-abbrev pub leads_by : Timeline → ℕ → Step → Bool
+abbrev pub leads_by : Timeline → ℕ → Carriage → Bool
 leads_by t m s = by_way s.way (t.moments.next s.from m) (t.moments.next m s.from)
 
 -- whether it is carried to a moment by a step
-abbrev pub carries_by : Timeline → ByteAlong → ℕ → Step → Bool
+abbrev pub carries_by : Timeline → ByteAlong → ℕ → Carriage → Bool
 carries_by t b m s = by_way s.way (carries_over t b s.from m) (carries_over t b m s.from)
 
 -- moments are linked where it is carried from one to the other
@@ -49,22 +50,23 @@ IsLeastFrom f least (Some m) = (f m ≡ true) × (least ≤ m) × ((n : ℕ) →
 -- a number beside this one, from which one link less leads to a value
 pub record IsLinkBeside (L : Links) (number links w : ℕ) : Type 0 where
   pub linked : L.linked number w ≡ true
-  pub found : Found
+  pub found : NearestValue
   pub nearest : IsNearest L w (Some found)
   pub nearer : found.links + 1 ≡ links
 
 -- whether something was found, fewer links away
-abbrev pub is_nearer : Option Found → ℕ → Bool
+abbrev pub is_nearer : Option NearestValue → ℕ → Bool
 is_nearer None links = false
 is_nearer (Some found) links = nat_lt found.links links
 
--- of the numbers of which something holds one that is fewer links away from a value, or that none is
+-- of the numbers of which something holds one that is fewer links away from a value, or that none
+-- is
 abbrev pub IsNearerAmong : (ℕ → Bool) → Links → ℕ → Option ℕ → Type 0
-IsNearerAmong f L links None = (w : ℕ) → f w ≡ true → (there : Option Found) × IsNearest L w there × (is_nearer there links ≡ false)
-IsNearerAmong f L links (Some w) = (f w ≡ true) × ((there : Option Found) × IsNearest L w there × (is_nearer there links ≡ true))
+IsNearerAmong f L links None = (w : ℕ) → f w ≡ true → (there : Option NearestValue) × IsNearest L w there × (is_nearer there links ≡ false)
+IsNearerAmong f L links (Some w) = (f w ≡ true) × ((there : Option NearestValue) × IsNearest L w there × (is_nearer there links ≡ true))
 
 pub carried_next : (t : Timeline) (b : ByteAlong) (m w : ℕ) → carries_over t b m w ≡ true → t.moments.next m w ≡ true
-carried_next t b m w e = (and_parts (t.moments.next m w) (not (t.moments.dark m w) && spares t.moments b.may (passage b.address m w) t.legs.count) e).0
+carried_next t b m w e = (and_parts (t.moments.next m w) (not (t.moments.untraced m w) && spares t.moments b.may (passage b.address m w) t.legs.count) e).0
 
 pub linked_inside : (t : Timeline) → IsTimeline t → (b : ByteAlong) (m w : ℕ) → (links_over t b).linked m w ≡ true → w ≤ (links_over t b).last
 linked_inside t laws b m w e = elim (or_cases (carries_over t b w m) (carries_over t b m w) e) [

@@ -1,4 +1,5 @@
--- A byte of a log: where the log or the dump has it, and which rows may write it by the log. This project's own.
+-- A byte of a log: where the log or the dump has it, and which rows may write it by the log. This
+-- project's own.
 use Rattle.std.specs.Prelude.{ℕ, ◌<◌, List}
 use Rattle.rept_nearest.specs.Nets.{Links}
 use Rattle.rept_reason.specs.declared.fact.Fact.{Fact}

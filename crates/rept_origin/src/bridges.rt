@@ -7,7 +7,7 @@ ghost use Rattle.rept_origin.specs.Bridges.{carries_over, leads_by, carries_by, 
 
 use crate::lesser::lesser;
 use crate::sources::Sources;
-use crate::step::Way;
+use crate::step::Direction;
 use rept_nearest::Net;
 use rept_report::Paths;
 
@@ -22,7 +22,7 @@ pub struct Bridges<'f, P: Paths, S: Sources> {
 }
 
 impl<'f, P: Paths, S: Sources> Bridges<'f, P, S> {
-    /// Whether no row that falls between a moment and a next one may write the byte.
+    /// Whether no row that may act between a moment and a next one may write the byte.
     fn is_spared(&self, number: u32, next: u32) -> bool
         requires { (P.timeline self.now.paths.now).moments.next number next ≡ true }
         ensures { result ≡ spares (P.timeline self.now.paths.now).moments (S.byte self.now.sources.now).may (passage (S.byte self.now.sources.now).address number next) (P.timeline self.now.paths.now).legs.count }
@@ -30,7 +30,7 @@ impl<'f, P: Paths, S: Sources> Bridges<'f, P, S> {
         let count = self.paths.last_point();
         let mut least = 0;
         while least < count {
-            let Some(row) = self.paths.falling_from(number, next, least) else {
+            let Some(row) = self.paths.acting_from(number, next, least) else {
                 return true;
             };
             if self.sources.may_write(row) {
@@ -46,36 +46,38 @@ impl<'f, P: Paths, S: Sources> Bridges<'f, P, S> {
         requires { (P.timeline self.now.paths.now).moments.next number next ≡ true }
         ensures { result ≡ carries_over (P.timeline self.now.paths.now) (S.byte self.now.sources.now) number next }
     {
-        if self.paths.is_dark_between(number, next) {
+        if self.paths.is_untraced_between(number, next) {
             return false;
         }
         self.is_spared(number, next)
     }
 
-    /// The least number from `least` on from which a step this way leads to this one, if there is one.
-    fn step_from(&self, way: Way, number: u32, least: u32) -> Option<u32>
+    /// The least number from `least` on from which a step this way leads to this one, if there is
+    /// one.
+    fn step_from(&self, way: Direction, number: u32, least: u32) -> Option<u32>
         requires { number ≤ (P.timeline self.now.paths.now).moments.end }
         ensures { IsLeastFrom (λ w. leads_by (P.timeline self.now.paths.now) number (record { from = w; way = way })) least result }
     {
         match way {
-            Way::Onward => self.paths.former_from(number, least),
-            Way::Back => self.paths.next_from(number, least),
+            Direction::Onward => self.paths.former_from(number, least),
+            Direction::Back => self.paths.next_from(number, least),
         }
     }
 
     /// Whether the byte is carried to this moment by the step this way from another one.
-    fn is_carried_by(&self, way: Way, number: u32, from: u32) -> bool
+    fn is_carried_by(&self, way: Direction, number: u32, from: u32) -> bool
         requires { leads_by (P.timeline self.now.paths.now) number (record { from = from; way = way }) ≡ true }
         ensures { result ≡ carries_by (P.timeline self.now.paths.now) (S.byte self.now.sources.now) number (record { from = from; way = way }) }
     {
         match way {
-            Way::Onward => self.is_carried(from, number),
-            Way::Back => self.is_carried(number, from),
+            Direction::Onward => self.is_carried(from, number),
+            Direction::Back => self.is_carried(number, from),
         }
     }
 
-    /// The least number from `least` on from which the byte is carried this way to this one, if there is one.
-    pub fn beside_from(&self, way: Way, number: u32, least: u32) -> Option<u32>
+    /// The least number from `least` on from which the byte is carried this way to this one, if
+    /// there is one.
+    pub fn beside_from(&self, way: Direction, number: u32, least: u32) -> Option<u32>
         requires { number ≤ (P.timeline self.now.paths.now).moments.end }
         ensures { IsLeastFrom (λ w. carries_by (P.timeline self.now.paths.now) (S.byte self.now.sources.now) number (record { from = w; way = way })) least result }
     {
@@ -111,8 +113,8 @@ impl<'f, P: Paths, S: Sources> Net for Bridges<'f, P, S> {
 
     fn next_linked(&self, number: u32, least: u32) -> Option<u32> {
         lesser(
-            self.beside_from(Way::Onward, number, least),
-            self.beside_from(Way::Back, number, least),
+            self.beside_from(Direction::Onward, number, least),
+            self.beside_from(Direction::Back, number, least),
         )
     }
 }

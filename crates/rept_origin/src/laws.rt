@@ -1,7 +1,7 @@
 //! What the nearest moment says of a log.
 
 ghost use Rattle.std.specs.Prelude.{ℕ, List, Some, None};
-ghost use Rattle.rept_nearest.specs.declared.found.Found.{Found};
+ghost use Rattle.rept_nearest.specs.declared.found.NearestValue.{NearestValue};
 ghost use Rattle.rept_nearest.specs.Nets.{IsNearest};
 ghost use Rattle.rept_reason.specs.declared.fact.Fact.{Fact};
 ghost use Rattle.rept_report.specs.Setting.{Setting, HasLaws};
@@ -12,10 +12,11 @@ ghost use Rattle.rept_origin.specs.Logs.{links_in, IsReachedFirst};
 
 use rept_span::Transfer;
 
-/// A law: of a byte of a log, the steps to the nearest moment at which it is known by itself are the fewest uses of the rules that carry it by which it
-/// is known; where there is none, it isn't known by any; and at a moment that is one step nearer it needs fewer. The call does nothing.
+/// A law: of a byte of a log, the steps to the nearest moment at which it is known by itself are
+/// the fewest uses of the rules that carry it by which it is known; where there is none, it isn't
+/// known by any; and at a moment that is one step nearer it needs fewer. The call does nothing.
 pub fn steps_are_uses<W: Transfer>()
-    ensures nearest { (S : Setting W) (fs : List Fact) (a m : ℕ) (found : Found) → HasLaws S → IsNearest (links_in S fs a) m (Some found) → IsReachedFirst S fs a found.links m }
+    ensures nearest { (S : Setting W) (fs : List Fact) (a m : ℕ) (found : NearestValue) → HasLaws S → IsNearest (links_in S fs a) m (Some found) → IsReachedFirst S fs a found.links m }
     ensures none { (S : Setting W) (fs : List Fact) (a m k : ℕ) → HasLaws S → IsNearest (links_in S fs a) m None → IsReached S fs a k m → ⊥ }
-    ensures nearer { (S : Setting W) (fs : List Fact) (a m w : ℕ) (found : Found) → HasLaws S → IsNearest (links_in S fs a) m (Some found) → IsLinkBeside (links_in S fs a) m found.links w → IsNearer S fs a w m }
+    ensures nearer { (S : Setting W) (fs : List Fact) (a m w : ℕ) (found : NearestValue) → HasLaws S → IsNearest (links_in S fs a) m (Some found) → IsLinkBeside (links_in S fs a) m found.links w → IsNearer S fs a w m }
 {}

@@ -11,4 +11,4 @@ pub mod step;
 pub use laws::steps_are_uses;
 pub use origin::{nearer, nearest_origin};
 pub use sources::Sources;
-pub use step::{Step, Way};
+pub use step::{Carriage, Direction};

@@ -6,19 +6,20 @@ ghost use Rattle.rept_origin.specs.Bridges.{links_over, carries_by, is_nearer, I
 
 use crate::bridges::Bridges;
 use crate::sources::Sources;
-use crate::step::{Step, Way};
-use rept_nearest::{Found, Net, nearest};
+use crate::step::{Carriage, Direction};
+use rept_nearest::{NearestValue, Net, nearest};
 use rept_report::Paths;
 use std::alloc::{AllocError as OutOfMemory, Global};
 
-/// Of the moments from which the byte is carried to this one, from one to a next one and on or back, the nearest at which it is known by itself. `None` comes
-/// exactly where there is none. `OutOfMemory` says that room for one number each can't be had.
+/// Of the moments from which the byte is carried to this one, from one to a next one and on or
+/// back, the nearest at which it is known by itself. `None` comes exactly where there is none.
+/// `OutOfMemory` says that room for one number each can't be had.
 pub fn nearest_origin<P: Paths, S: Sources>(
     alloc: Global,
     paths: &P,
     sources: &S,
     number: u32,
-) -> Result<Option<Found>, OutOfMemory>
+) -> Result<Option<NearestValue>, OutOfMemory>
     requires told { (P.timeline paths.now).legs.count ≤ (S.byte sources.now).rows }
     requires inside { number ≤ (P.timeline paths.now).moments.end }
     ensures { IfOk result (λ found. IsNearest (links_over (P.timeline paths.now) (S.byte sources.now)) number found) }
@@ -27,7 +28,7 @@ pub fn nearest_origin<P: Paths, S: Sources>(
 }
 
 /// Whether something was found, fewer links away.
-fn is_nearer(found: Option<Found>, links: u32) -> bool
+fn is_nearer(found: Option<NearestValue>, links: u32) -> bool
     ensures { result ≡ is_nearer found links }
 {
     match found {
@@ -36,13 +37,14 @@ fn is_nearer(found: Option<Found>, links: u32) -> bool
     }
 }
 
-/// The least number from which the byte is carried this way to this one and which is fewer links away from such a moment, if there is one.
+/// The least number from which the byte is carried this way to this one and which is fewer links
+/// away from such a moment, if there is one.
 fn nearer_by<P: Paths, S: Sources>(
     alloc: Global,
     bridges: &Bridges<'_, P, S>,
     number: u32,
     links: u32,
-    way: Way,
+    way: Direction,
 ) -> Result<Option<u32>, OutOfMemory>
     requires { number ≤ (P.timeline bridges.now.paths.now).moments.end }
     ensures { IfOk result (λ from. IsNearerAmong (λ w. carries_by (P.timeline bridges.now.paths.now) (S.byte bridges.now.sources.now) number (record { from = w; way = way })) (links_over (P.timeline bridges.now.paths.now) (S.byte bridges.now.sources.now)) links from) }
@@ -62,15 +64,16 @@ fn nearer_by<P: Paths, S: Sources>(
     Ok(None)
 }
 
-/// The step by which the byte is carried to this moment from one that is one step nearer to such a moment, where the nearest is so many steps away, and
-/// not none: from the least later one back, or where none is nearer, from the least earlier one on.
+/// The step by which the byte is carried to this moment from one that is one step nearer to such a
+/// moment, where the nearest is so many steps away, and not none: from the least later one back, or
+/// where none is nearer, from the least earlier one on.
 pub fn nearer<P: Paths, S: Sources>(
     alloc: Global,
     paths: &P,
     sources: &S,
     number: u32,
-    found: Found,
-) -> Result<Step, OutOfMemory>
+    found: NearestValue,
+) -> Result<Carriage, OutOfMemory>
     requires told { (P.timeline paths.now).legs.count ≤ (S.byte sources.now).rows }
     requires inside { number ≤ (P.timeline paths.now).moments.end }
     requires nearest { IsNearest (links_over (P.timeline paths.now) (S.byte sources.now)) number (Some found) }
@@ -79,17 +82,17 @@ pub fn nearer<P: Paths, S: Sources>(
     ensures nearer { IfOk result (λ step. IsLinkBeside (links_over (P.timeline paths.now) (S.byte sources.now)) number found.links step.from) }
 {
     let bridges = Bridges { paths, sources };
-    let later = nearer_by(alloc, &bridges, number, found.links, Way::Back)?;
+    let later = nearer_by(alloc, &bridges, number, found.links, Direction::Back)?;
     match later {
-        Some(from) => Ok(Step {
+        Some(from) => Ok(Carriage {
             from,
-            way: Way::Back,
+            way: Direction::Back,
         }),
         None => {
-            let earlier = nearer_by(alloc, &bridges, number, found.links, Way::Onward)?;
-            Ok(Step {
+            let earlier = nearer_by(alloc, &bridges, number, found.links, Direction::Onward)?;
+            Ok(Carriage {
                 from: earlier.unwrap(),
-                way: Way::Onward,
+                way: Direction::Onward,
             })
         }
     }

@@ -3,8 +3,8 @@
 ghost use Rattle.std.specs.Prelude.{◌≡◌, ◌<◌};
 ghost use Rattle.rept_origin.specs.Bridges.{ByteAlong};
 
-/// A byte of the memory: at which moments it is known by itself, without being carried there, and which rows may write it. `byte` names all of it
-/// as functions.
+/// A byte of the memory: at which moments it is known by itself, without being carried there, and
+/// which rows may write it. `byte` names all of it as functions.
 pub trait Sources {
     ghost byte: { Self → ByteAlong };
 

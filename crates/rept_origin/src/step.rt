@@ -2,7 +2,7 @@
 
 /// Which way a byte is carried between a moment and a next one.
 #[derive(Clone, Copy)]
-pub enum Way {
+pub enum Direction {
     /// to the next one
     Onward,
     /// from the next one back
@@ -11,9 +11,9 @@ pub enum Way {
 
 /// A step by which a byte is carried to a moment.
 #[derive(Clone, Copy)]
-pub struct Step {
+pub struct Carriage {
     /// the number of the moment from which it is carried
     pub from: u32,
     /// which way
-    pub way: Way,
+    pub way: Direction,
 }

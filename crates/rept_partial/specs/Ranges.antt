@@ -18,7 +18,8 @@ at_most lo hi = grind arith
 pub is_word : (hi : ℕ) → word hi < 2 ^ 32
 is_word hi = omega arith
 
--- the words from one number to another; both are read as words, and the lower bound is at most the higher
+-- the words from one number to another; both are read as words, and the lower bound is at most the
+-- higher
 abbrev pub from_to : ℕ → ℕ → Range
 from_to lo hi = bounded (min (word lo) (word hi)) (word hi) (at_most lo hi) (is_word hi)
 

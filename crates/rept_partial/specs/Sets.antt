@@ -1,4 +1,5 @@
--- Sets of values of one 32-bit word, as an implementation gives them, and what must hold of them. This project's own.
+-- Sets of values of one 32-bit word, as an implementation gives them, and what must hold of them.
+-- This project's own.
 use Rattle.std.specs.Prelude.{◌≡◌, ℕ, ◌<◌, ◌≤◌, ◌^◌, Bool, true, Option, Some, None}
 
 -- the operations on the sets of one kind

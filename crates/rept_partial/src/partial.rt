@@ -3,8 +3,9 @@
 ghost use Rattle.std.specs.Prelude.{◌≡◌};
 ghost use Rattle.rept_partial.specs.Sets.{Sets, AreLawful};
 
-/// A set of 32-bit words, of which at least one is in it: what is known of one value. The idea and its laws are this project's
-/// own. `sets` names the operations as functions, and each implementation proves their laws.
+/// A set of 32-bit words, of which at least one is in it: what is known of one value. The idea and
+/// its laws are this project's own. `sets` names the operations as functions, and each
+/// implementation proves their laws.
 pub trait Partial: Copy {
     ghost sets: { Sets Self };
 

@@ -1,6 +1,6 @@
-//! How far the rules of each row of a run were drawn.
+//! How far the rules of each row of a run were applied.
 #![tactic(auto)]
 
 pub mod pass;
 
-pub use pass::{Pass, Passes, is_with};
+pub use pass::{Pass, RuleProgress, is_with};

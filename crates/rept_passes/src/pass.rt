@@ -1,4 +1,4 @@
-//! How far the rules of each row were drawn.
+//! How far the rules of each row were applied.
 
 ghost use Rattle.std.specs.Prelude.{◌≡◌, ◌<◌, ℕ, true, false, IfOk, Some, length, slice_get, set};
 ghost use Rattle.rept_passes.specs.declared.pass.Pass.{Pass};
@@ -6,18 +6,20 @@ ghost use Rattle.rept_passes.specs.declared.pass.Pass.{Pass};
 use std::alloc::{AllocError as OutOfMemory, Global};
 use std::marker::Model;
 
-/// How far a row's rules were drawn.
+/// How far a row's rules were applied.
 #[derive(Clone, Copy)]
 pub enum Pass {
     /// They weren't.
     Never,
-    /// They were, when so many of the row's registers and bytes were known, and all that they let one conclude was learnt.
+    /// They were, when so many of the row's registers and bytes were known, and all that they let
+    /// one conclude was learnt.
     With(u32),
     /// They were, and something that they let one conclude wasn't learnt.
     Cut,
 }
 
-/// Whether rules were drawn, all that they let one conclude was learnt, and so many cells were known then.
+/// Whether rules were applied, all that they let one conclude was learnt, and so many cells were
+/// known then.
 pub fn is_with(pass: Pass, cells: u32) -> bool
     ensures yes { result ≡ true → pass ≡ Pass.With cells }
     ensures no { result ≡ false → pass ≡ Pass.With cells → ⊥ }
@@ -28,13 +30,13 @@ pub fn is_with(pass: Pass, cells: u32) -> bool
     }
 }
 
-/// How far the rules of each row were drawn.
+/// How far the rules of each row were applied.
 #[derive(Drop)]
-pub struct Passes {
+pub struct RuleProgress {
     list: Vec<Pass>,
 }
 
-impl Model for Passes {
+impl Model for RuleProgress {
     ghost use Rattle.std.specs.Prelude.{List};
     ghost use Rattle.rept_passes.specs.declared.pass.Pass.{Pass};
 
@@ -43,17 +45,17 @@ impl Model for Passes {
     ghost view = { λ p. p.list.items };
 }
 
-impl Passes {
-    /// No row's rules were drawn, of so many rows.
-    pub fn new(alloc: Global, count: usize) -> Result<Passes, OutOfMemory>
+impl RuleProgress {
+    /// No row's rules were applied, of so many rows.
+    pub fn new(alloc: Global, count: usize) -> Result<RuleProgress, OutOfMemory>
         ensures length { IfOk result (λ p. length p ≡ count) }
         ensures never { IfOk result (λ p. (i : ℕ) (x : Pass) → slice_get p i ≡ Some x → x ≡ Pass.Never) }
     {
         let list = vec![in alloc; Pass::Never; count]?;
-        Ok(Passes { list })
+        Ok(RuleProgress { list })
     }
 
-    /// How far those of a row were drawn.
+    /// How far those of a row were inferred.
     pub fn at(&self, i: u32) -> Pass
         requires { i < length self.now }
         ensures { slice_get self.now i ≡ Some result }
@@ -62,7 +64,7 @@ impl Passes {
         list[i as usize]
     }
 
-    /// Keeps how far those of a row were drawn.
+    /// Keeps how far those of a row were inferred.
     pub fn put(&mut self, i: u32, pass: Pass)
         requires { i < length self.old }
         ensures { self.new ≡ set self.old i pass }
@@ -70,7 +72,7 @@ impl Passes {
         self.list[i as usize] = pass;
     }
 
-    /// No row's rules were drawn.
+    /// No row's rules were applied.
     pub fn clear(&mut self)
         ensures length { length self.new ≡ length self.old }
         ensures never { (i : ℕ) (x : Pass) → slice_get self.new i ≡ Some x → x ≡ Pass.Never }

@@ -78,7 +78,8 @@ module _ (code : Code) (packet : ℕ) (target : Option ℕ) (aim : Aim) (old mid
   pub blocked_or : (e : PathFault) → stops code mid.bits.items aim (here mid) ≡ false → (e ≡ OutOfMemory) ⊎ (next_of code (lead mid packet target) (here mid) ≡ Err e) → (e ≡ OutOfMemory) ⊎ PhaseFault code (heading_by (lead old packet target) aim) (here old) e
   blocked_or e stays h = elim h [ inl m ↦ inl m | inr b ↦ inr (is_blocked e stays b) ]
 
--- The same where the facts of a step speak of code that is the same, as that of a dump near a position.
+-- The same where the facts of a step speak of code that is the same, as that of a dump near a
+-- position.
 module _ (code near : Code) (same : near ≡ code) (packet : ℕ) (target : Option ℕ) (aim : Aim) (old mid : Walk) where
   pub came_first_near : MovedWalk near (lead old packet target) old mid → Coming code (lead old packet target) aim old mid
   came_first_near m = came_first code (lead old packet target) aim old mid (subst (λ (c : Code). MovedWalk c (lead old packet target) old mid) same m)

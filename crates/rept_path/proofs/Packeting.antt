@@ -73,7 +73,8 @@ module _ (code : Code) (origin : Origin) (k : ℕ) (packet : Packet) (earlier : 
   pub faults : (e : PathFault) → FaultBy code packet (met k old) e → Fault code packet (record { origin = origin; packets = earlier; legs = legs }) e
   faults e f = fault_after code origin packet earlier legs e some (subst (λ (m : Met). FaultBy code packet m e) same_met f)
 
--- A walk over the packets of a window: those that it went over, newest first, and those that the bytes still hold.
+-- A walk over the packets of a window: those that it went over, newest first, and those that the
+-- bytes still hold.
 pub record Going (code : Code) (origin : Origin) (window : List Packet) (number : ℕ) (rest : Stream) (w : Walk) : Type 0 where
   pub done : List Packet
   pub more : List Packet

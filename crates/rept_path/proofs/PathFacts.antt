@@ -1,4 +1,5 @@
--- Facts about paths: there is a row, each row has the instruction that stands at its address and leads to the one after it.
+-- Facts about paths: there is a row, each row has the instruction that stands at its address and
+-- leads to the one after it.
 use Rattle.std.proofs.Common.{◌≡◌, ℕ, ◌+◌, ◌<◌, ◌==◌, nat_le, List, [], ◌∷◌, ◌++◌, length, reverse, drop, slice_get, Bool, true, false, cond, ◌&&◌, None, Result, Ok, Err, refl, sym, ◌∙◌, ap, subst, arith, length-append}
 use Rattle.std.proofs.lemmas.Bool.{eqb-true}
 use Rattle.std.proofs.lemmas.List.{reverse-append, length-reverse}

@@ -13,7 +13,8 @@ use Rattle.rept_path.specs.declared.window.Begin.{Begin}
 use Rattle.rept_path.specs.Trace.{IsWindow, starts}
 use Rattle.rept_path.specs.Survey.{number_in, IsThere, Surveys}
 
--- Whatever the rest holds, the packets from the window's first on are that one and those that its bytes hold.
+-- Whatever the rest holds, the packets from the window's first on are that one and those that its
+-- bytes hold.
 abbrev pub WillBeThere : Stream → List Packet → Option Begin → Type 0
 WillBeThere rest done begin = (tail : List Packet) → Hold rest tail → IsThere (done ++ tail) begin
 

@@ -12,7 +12,7 @@ use Rattle.rept_path.specs.declared.fault.PathFault.{PathFault}
 use Rattle.rept_path.specs.declared.fault.PathFault.TheVariants.{OutOfMemory, End}
 use Rattle.rept_path.specs.declared.walk.Walk.{Walk}
 use Rattle.rept_path.specs.declared.window.Begin.{Begin}
-use Rattle.rept_path.specs.declared.window.Survey.{Survey}
+use Rattle.rept_path.specs.declared.window.WindowSurvey.{WindowSurvey}
 use Rattle.rept_path.specs.Gap.{gap_to_end}
 use Rattle.rept_path.specs.Route.{place, alone, earlier_by}
 use Rattle.rept_path.specs.State.{here, standing, Stands, Crossed, from_to}
@@ -32,7 +32,7 @@ size [] (suc n) p later h = absurd (cc)
 size (x ∷ xs) zero p later h = let e = ap (length {A = Packet}) h in omega (arith, e)
 size (x ∷ xs) (suc n) p later h = let r = size xs n p later h in omega (arith, r)
 
-module _ (packets : Packets) (from : ℕ) (list : List Packet) (s : Survey) (b : Begin) (found : Surveys (rest_of packets) list from s) (is : s.begin ≡ Some b) where
+module _ (packets : Packets) (from : ℕ) (list : List Packet) (s : WindowSurvey) (b : Begin) (found : Surveys (rest_of packets) list from s) (is : s.begin ≡ Some b) where
   window : Window list from b.number
   window = subst (λ (o : Option Begin). IsWindow list from (number_in o)) is found.window
 

@@ -1,6 +1,7 @@
--- What stands at an address of a program, and where a hart goes from there (RISC-V unprivileged manual 20191213, chapters 1.5, 2.2,
--- 2.5, 2.8 and 16). An instruction whose next address its word alone doesn't tell is an uninferable jump in the terms of Efficient
--- Trace for RISC-V 2.0: JALR from any register but x0.
+-- What stands at an address of a program, and where a hart goes from there (RISC-V unprivileged
+-- manual 20191213, chapters 1.5, 2.2,
+-- 2.5, 2.8 and 16). An instruction whose next address its word alone doesn't tell is an uninferable
+--   jump in the terms of Efficient Trace for RISC-V 2.0: JALR from any register but x0.
 use Rattle.std.specs.Prelude.{ℕ, ◌+◌, ◌-◌, ◌%◌, ◌^◌, ◌==◌, List, Option, Some, None, is_some, Result, Ok, Err, Bool, true, false, if◌then◌else◌}
 use Rattle.rept_dump.specs.Memory.{Contents}
 use Rattle.rept_isa.specs.declared.instr.Instr.{Instr}
@@ -45,7 +46,8 @@ by_word a (Some spelled) = by_instruction a spelled (instruction spelled)
 abbrev pub expansion : ℕ → Option Instr
 expansion half = halves.read_by (quadrant half) (function half) half
 
--- an instruction of four bytes has 3 in the lowest two bits of its first half, and a compressed one hasn't (chapter 1.5)
+-- an instruction of four bytes has 3 in the lowest two bits of its first half, and a compressed one
+-- hasn't (chapter 1.5)
 abbrev pub if_short : ℕ → Option ℕ
 if_short half = if half % 4 == 3 then None else Some half
 
@@ -69,9 +71,9 @@ by_code a None spelled = by_word a spelled
 abbrev pub alignment : Code → ℕ
 alignment code = if code.halves then 2 else 4
 
--- the instruction at an address, or why the path can't come there: it is no multiple of 4, or of 2 where code may be compressed; it holds
--- no code; or the half of a compressed instruction, or else the word, stands for no instruction. The half may be of another segment than
--- the word.
+-- the instruction at an address, or why the path can't come there: it is no multiple of 4, or of 2
+-- where code may be compressed; it holds no code; or the half of a compressed instruction, or else
+-- the word, stands for no instruction. The half may be of another segment than the word.
 unfoldable pub look : Code → ℕ → Result Instr PathFault
 look code a = if a % alignment code == 0 then by_code a (short_half code a) (code.contents.word a) else Err (Unaligned a)
 

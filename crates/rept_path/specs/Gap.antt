@@ -1,5 +1,6 @@
--- The rows that lead from the last position of a stretch, of which the trace doesn't say whether it was executed, to a known address:
--- that of the next stretch, or the program counter of the dump. This rule is the project's own, and a call is a row of its own.
+-- The rows that lead from the last position of a stretch, of which the trace doesn't say whether it
+-- was executed, to a known address: that of the next stretch, or the program counter of the dump.
+-- This rule is the project's own, and a call is a row of its own.
 use Rattle.std.specs.Prelude.{ℕ, ◌+◌, ◌%◌, ◌==◌, nat_le, List, [], ◌∷◌, length, slice_get, None, Result, Ok, Err, Bool, true, false, ◌&&◌, if◌then◌else◌}
 use Rattle.rept_path.specs.Code.{Code}
 use Rattle.rept_isa.specs.declared.instr.Instr.{Instr}
@@ -32,15 +33,16 @@ row e next call = record { at = e.at; instr = e.instr; next = next; call = call;
 abbrev pub call_row : Code → ℕ → ℕ → StepRow
 call_row code at next = record { at = at; instr = Ecall; next = next; call = true; short = is_short code at }
 
--- the rows by the successor of the last position: it is the address, or it is a call after which the address stands
+-- the rows by the successor of the last position: it is the address, or it is a call after which
+-- the address stands
 abbrev pub by_successor : Code → Edge → ℕ → Result (List StepRow) PathFault
 by_successor code e n =
     if n == e.to then Ok (row e n false ∷ [])
     else if calls_there (look code n) && e.to == after_instruction code n then Ok (call_row code n e.to ∷ row e n false ∷ [])
     else Err e.otherwise
 
--- the rows by what stands at the last position: a call goes on after it, an uninferable jump goes to any address that may be a
--- position by its lowest bits, and all others to their successor
+-- the rows by what stands at the last position: a call goes on after it, an uninferable jump goes
+-- to any address that may be a position by its lowest bits, and all others to their successor
 abbrev pub by_flow : Code → Edge → Result ℕ PathFault → Flow → Result (List StepRow) PathFault
 by_flow code e next Call = if e.to == after_instruction code e.at then Ok (row e e.to true ∷ []) else Err e.otherwise
 by_flow code e next Far = if e.to % alignment code == 0 then Ok (row e e.to false ∷ []) else Err e.otherwise

@@ -8,7 +8,8 @@ use Rattle.rept_path.specs.Moves.{Heading, Place, place_along, IsMove, stops}
 abbrev pub at_index : Code → Place → List StepRow → ℕ → Place
 at_index code past rows i = place_along code past (reverse (take i rows))
 
--- The row at each index is the move from the place there. The rows end at the least index after 0 at which the walk stops.
+-- The row at each index is the move from the place there. The rows end at the least index after 0
+-- at which the walk stops.
 pub record LeastStop (code : Code) (heading : Heading) (past : Place) (rows : List StepRow) : Type 0 where
   pub moves : (i : ℕ) (row : StepRow) → slice_get rows i ≡ Some row → IsMove code heading.lead (at_index code past rows i) row
   pub later : 0 < length rows

@@ -1,5 +1,5 @@
--- The rows that the moves of a packet add: what `follow_execution_path` reports in the reference decoder of Efficient Trace for
--- RISC-V 2.0. Lists of rows are newest first.
+-- The rows that the moves of a packet add: what `follow_execution_path` reports in the reference
+-- decoder of Efficient Trace for RISC-V 2.0. Lists of rows are newest first.
 use Rattle.std.specs.Prelude.{◌≡◌, List, [], ◌∷◌, Err, true, false, ◌⊎◌}
 use Rattle.rept_path.specs.Code.{Code}
 use Rattle.rept_path.specs.declared.fault.PathFault.{PathFault}

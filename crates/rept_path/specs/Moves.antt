@@ -1,5 +1,6 @@
--- One move, and where moves stop: in the reference decoder of Efficient Trace for RISC-V 2.0 `next_pc`, and the conditions under
--- which `follow_execution_path` ends. Lists of rows are newest first.
+-- One move, and where moves stop: in the reference decoder of Efficient Trace for RISC-V 2.0
+-- `next_pc`, and the conditions under which `follow_execution_path` ends. Lists of rows are newest
+-- first.
 use Rattle.std.specs.Prelude.{◌≡◌, ℕ, ◌+◌, ◌-◌, ◌==◌, nat_le, ℤ, List, [], ◌∷◌, length, slice_get, Option, Some, None, Result, Ok, Err, Bool, true, false, not, ◌&&◌, ◌||◌, if◌then◌else◌}
 use Rattle.rept_path.specs.Code.{Code}
 use Rattle.rept_path.specs.declared.flow.Flow.TheVariants.{Plain, Branch, Jump, Fixed, Far, Call, Stop}
@@ -17,7 +18,8 @@ abbrev pub ◌>>=◌ : {A B : Type 0} → Result A PathFault → (A → Result B
 (Ok x) >>= f = f x
 (Err e) >>= f = Err e
 
--- where a route has come: its last position, its rows, and how many branches of the stretch they pass
+-- where a route has come: its last position, its rows, and how many branches of the stretch they
+-- pass
 pub record Place : Type 0 where
   pub at : ℕ
   pub rows : List StepRow
@@ -31,16 +33,16 @@ abbrev pub place_along : Code → Place → List StepRow → Place
 place_along code p [] = p
 place_along code p (row ∷ leg) = after code (place_along code p leg) row
 
--- what leads the moves: the packet's number, where an uninferable jump goes, all branch bits of the stretch, and how many rows the
--- route may have
+-- what leads the moves: the packet's number, where an uninferable jump goes, all branch bits of the
+-- stretch, and how many rows the route may have
 pub record Lead : Type 0 where
   pub packet : ℕ
   pub target : Option ℕ
   pub bits : List Bool
   pub room : ℕ
 
--- where a walk stands: the number of the packet that comes, all branch bits of the stretch, the place, and how many rows the route
--- may have
+-- where a walk stands: the number of the packet that comes, all branch bits of the stretch, the
+-- place, and how many rows the route may have
 pub record Stand : Type 0 where
   pub packet : ℕ
   pub bits : List Bool
@@ -55,7 +57,8 @@ pub record Heading : Type 0 where
 abbrev pub heading_by : Lead → Aim → Heading
 heading_by lead aim = record { lead = lead; aim = aim }
 
--- what the trace says of the way on from a position: the bit of a branch there, and where an uninferable jump goes
+-- what the trace says of the way on from a position: the bit of a branch there, and where an
+-- uninferable jump goes
 pub record WayOn : Type 0 where
   pub bit : Option Bool
   pub target : Option ℕ
@@ -94,7 +97,8 @@ successor k p Stop way = Err (Trapped k p.at)
 abbrev pub position : Code → ℕ → Result ℕ PathFault
 position code a = look code a >>= (λ i. Ok a)
 
--- the position after a place: the bit of a branch is the one whose number is the branch's in its stretch, 0 for taken
+-- the position after a place: the bit of a branch is the one whose number is the branch's in its
+-- stretch, 0 for taken
 unfoldable pub next_of : Code → Lead → Place → Result ℕ PathFault
 next_of code lead p = do
   i ← look code p.at
@@ -118,12 +122,14 @@ by_jump (row ∷ rows) = jumps_far (flow_of row.instr)
 abbrev pub unused : List Bool → Place → ℕ
 unused bits p = length bits - p.branches
 
--- whether bits fit at the position: a branch there keeps its bit, which is the only one that is left
+-- whether bits fit at the position: a branch there keeps its bit, which is the only one that is
+-- left
 unfoldable pub bits_fit : Code → List Bool → Place → Bool
 bits_fit code bits p = unused bits p == branches_at code p.at
 
--- whether the place is a stop: the target of an uninferable jump, the address of a start packet or the reported one, which counts
--- where `notify` says something or `updiscon` says nothing, or the branch of the last bit of a map
+-- whether the place is a stop: the target of an uninferable jump, the address of a start packet or
+-- the reported one, which counts where `notify` says something or `updiscon` says nothing, or the
+-- branch of the last bit of a map
 unfoldable pub stops : Code → List Bool → Aim → Place → Bool
 stops code bits Jumped p = by_jump p.rows
 stops code bits (Start a) p = by_jump p.rows || (p.at == a && bits_fit code bits p)
@@ -140,8 +146,8 @@ wants_fit LastBit = false
 unfoldable pub misfits : Code → List Bool → Aim → Place → Bool
 misfits code bits aim p = wants_fit aim && by_jump p.rows && not (bits_fit code bits p)
 
--- whether the place is a stop only since it is at the reported address and `updiscon` says nothing, so that the program may come
--- there again (`inferred_address` in the reference decoder)
+-- whether the place is a stop only since it is at the reported address and `updiscon` says nothing,
+-- so that the program may come there again (`inferred_address` in the reference decoder)
 unfoldable pub is_inferred : Code → List Bool → Aim → Place → Bool
 is_inferred code bits Jumped p = false
 is_inferred code bits (Start a) p = false

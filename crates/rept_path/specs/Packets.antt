@@ -1,5 +1,5 @@
--- What the packets say, taken together (Efficient Trace for RISC-V 2.0: the fields branch, branch_map, address and qual_status).
--- Lists of packets are newest first.
+-- What the packets say, taken together (Efficient Trace for RISC-V 2.0: the fields branch,
+-- branch_map, address and qual_status). Lists of packets are newest first.
 use Rattle.std.specs.Prelude.{ℕ, zero, suc, ◌%◌, ◌/◌, ◌==◌, List, [], ◌∷◌, ◌++◌, Bool, true, false, if◌then◌else◌}
 use Rattle.rept_path.specs.Code.{Code}
 use Rattle.rept_trace.specs.declared.packet.Qual.TheVariants.{NoChange, EndedRep, TraceLost, EndedNtr}

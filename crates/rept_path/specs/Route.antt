@@ -1,5 +1,6 @@
--- The legs of all packets: what `process_te_inst` and `process_support` make of them in the reference decoder of Efficient Trace for
--- RISC-V 2.0. Lists of packets, legs and rows are newest first.
+-- The legs of all packets: what `process_te_inst` and `process_support` make of them in the
+-- reference decoder of Efficient Trace for RISC-V 2.0. Lists of packets, legs and rows are newest
+-- first.
 use Rattle.std.specs.Prelude.{◌≡◌, ℕ, ◌+◌, List, [], ◌∷◌, ◌++◌, length, Option, Some, None, Result, Ok, Err, Bool, true, false, ◌⊎◌, if◌then◌else◌}
 use Rattle.rept_path.specs.Code.{Code}
 use Rattle.rept_path.specs.declared.fault.PathFault.{PathFault}
@@ -16,7 +17,8 @@ use Rattle.rept_path.specs.Moves.{Lead, Heading, heading_by, Place, Stand, place
 use Rattle.rept_path.specs.Legs.{PhaseLeg, PhaseFault}
 use Rattle.rept_path.specs.Gap.{gap_to_start}
 
--- a part of what a packet makes the walk do: where an uninferable jump goes, and where the moves stop
+-- a part of what a packet makes the walk do: where an uninferable jump goes, and where the moves
+-- stop
 pub record Phase : Type 0 where
   pub target : Option ℕ
   pub aim : Aim
@@ -43,8 +45,8 @@ abbrev pub PhasesFault : Code → Stand → List Phase → PathFault → Type 0
 PhasesFault code s [] e = ⊥
 PhasesFault code s (phase ∷ phases) e = PhaseFault code (heading_of s phase) s.place e ⊎ ((first : List StepRow) × PhaseLeg code (heading_of s phase) s.place first × PhasesFault code (further code s first) phases e)
 
--- Where the last stop was inferred, the program had come to the reported address and went on to the next uninferable jump, which
--- led there again.
+-- Where the last stop was inferred, the program had come to the reported address and went on to the
+-- next uninferable jump, which led there again.
 abbrev pub first_phase : Bool → ℕ → List Phase
 first_phase marked before = if marked then record { target = Some before; aim = aims.Jumped } ∷ [] else []
 
@@ -60,7 +62,8 @@ phases_of (Support enabled EndedRep) marked before = []
 phases_of (Support enabled TraceLost) marked before = []
 phases_of (Support enabled EndedNtr) marked before = first_phase marked before
 
--- where a packet and its leg bring the walk: all branch bits of the stretch, the reported address and the place
+-- where a packet and its leg bring the walk: all branch bits of the stretch, the reported address
+-- and the place
 pub record LegArrival : Type 0 where
   pub bits : List Bool
   pub reported : ℕ
@@ -98,8 +101,8 @@ marked code [] legs = false
 marked code (packet ∷ earlier) [] = false
 marked code (packet ∷ earlier) (leg ∷ legs) = mark_after code packet (marked code earlier legs) (record { bits = bits code (packet ∷ earlier); reported = reported (packet ∷ earlier); place = place code (packet ∷ earlier) (leg ∷ legs) })
 
--- what a packet is met by: all that the packets before it and their legs leave, whether the trace waits for a start packet, and how
--- many rows the route may have
+-- what a packet is met by: all that the packets before it and their legs leave, whether the trace
+-- waits for a start packet, and how many rows the route may have
 pub record Met : Type 0 where
   pub number : ℕ
   pub bits : List Bool

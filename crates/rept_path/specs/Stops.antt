@@ -1,5 +1,5 @@
--- A path by index: a window's packets one after another, and the index in the path at which each one stops. Lists of packets and
--- rows are oldest first here.
+-- A path by index: a window's packets one after another, and the index in the path at which each
+-- one stops. Lists of packets and rows are oldest first here.
 use Rattle.std.specs.Prelude.{◌≡◌, ℕ, ◌+◌, ◌<◌, ◌≤◌, List, [], ◌∷◌, ◌++◌, length, reverse, drop, Ok, true, false}
 use Rattle.std.specs.List.{between}
 use Rattle.rept_path.specs.Code.{Code}
@@ -41,7 +41,8 @@ PhaseStops code s (phase ∷ phases) part =
     (stop : ℕ) × (part.from < stop) × (stop ≤ part.to) × LeastStop code (heading_of s phase) s.place (rows_in (up_to part stop))
     × (misfits code s.bits phase.aim (onward code s (up_to part stop)).place ≡ false) × PhaseStops code (onward code s (up_to part stop)) phases (beyond part stop)
 
--- A packet's section: its phases end there, while the trace runs, and else its rows are those of the gap.
+-- A packet's section: its phases end there, while the trace runs, and else its rows are those of
+-- the gap.
 abbrev pub PacketStops : Code → Packet → Met → Section → Type 0
 PacketStops code packet met part =
     by_waiting met.waits (WaitingLeg code packet met (reverse (rows_in part)))
@@ -72,7 +73,8 @@ section_to meeting j = record { path = meeting.path; from = meeting.index; to = 
 abbrev pub meeting_after : Code → Packet → PathMeeting → ℕ → PathMeeting
 meeting_after code packet meeting j = record { path = meeting.path; index = j; met = left_by code packet meeting.met (rows_in (section_to meeting j)) }
 
--- Each packet has one stop, at or after that of the packet before it. The rows from the last stop on lead to the end.
+-- Each packet has one stop, at or after that of the packet before it. The rows from the last stop
+-- on lead to the end.
 abbrev pub StopsFrom : TracedRun → List Packet → PathMeeting → List ℕ → Type 0
 StopsFrom run [] meeting [] = gap_to_end run.code (stand_of meeting.met) run.pc ≡ Ok (reverse (drop meeting.index meeting.path))
 StopsFrom run [] meeting (j ∷ stops) = ⊥

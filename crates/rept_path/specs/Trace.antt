@@ -41,7 +41,8 @@ IsWindow packets from (Some skipped) = Window packets from skipped
 abbrev pub stand_after : Code → ℕ → List Packet → List (List StepRow) → Stand
 stand_after code count packets legs = record { packet = count; bits = bits code packets; place = place code packets legs; room = 65536 }
 
--- a traced run: the program, the packets, the number from which on the window may begin, and the program counter at the end
+-- a traced run: the program, the packets, the number from which on the window may begin, and the
+-- program counter at the end
 pub record TracedRun : Type 0 where
   pub code : Code
   pub packets : List Packet
@@ -52,7 +53,8 @@ pub record TracedRun : Type 0 where
 abbrev pub newest_first : TracedRun → ℕ → List Packet
 newest_first run skipped = reverse (drop skipped run.packets)
 
--- where a route of the window leaves the walk, before the end, whose number is the count of all packets
+-- where a route of the window leaves the walk, before the end, whose number is the count of all
+-- packets
 abbrev pub last_stand : TracedRun → ℕ → List (List StepRow) → Stand
 last_stand run skipped legs = stand_after run.code (length run.packets) (newest_first run skipped) legs
 

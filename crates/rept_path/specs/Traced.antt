@@ -21,8 +21,8 @@ use Rattle.rept_path.specs.Trace.{TracedRun, IsPath, HasNoPathOfPackets}
 abbrev pub pc_of : Dump → ℕ
 pc_of dump = saved_pc (registers_of dump)
 
--- a traced run whose packets are a stream of bytes: the program, the stream, the number from which on the window may begin, and the program
--- counter at the end
+-- a traced run whose packets are a stream of bytes: the program, the stream, the number from which
+-- on the window may begin, and the program counter at the end
 pub record RawRun : Type 0 where
   pub code : Code
   pub stream : Stream
@@ -37,7 +37,8 @@ with_packets raw list = record { code = raw.code; packets = list; from = raw.fro
 abbrev pub IsTracedPath : RawRun → ℕ → List StepRow → Type 0
 IsTracedPath raw skipped path = (list : List Packet) × Hold raw.stream list × IsPath (with_packets raw list) skipped path
 
--- A packet is refused, of which the first has this number. Or all are whole, and they have no path to the end.
+-- A packet is refused, of which the first has this number. Or all are whole, and they have no path
+-- to the end.
 abbrev pub IsUntraced : RawRun → ℕ → PathFault → Type 0
 IsUntraced raw number e =
     ((list : List Packet) × (refused : TraceFault) × FailsAfter number raw.stream list refused × (e ≡ fault.Packet refused))

@@ -8,9 +8,9 @@ use rept_isa::number::word;
 pub enum Flow {
     /// To the instruction after it.
     Plain,
-    /// As far as that, where it is taken.
+    /// So many bytes on, where it is taken.
     Branch(i32),
-    /// As far as that.
+    /// A jump by so many bytes.
     Jump(i32),
     /// To that address.
     Fixed(u32),

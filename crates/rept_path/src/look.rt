@@ -39,7 +39,8 @@ pub fn by_word(address: u32, word: Option<u32>) -> Result<Instr, PathFault>
     Ok(instr)
 }
 
-/// The instruction that the half of a compressed one at an address stands for, or that it stands for none.
+/// The instruction that the half of a compressed one at an address stands for, or that it stands
+/// for none.
 pub fn by_half(address: u32, half: u16) -> Result<Instr, PathFault>
     ensures { result ≡ by_instruction address half (expansion half) }
 {
@@ -49,8 +50,9 @@ pub fn by_half(address: u32, half: u16) -> Result<Instr, PathFault>
     Ok(instr)
 }
 
-/// The instruction at an address of code that isn't compressed, at which this word stands, if one does; or why none can have run there: the address
-/// is no multiple of 4, there is no code, or the word spells no instruction of RV32IMA.
+/// The instruction at an address of code that isn't compressed, at which this word stands, if one
+/// does; or why none can have run there: the address is no multiple of 4, there is no code, or the
+/// word spells no instruction of RV32IMA.
 pub fn instruction_at(address: u32, word: Option<u32>) -> Result<Instr, PathFault>
     ensures { result ≡ (if address % 4 == 0 then by_word address word else Err (PathFault.Unaligned address)) }
 {

@@ -39,7 +39,7 @@ impl<'a> Program<'a> {
         }
     }
 
-    /// The same program, which finds code near this address without a search among all segments.
+    /// This program, finding code near this address without a search among all segments.
     pub fn near(&self, a: u32) -> Program<'a>
         ensures code { code_of result ≡ code_of self.now }
     {

@@ -56,7 +56,7 @@ fn walk_over(alloc: Global, program: &Program<'_>, begin: Begin<'_>) -> Result<W
     Ok(walk)
 }
 
-/// As `rebuild`, of a program.
+/// The path that packets tell of a program.
 fn rebuild_program(
     alloc: Global,
     packets: Packets<'_>,
@@ -91,7 +91,7 @@ fn rebuild_program(
     })
 }
 
-/// As `rebuild`.
+/// The path that packets tell of the program of a dump, where code is or isn't compressed.
 fn rebuild_once(
     alloc: Global,
     packets: Packets<'_>,
@@ -113,8 +113,9 @@ fn rebuild_once(
     rebuild_program(alloc, packets, &program, from)
 }
 
-/// The path that a trace means: the steps from the first start packet whose number is `from` or more
-/// and after which no packets were lost, to the dump's program counter (Efficient Trace for RISC-V
+/// The path that a trace means: the steps from the first start packet whose number is `from` or
+/// more and after which no packets were lost, to the dump's program counter (Efficient Trace for
+/// RISC-V
 /// 2.0, reference decoder; `docs/DESIGN.md` explains the rules). `packets` is as `Packets::open`
 /// gave it, of fewer than 2^32 bytes; where its `halves` answers true, code may be compressed. A
 /// `Packet` fault comes before any other; else the fault is the one that comes first along the

@@ -149,7 +149,8 @@ fn rows_across(
 }
 
 impl Walk {
-    /// A walk that stands at the address of a start packet, the one of this number, and may have so many steps.
+    /// A walk that stands at the address of a start packet, the one of this number, and may have so
+    /// many steps.
     pub fn begin(
         alloc: Global,
         program: &Program<'_>,
@@ -365,8 +366,8 @@ impl Walk {
         Ok(())
     }
 
-    /// Where the walk goes on from an inferred stop, first to the next uninferable jump, which leads to
-    /// `before`; then to the first stop.
+    /// Where the walk goes on from an inferred stop, first to the next uninferable jump, which
+    /// leads to `before`; then to the first stop.
     fn through(
         &mut self,
         program: &Program<'_>,

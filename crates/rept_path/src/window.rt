@@ -19,7 +19,7 @@ pub struct Begin<'a> {
 
 /// How many packets there are, and where the window begins.
 #[derive(Clone, Copy)]
-pub struct Survey<'a> {
+pub struct WindowSurvey<'a> {
     pub count: u32,
     pub begin: Option<Begin<'a>>,
 }
@@ -89,7 +89,7 @@ pub fn next_packet(rest: &mut Packets<'_>) -> Option<Packet>
 }
 
 /// Goes through all packets.
-pub fn go_through<'a>(packets: Packets<'a>, from: u32) -> Result<Survey<'a>, TraceFault>
+pub fn go_through<'a>(packets: Packets<'a>, from: u32) -> Result<WindowSurvey<'a>, TraceFault>
     requires { length (rest_of packets).bytes < 2 ^ 32 }
     ensures ok { IfOk result (λ s. (list : List Packet) × Surveys (rest_of packets.entry) list from s) }
     ensures err { IfErr result (λ fault. (list : List Packet) × FailsAfter (number_of packets.entry) (rest_of packets.entry) list fault) }
@@ -101,5 +101,5 @@ pub fn go_through<'a>(packets: Packets<'a>, from: u32) -> Result<Survey<'a>, Tra
         begin = begin_after(packet, count, rest, from, begin);
         count += 1;
     }
-    Ok(Survey { count, begin })
+    Ok(WindowSurvey { count, begin })
 }

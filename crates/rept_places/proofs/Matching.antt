@@ -46,9 +46,9 @@ module _ (C : Course) where
   points t p below few = ap (λ (x : Point). thread_point x.thread x.number) (point_number C t p below few)
 
   -- of one thread in one slice, all of which is told
-  module _ (rows : List StepRow) (e : alone_by C.threads C.dark ≡ Some rows) where
+  module _ (rows : List StepRow) (e : alone_by C.threads C.untraced ≡ Some rows) where
     one : IsOnly C.threads rows
-    one = is_only C.threads C.dark rows e
+    one = is_only C.threads C.untraced rows e
 
     seen_one : seen C ≡ seen_alone rows
     seen_one = ap (seen_by C) e
@@ -79,7 +79,7 @@ module _ (C : Course) where
     thread_one t below = let count = ap (λ (xs : List ThreadRows). length xs) one.is in omega arith
 
     rows_one : rows_of C 0 ≡ rows
-    rows_one = ap (λ (xs : List ThreadRows). rows_of (record { threads = xs; dark = None }) 0) one.is ∙ one.own
+    rows_one = ap (λ (xs : List ThreadRows). rows_of (record { threads = xs; untraced = None }) 0) one.is ∙ one.own
 
     moments_one : (m : ℕ) → m ≤ (seen C).moments.end → place_number C (place_on C m) ≡ m
     moments_one m few =
@@ -123,7 +123,7 @@ module _ (C : Course) where
         ∙ ap (λ (x : SeenMoments). x.moments.end) (sym seen_one)
 
   -- of any other run
-  module _ (e : alone_by C.threads C.dark ≡ None) where
+  module _ (e : alone_by C.threads C.untraced ≡ None) where
     seen_more : seen C ≡ seen_many C
     seen_more = ap (seen_by C) e
 
@@ -200,36 +200,36 @@ module _ (C : Course) where
         ∙ ap (λ (x : SeenMoments). x.moments.end) (sym seen_more)
 
   pub moments : IsSoundCourse C → (m : ℕ) → m ≤ (seen C).moments.end → place_number C (place_on C m) ≡ m
-  moments sound m few = by_alone (alone_by C.threads C.dark) refl
+  moments sound m few = by_alone (alone_by C.threads C.untraced) refl
     where
-      by_alone : (o : Option (List StepRow)) → alone_by C.threads C.dark ≡ o → place_number C (place_on C m) ≡ m
+      by_alone : (o : Option (List StepRow)) → alone_by C.threads C.untraced ≡ o → place_number C (place_on C m) ≡ m
       by_alone (Some rows) e = moments_one rows e m few
       by_alone None e = moments_more e sound m few
 
   pub before_rows : IsSoundCourse C → (t i : ℕ) → i < length (rows_of C t) → place_on C (place_number C (point_named t i)) ≡ point_named t i
-  before_rows sound t i is = by_alone (alone_by C.threads C.dark) refl
+  before_rows sound t i is = by_alone (alone_by C.threads C.untraced) refl
     where
-      by_alone : (o : Option (List StepRow)) → alone_by C.threads C.dark ≡ o → place_on C (place_number C (point_named t i)) ≡ point_named t i
+      by_alone : (o : Option (List StepRow)) → alone_by C.threads C.untraced ≡ o → place_on C (place_number C (point_named t i)) ≡ point_named t i
       by_alone (Some rows) e = before_one rows e t i is
       by_alone None e = before_more e sound t i is
 
   pub after_rows : IsSoundCourse C → (t i : ℕ) → i < length (rows_of C t) → place_number C (after_named t i) ≢ moment_in (seen C) (number_of C t i + 1) → place_on C (place_number C (after_named t i)) ≡ after_named t i
-  after_rows sound t i is other = by_alone (alone_by C.threads C.dark) refl
+  after_rows sound t i is other = by_alone (alone_by C.threads C.untraced) refl
     where
-      by_alone : (o : Option (List StepRow)) → alone_by C.threads C.dark ≡ o → place_on C (place_number C (after_named t i)) ≡ after_named t i
+      by_alone : (o : Option (List StepRow)) → alone_by C.threads C.untraced ≡ o → place_on C (place_number C (after_named t i)) ≡ after_named t i
       by_alone (Some rows) e = absurd (other (after_one rows e t i is))
       by_alone None e = after_more e sound t i is other
 
   pub ends : IsSoundCourse C → place_on C (seen C).moments.end ≡ end_on C
-  ends sound = by_alone (alone_by C.threads C.dark) refl
+  ends sound = by_alone (alone_by C.threads C.untraced) refl
     where
-      by_alone : (o : Option (List StepRow)) → alone_by C.threads C.dark ≡ o → place_on C (seen C).moments.end ≡ end_on C
+      by_alone : (o : Option (List StepRow)) → alone_by C.threads C.untraced ≡ o → place_on C (seen C).moments.end ≡ end_on C
       by_alone (Some rows) e = end_is_one rows e
       by_alone None e = end_is_more e sound
 
   pub last_points : (t : ℕ) → t < length C.threads → place_number C (point_named t (length (rows_of C t))) ≡ (seen C).moments.end
-  last_points t below = by_alone (alone_by C.threads C.dark) refl
+  last_points t below = by_alone (alone_by C.threads C.untraced) refl
     where
-      by_alone : (o : Option (List StepRow)) → alone_by C.threads C.dark ≡ o → place_number C (point_named t (length (rows_of C t))) ≡ (seen C).moments.end
+      by_alone : (o : Option (List StepRow)) → alone_by C.threads C.untraced ≡ o → place_number C (point_named t (length (rows_of C t))) ≡ (seen C).moments.end
       by_alone (Some rows) e = last_point_one rows e t below
       by_alone None e = last_point_more e t below

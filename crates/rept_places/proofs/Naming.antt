@@ -13,7 +13,7 @@ use Rattle.rept_order.proofs.Legs.{point_number, thread_inside}
 use Rattle.rept_course.specs.Names.{MomentNames}
 use Rattle.rept_course.specs.Numbered.{row_on, legs_on}
 use Rattle.rept_course.proofs.Naming.{some_is, are_legs}
-use Rattle.rept_moments.specs.declared.course.Course as courses
+use Rattle.rept_moments.specs.declared.course.NumberedRun as courses
 use Rattle.rept_moments.specs.Numbers.{numbers_of, numbered}
 use Rattle.rept_report.specs.Timeline.{moment_by}
 use Rattle.rept_moments.specs.Seen.{seen_many, alone_by, rows_in, moment_in}
@@ -37,11 +37,11 @@ only_rows [] own rows e = absurd (none_some e)
 only_rows (s ∷ []) own rows e = some_same e
 only_rows (s ∷ u ∷ slices) own rows e = absurd (none_some e)
 
-pub is_only : (threads : List ThreadRows) (dark : Option ℕ) (rows : List StepRow) → alone_by threads dark ≡ Some rows → IsOnly threads rows
-is_only [] dark rows e = absurd (none_some e)
+pub is_only : (threads : List ThreadRows) (untraced : Option ℕ) (rows : List StepRow) → alone_by threads untraced ≡ Some rows → IsOnly threads rows
+is_only [] untraced rows e = absurd (none_some e)
 is_only (thread ∷ []) None rows e = record { only = thread; is = refl; own = only_rows thread.slices thread.steps rows e }
 is_only (thread ∷ []) (Some d) rows e = absurd (none_some e)
-is_only (thread ∷ other ∷ threads) dark rows e = absurd (none_some e)
+is_only (thread ∷ other ∷ threads) untraced rows e = absurd (none_some e)
 
 -- numbers past the last point
 pub past_points : (threads : List ThreadRows) (g : ℕ) → points_before threads (length threads) ≤ g → point_in threads g ≡ point_of_thread (length threads) (g - points_before threads (length threads))
@@ -54,7 +54,7 @@ past_points (thread ∷ threads) g past =
 -- what a course's code has is what its run has
 module _ (C : Course) where
   pub threads_same : (c : courses.Course) → IsCourseOf C c → threads_in c ≡ length C.threads
-  threads_same (courses.TheVariants.One steps) its = sym (ap (λ (xs : List ThreadRows). length xs) (is_only C.threads C.dark steps.now its).is)
+  threads_same (courses.TheVariants.One steps) its = sym (ap (λ (xs : List ThreadRows). length xs) (is_only C.threads C.untraced steps.now its).is)
   threads_same (courses.TheVariants.Many many) its = ap (λ (D : Course). length D.threads) its.0
 
 no_row : (o : Option StepRow) (g n : ℕ) → ((row : StepRow) → o ≡ Some row → g < n) → n ≤ g → o ≡ None

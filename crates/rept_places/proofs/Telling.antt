@@ -4,7 +4,7 @@ use Rattle.rept_isa.specs.declared.row.StepRow.{StepRow}
 use Rattle.rept_steps.specs.declared.threads.ThreadRows.{ThreadRows}
 use Rattle.rept_steps.specs.Course.{Course}
 use Rattle.rept_order.specs.Legs.{Point, points_before}
-use Rattle.rept_moments.specs.declared.course.Course as courses
+use Rattle.rept_moments.specs.declared.course.NumberedRun as courses
 use Rattle.rept_moments.specs.Courses.{seen_in, threads_in, count_in, IsCourseOf}
 use Rattle.rept_moments.proofs.Places.{few_threads}
 use Rattle.rept_places.specs.Places.{thread_point, point_on}
@@ -22,7 +22,7 @@ module _ (C : Course) where
   -- the last point of all
   last_is : (c : courses.Course) → IsCourseOf C c → threads_in c ≢ 0 → suc (seen_in c).legs.count ≡ points_before C.threads (length C.threads)
   last_is (courses.TheVariants.One steps) its some =
-      let only = is_only C.threads C.dark steps.now its in
+      let only = is_only C.threads C.untraced steps.now its in
       let own : length only.only.steps ≡ length steps.now = ap (λ (xs : List StepRow). length xs) only.own in
       let all : points_before (only.only ∷ []) 1 ≡ suc (length only.only.steps) = omega arith in
       ap suc (sym own) ∙ sym all ∙ ap (λ (xs : List ThreadRows). points_before xs (length xs)) (sym only.is)

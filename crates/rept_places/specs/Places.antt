@@ -1,5 +1,6 @@
--- What the numbers of a run's points and moments stand for. A moment of a number is named as the point that it is at, if it is at one; of several threads the end has a name of its own,
--- of one thread it is the last point. This project's own.
+-- What the numbers of a run's points and moments stand for. A moment of a number is named as the
+-- point that it is at, if it is at one; of several threads the end has a name of its own, of one
+-- thread it is the last point. This project's own.
 use Rattle.std.specs.Prelude.{ℕ, ◌+◌, ◌==◌, nat_lt, if◌then◌else◌, List, length, Option, Some, None}
 use Rattle.rept_isa.specs.declared.row.StepRow.{StepRow}
 use Rattle.rept_steps.specs.Course.{Course, row_of}
@@ -26,13 +27,14 @@ after_named t i = record { thread = t; place = places.After i }
 abbrev pub point_on : Course → ℕ → ThreadPoint
 point_on C g = record { thread = (point_at C g).thread; point = (point_at C g).number }
 
--- the last of the moments that have a number: of one thread in one slice, all of which is told, the one at the point
+-- the last of the moments that have a number: of one thread in one slice, all of which is told, the
+-- one at the point
 abbrev pub last_by : Course → Option (List StepRow) → ℕ → Moment
 last_by C (Some rows) m = if nat_lt m (length rows) then before (row_of 0 m) else at_end
 last_by C None m = (numbers_of C).last m
 
 abbrev pub last_on : Course → ℕ → Moment
-last_on C m = last_by C (alone_by C.threads C.dark) m
+last_on C m = last_by C (alone_by C.threads C.untraced) m
 
 -- the end is no thread's own where there are several; it is then named as of thread 0
 abbrev pub end_on : Course → ThreadPlace

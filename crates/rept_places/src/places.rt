@@ -5,12 +5,13 @@ ghost use Rattle.rept_steps.specs.Course as runs;
 ghost use Rattle.rept_moments.specs.Courses.{IsCourseOf};
 ghost use Rattle.rept_places.specs.Places.{end_on, point_on, place_on};
 
-use rept_moments::Course;
+use rept_moments::NumberedRun;
 use rept_order::Moment;
 use rept_session::{Place, ThreadPlace, ThreadPoint};
 
-/// The thread and the point that a number stands for. A number past that of the last point stands for no point; it is told as if one more thread followed.
-pub fn point_of(course: &Course<'_>, number: u32) -> ThreadPoint
+/// The thread and the point that a number stands for. A number past that of the last point stands
+/// for no point; it is told as if one more thread followed.
+pub fn point_of(course: &NumberedRun<'_>, number: u32) -> ThreadPoint
     ensures { (C : runs.Course) → IsCourseOf C course.now → result ≡ point_on C number }
 {
     let threads = course.threads();
@@ -36,7 +37,7 @@ pub fn point_of(course: &Course<'_>, number: u32) -> ThreadPoint
 }
 
 /// The place of the end: of one thread its last point.
-fn end_place(course: &Course<'_>) -> ThreadPlace
+fn end_place(course: &NumberedRun<'_>) -> ThreadPlace
     ensures { (C : runs.Course) → IsCourseOf C course.now → result ≡ end_on C }
 {
     if course.threads() == 1 {
@@ -52,8 +53,9 @@ fn end_place(course: &Course<'_>) -> ThreadPlace
     }
 }
 
-/// The thread and the place that a moment's number stands for: the point before a row or the end where that has the number, else the moment after a row.
-pub fn place_of(course: &Course<'_>, number: u32) -> ThreadPlace
+/// The thread and the place that a moment's number stands for: the point before a row or the end
+/// where that has the number, else the moment after a row.
+pub fn place_of(course: &NumberedRun<'_>, number: u32) -> ThreadPlace
     ensures { (C : runs.Course) → IsCourseOf C course.now → result ≡ place_on C number }
 {
     match course.last(number) {

@@ -10,8 +10,8 @@ use Rattle.rept_ports.specs.Taken.{Taken, TakesByte}
 use Rattle.rept_ports.specs.Lines.{lines_from, whole_from, lines_of, whole_lines, HoldsLine, IsFound, IsLastLine, GivesLine, LineStep, Took, said_of, to_come}
 use Rattle.rept_ports.specs.declared.lines.limits.LineFault.{LineFault}
 use Rattle.rept_ports.specs.declared.lines.limits.LineFault.TheVariants.{ReadFault, TooMuchInput}
-use Rattle.rept_ports.specs.declared.lines.found.Found.{Found}
-use Rattle.rept_ports.specs.declared.lines.found.Found.TheVariants as found
+use Rattle.rept_ports.specs.declared.lines.found.LineRead.{LineRead}
+use Rattle.rept_ports.specs.declared.lines.found.LineRead.TheVariants as found
 
 pub Consumes-nothing : (a : Option (List ℕ)) → Consumes a a []
 Consumes-nothing None = tt
@@ -93,12 +93,12 @@ no_lines_from (b ∷ bs) e = absurd (either (nat_eq b 10) e)
 no_lines : (bs : List ℕ) → lines_of bs ≡ [] → bs ≡ []
 no_lines bs e = no_lines_from bs e
 
-falls_by : (mid new : Taken) (b : ℕ) (got : List ℕ) → mid.pending ++ got ≡ b ∷ new.pending → new.count ≡ mid.count + length got → new.count ≤ 1048576 → (1048576 - new.count) + length new.pending < (1048576 - mid.count) + length mid.pending
-falls_by mid new b [] e n h = omega (arith, ap length e, length-append mid.pending [])
-falls_by mid new b (x ∷ xs) e n h = omega (arith, ap length e, length-append mid.pending (x ∷ xs))
+may_act_by : (mid new : Taken) (b : ℕ) (got : List ℕ) → mid.pending ++ got ≡ b ∷ new.pending → new.count ≡ mid.count + length got → new.count ≤ 1048576 → (1048576 - new.count) + length new.pending < (1048576 - mid.count) + length mid.pending
+may_act_by mid new b [] e n h = omega (arith, ap length e, length-append mid.pending [])
+may_act_by mid new b (x ∷ xs) e n h = omega (arith, ap length e, length-append mid.pending (x ∷ xs))
 
-pub falls : (mid new : Taken) (source source' : Port) (b : ℕ) → TakesByte mid new source source' (Ok (Some b)) → (1048576 - new.count) + length new.pending < (1048576 - mid.count) + length mid.pending
-falls mid new source source' b t = falls_by mid new b t.0 t.2 t.3 t.4
+pub may_act : (mid new : Taken) (source source' : Port) (b : ℕ) → TakesByte mid new source source' (Ok (Some b)) → (1048576 - new.count) + length new.pending < (1048576 - mid.count) + length mid.pending
+may_act mid new source source' b t = may_act_by mid new b t.0 t.2 t.3 t.4
 
 -- what the code knows when one more byte came
 module _ (old mid new : Taken) (source source' source'' : Port) (items : List ℕ) (is_long : Bool) (so_far : SoFar old mid source source' items is_long) where
@@ -118,7 +118,7 @@ module _ (old mid new : Taken) (source source' source'' : Port) (items : List �
     front = so_far.front ++ b ∷ [];
     holds = h;
     going = t.6;
-    fewer = omega (arith, so_far.fewer, falls mid new source' source'' b t, length-append so_far.front (b ∷ []));
+    fewer = omega (arith, so_far.fewer, may_act mid new source' source'' b t, length-append so_far.front (b ∷ []));
     lines = λ more. lines_on t.0 b t.2 more ∙ ap (λ q. cond q (strip_carriage_return so_far.front ∷ lines_from [] (new.pending ++ more)) (lines_from (so_far.front ++ b ∷ []) (new.pending ++ more))) (not_newline b ne);
     whole = λ more. whole_on t.0 b t.2 more ∙ ap (λ q. cond q (strip_carriage_return so_far.front ∷ whole_from [] (new.pending ++ more)) (whole_from (so_far.front ++ b ∷ []) (new.pending ++ more))) (not_newline b ne);
   }
@@ -134,7 +134,7 @@ module _ (old mid new : Taken) (source source' source'' : Port) (items : List �
   gives t = record { next = λ more. lines_on t.0 10 t.2 more; whole = λ more. whole_on t.0 10 t.2 more; going = t.6 }
 
   -- the line ends
-  pub at_newline : (b : ℕ) (r : Found) (items' : List ℕ) → TakesByte mid new source' source'' (Ok (Some b)) → b ≡ 10 → IsFound r items' (strip_carriage_return so_far.front) → LineStep old new source source'' (said_of (Ok r) items')
+  pub at_newline : (b : ℕ) (r : LineRead) (items' : List ℕ) → TakesByte mid new source' source'' (Ok (Some b)) → b ≡ 10 → IsFound r items' (strip_carriage_return so_far.front) → LineStep old new source source'' (said_of (Ok r) items')
   at_newline b found.End items' t e h = absurd h
   at_newline b found.Text items' t e h =
       let u : TakesByte mid new source' source'' (Ok (Some 10)) = subst (λ x. TakesByte mid new source' source'' (Ok (Some x))) e t in
@@ -142,7 +142,7 @@ module _ (old mid new : Taken) (source source' source'' : Port) (items : List �
         got = so_far.got ++ u.0;
         took = took_more u.0 u.1 u.3 u.4;
         calm = u.5 ∙ so_far.calm;
-        fewer = omega (arith, so_far.fewer, falls mid new source' source'' 10 u);
+        fewer = omega (arith, so_far.fewer, may_act mid new source' source'' 10 u);
         line = strip_carriage_return so_far.front;
         told = h;
         next = inl (gives u);
@@ -153,7 +153,7 @@ module _ (old mid new : Taken) (source source' source'' : Port) (items : List �
         got = so_far.got ++ u.0;
         took = took_more u.0 u.1 u.3 u.4;
         calm = u.5 ∙ so_far.calm;
-        fewer = omega (arith, so_far.fewer, falls mid new source' source'' 10 u);
+        fewer = omega (arith, so_far.fewer, may_act mid new source' source'' 10 u);
         line = strip_carriage_return so_far.front;
         told = h;
         next = inl (gives u);
@@ -176,7 +176,7 @@ module _ (old mid new : Taken) (source source' source'' : Port) (items : List �
   }
 
   -- the input ends
-  pub at_its_end : (r : Found) (items' : List ℕ) → TakesByte mid new source' source'' (Ok None) → IsLastLine r items' so_far.front → LineStep old new source source'' (said_of (Ok r) items')
+  pub at_its_end : (r : LineRead) (items' : List ℕ) → TakesByte mid new source' source'' (Ok None) → IsLastLine r items' so_far.front → LineStep old new source source'' (said_of (Ok r) items')
   at_its_end found.End items' t h =
       record { got = so_far.got; took = took_none t; calm = t.5 ∙ so_far.calm; nothing = nothing_left t h; none_pending = t.3; at_end = t.1; ended = t.6 }
     where

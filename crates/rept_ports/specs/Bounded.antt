@@ -17,7 +17,8 @@ pub record IsSame {S : Type 0} (old new : BoundedLines S) : Type 0 where
   pub intake : new.intake ≡ old.intake
   pub fault : new.fault ≡ old.fault
 
--- After a fault each call answers the same, and so it does after the end; else a line was found, or the fault is kept.
+-- After a fault each call answers the same, and so it does after the end; else a line was found, or
+-- the fault is kept.
 module _ {S : Type 0} (port : S → Port) where
   abbrev pub LinesOn : BoundedLines S → BoundedLines S → SaidLine → Type 0
   LinesOn old new said = MatchOption old.fault

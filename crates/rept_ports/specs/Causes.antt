@@ -1,4 +1,5 @@
--- What a call does to the count of a port's faults. Such a count is an unsigned number of 64 bits that stays at its greatest value.
+-- What a call does to the count of a port's faults. Such a count is an unsigned number of 64 bits
+-- that stays at its greatest value.
 use Rattle.std.specs.Prelude.{◌≡◌, ℕ, ◌+◌, ◌-◌, ◌^◌, ◌≤◌, min, List, take, length, Option, Result, OnOk, OnErr}
 use Rattle.std.specs.Io.KnownBytes.{Appends}
 

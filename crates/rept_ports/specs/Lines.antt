@@ -1,6 +1,6 @@
--- The lines of an input, as POSIX defines a line: each ends with a newline (POSIX.1-2017, 3.206). A carriage return before
--- the newline, as other systems write it, is no part of the line, and what stands after the last newline counts as a
--- line where it is not empty.
+-- The lines of an input, as POSIX defines a line: each ends with a newline (POSIX.1-2017, 3.206). A
+-- carriage return before the newline, as other systems write it, is no part of the line, and what
+-- stands after the last newline counts as a line where it is not empty.
 use Rattle.std.specs.Prelude.{◌≡◌, ℕ, ◌+◌, ◌-◌, ◌<◌, ◌≤◌, ◌⊎◌, List, [], ◌∷◌, ◌++◌, length, Bool, true, false, Option, None, Some, Result, Ok, Err, ◌==◌, nat_lt, if◌then◌else◌}
 use Rattle.std.specs.Str.Lines.{strip_carriage_return}
 use Rattle.std.specs.Io.KnownBytes.{Consumes, IsAtEnd}
@@ -9,8 +9,8 @@ use Rattle.rept_ports.specs.Port.{Port}
 use Rattle.rept_ports.specs.Taken.{Taken}
 use Rattle.rept_ports.specs.declared.lines.limits.LineFault.{LineFault}
 use Rattle.rept_ports.specs.declared.lines.limits.LineFault.TheVariants.{ReadFault, TooMuchInput}
-use Rattle.rept_ports.specs.declared.lines.found.Found.{Found}
-use Rattle.rept_ports.specs.declared.lines.found.Found.TheVariants as found
+use Rattle.rept_ports.specs.declared.lines.found.LineRead.{LineRead}
+use Rattle.rept_ports.specs.declared.lines.found.LineRead.TheVariants as found
 
 -- the lines of an input of which the bytes of the current line so far were front
 abbrev pub lines_from : List ℕ → List ℕ → List (List ℕ)
@@ -38,13 +38,13 @@ HoldsLine items false front = items ≡ front
 HoldsLine items true front = 257 < length front
 
 -- what was found is this line
-abbrev pub IsFound : Found → List ℕ → List ℕ → Type 0
+abbrev pub IsFound : LineRead → List ℕ → List ℕ → Type 0
 IsFound found.Text items line = given line ≡ Some items
 IsFound found.Long items line = given line ≡ None
 IsFound found.End items line = ⊥
 
 -- what was found after the last newline
-abbrev pub IsLastLine : Found → List ℕ → List ℕ → Type 0
+abbrev pub IsLastLine : LineRead → List ℕ → List ℕ → Type 0
 IsLastLine found.Text items front = (given front ≡ Some items) × (0 < length front)
 IsLastLine found.Long items front = (given front ≡ None) × (0 < length front)
 IsLastLine found.End items front = front ≡ []
@@ -71,7 +71,7 @@ to_come t = (1048576 - t.count) + length t.pending
 abbrev pub SaidLine : Type 0
 SaidLine = Result (Option (Option (List ℕ))) LineFault
 
-abbrev pub said_of : Result Found LineFault → List ℕ → SaidLine
+abbrev pub said_of : Result LineRead LineFault → List ℕ → SaidLine
 said_of (Ok found.Text) items = Ok (Some (Some items))
 said_of (Ok found.Long) items = Ok (Some None)
 said_of (Ok found.End) items = Ok None

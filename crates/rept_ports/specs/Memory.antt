@@ -1,5 +1,5 @@
--- What the ports in memory hold, and what one call makes of it. Calls are numbered from 1, and the calls whose numbers are
--- listed fail.
+-- What the ports in memory hold, and what one call makes of it. Calls are numbered from 1, and the
+-- calls whose numbers are listed fail.
 use Rattle.std.specs.Prelude.{◌≡◌, ◌≢◌, MatchBool, ℕ, ◌-◌, min, List, [], ◌++◌, length, take, drop, Bool, true, false, ◌||◌, ◌&&◌, ◌==◌, not, Some, Result, Err, MatchResult}
 use Rattle.std.specs.List.{list_any}
 use Rattle.rept_ports.specs.Causes.{next_count}
@@ -60,7 +60,7 @@ SourceStep old new room filled result = MatchResult result
     × (new ≡ record old { left = drop n old.left; calls = next_count old.calls }))
     (λ _. (is_listed (next_count old.calls) old.fails ≡ true) × (filled ≡ room) × (new ≡ record old { calls = next_count old.calls; faults = next_count old.faults }))
 
--- a shelf whose loads don't fail: its files, and the calls so far
+-- a file store whose loads don't fail: its files, and the calls so far
 pub record CalmState : Type 0 where
   pub files : List (List ℕ × List ℕ)
   pub calls : ℕ
@@ -69,22 +69,22 @@ pub record CalmState : Type 0 where
 abbrev pub calm_shelved : CalmState → Shelved
 calm_shelved s = record { files = Some (file_in s.files); loads = s.calls; faults = 0 }
 
--- a shelf: its files, and the calls and the faults so far
-pub record ShelfState : Type 0 where
+-- a file store: its files, and the calls and the faults so far
+pub record FileStoreState : Type 0 where
   pub files : List (List ℕ × List ℕ)
   pub fails : List ℕ
   pub calls : ℕ
   pub faults : ℕ
 
 -- what it tells: all of that but the calls that are to fail
-abbrev pub shelved : ShelfState → Shelved
+abbrev pub shelved : FileStoreState → Shelved
 shelved s = record { files = Some (file_in s.files); loads = s.calls; faults = s.faults }
 
-abbrev pub new_shelf : List ℕ → ShelfState
-new_shelf fails = record { files = []; fails = fails; calls = 0; faults = 0 }
+abbrev pub new_file_store : List ℕ → FileStoreState
+new_file_store fails = record { files = []; fails = fails; calls = 0; faults = 0 }
 
 -- a load counts its call, and is `Failed` where its number is listed and only there
-abbrev pub ShelfStep : {T : Type 0} → ShelfState → ShelfState → Result T LoadFault → Type 0
-ShelfStep old new result = MatchBool (is_listed (next_count old.calls) old.fails)
+abbrev pub FileStoreStep : {T : Type 0} → FileStoreState → FileStoreState → Result T LoadFault → Type 0
+FileStoreStep old new result = MatchBool (is_listed (next_count old.calls) old.fails)
     ((result ≡ Err load.Failed) × (new ≡ record old { calls = next_count old.calls; faults = next_count old.faults }))
     ((result ≢ Err load.Failed) × (new ≡ record old { calls = next_count old.calls }))

@@ -6,7 +6,8 @@ use Rattle.rept_ports.specs.Port.{Port}
 use Rattle.rept_ports.specs.declared.lines.limits.LineFault.{LineFault}
 use Rattle.rept_ports.specs.declared.lines.limits.LineFault.TheVariants.{ReadFault, TooMuchInput}
 
--- the bytes that were taken and not yet given on, how many were taken in all, and whether the end of the input was seen
+-- the bytes that were taken and not yet given on, how many were taken in all, and whether the end
+-- of the input was seen
 pub record Taken : Type 0 where
   pub pending : List ℕ
   pub count : ℕ

@@ -32,8 +32,8 @@ fn why(error: &io::Error) -> Unreadable
 
 /// The words after the program's name, of what `std::env::args` answers.
 ///
-/// `OutOfMemory` comes where the system had no memory for them, or there is none here; `NotText` where one of them isn't text, the program's
-/// name among them.
+/// `OutOfMemory` comes where the system had no memory for them, or there is none here; `NotText`
+/// where one of them isn't text, the program's name among them.
 pub fn words_of(alloc: Global, arguments: io::Result<Args>) -> Result<Vec<String>, Unreadable>
     ensures words { IfOk result (λ words. MatchResult arguments (λ given. words.items ≡ drop 1 (into_iter_items given)) (λ error. ⊥)) }
     ensures err { IfErr result (λ why. MatchResult arguments (λ given. why ≡ Unreadable.OutOfMemory) (λ error. (why ≡ Unreadable.OutOfMemory) ↔ (error_kind error ≡ ErrorKind.OutOfMemory))) }

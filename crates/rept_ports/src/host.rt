@@ -2,22 +2,23 @@
 
 ghost use Rattle.std.specs.Prelude.{◌≡◌, ◌≤◌, length, IfOk};
 
-use crate::traits::{Failed, LoadFault, Shelf, Sink, Source};
+use crate::traits::{Failed, FileStore, LoadFault, Sink, Source};
 use std::alloc::Global;
 use std::io::{ErrorKind, Read, Write};
 use std::marker::Model;
 use std::rt::Files;
 use std::{fs, io};
 
-/// Files of the system, which are not told. Contracts see how many loads were asked for, and how many failed.
+/// Files of the system, which are not told. Contracts see how many loads were asked for, and how
+/// many failed.
 #[derive(Drop)]
-pub struct DiskShelf<R> {
+pub struct DiskFileStore<R> {
     rt: R,
     loads: u64,
     faults: u64,
 }
 
-impl<R> Model for DiskShelf<R> {
+impl<R> Model for DiskFileStore<R> {
     ghost use Rattle.rept_ports.specs.Host.{DiskState};
 
     ghost Value = { DiskState };
@@ -25,12 +26,12 @@ impl<R> Model for DiskShelf<R> {
     ghost view = { λ s. record { loads = s.loads; faults = s.faults } };
 }
 
-impl<R: Files> DiskShelf<R> {
+impl<R: Files> DiskFileStore<R> {
     /// The files that the runtime reaches. No load was asked for.
-    pub fn new(rt: R) -> DiskShelf<R>
+    pub fn new(rt: R) -> DiskFileStore<R>
         ensures { result ≡ record { loads = 0; faults = 0 } }
     {
-        DiskShelf {
+        DiskFileStore {
             rt,
             loads: 0,
             faults: 0,
@@ -38,15 +39,16 @@ impl<R: Files> DiskShelf<R> {
     }
 }
 
-impl<R: Files> Shelf for DiskShelf<R> {
+impl<R: Files> FileStore for DiskFileStore<R> {
     ghost use Rattle.std.specs.Prelude.{None, ◌≡◌, ◌≤◌, length, IfOk, IfErr, is_ok, if◌then◌else◌};
     ghost use Rattle.rept_ports.specs.Shelves.{Shelved, Loads, LoadFails};
     ghost use Rattle.rept_ports.specs.Causes.{next_count};
 
     ghost port = { λ s. record { files = None; loads = s.loads; faults = s.faults } };
 
-    /// The bytes of the file at this path. Of a larger file `limit + 1` bytes are read, and it is `TooLarge`. A path that
-    /// names nothing is `Missing`, and one that names a folder or cannot be read `Failed`. Each fault is counted.
+    /// The bytes of the file at this path. Of a larger file `limit + 1` bytes are read, and it is
+    /// `TooLarge`. A path that names nothing is `Missing`, and one that names a folder or cannot be
+    /// read `Failed`. Each fault is counted.
     fn load(&mut self, alloc: Global, name: &str, limit: usize) -> Result<Vec<u8>, LoadFault>
         ensures within { IfOk result (λ v. length v.items ≤ limit) }
         ensures loads { Loads (record { files = None; loads = self.old.loads; faults = self.old.faults }) (record { files = None; loads = self.new.loads; faults = self.new.faults }) result }
@@ -61,8 +63,9 @@ impl<R: Files> Shelf for DiskShelf<R> {
         loaded
     }
 
-    /// The same, but `Missing` for a path that names a folder, a pipe, a device or a socket, or leads to one by links; it is
-    /// looked at before it is opened.
+    /// The bytes of the regular file at this path. `Missing` is also the answer for a path that
+    /// names a folder, a pipe, a device or a socket, or leads to one by links; it is looked at
+    /// before it is opened.
     fn load_regular(
         &mut self,
         alloc: Global,
@@ -104,7 +107,7 @@ fn read_at_most<R: Files>(
     Ok(bytes)
 }
 
-/// The same of a regular file alone.
+/// The bytes of a regular file of the system, of which at most one more than `limit` are read.
 fn read_regular<R: Files>(
     rt: &R,
     alloc: Global,
@@ -128,8 +131,8 @@ fn fault_of(error: &io::Error) -> LoadFault {
     }
 }
 
-/// Standard input, or another reader. It tells nothing of what is left. Contracts see the reader and how many reads
-/// failed.
+/// Standard input, or another reader. It tells nothing of what is left. Contracts see the reader
+/// and how many reads failed.
 #[derive(Drop)]
 pub struct StdSource<R> {
     reader: R,
@@ -178,8 +181,8 @@ impl<R: Read> Source for StdSource<R> {
     }
 }
 
-/// Standard output, or another writer. It tells nothing of what was written. Contracts see the writer and how many writes
-/// failed.
+/// Standard output, or another writer. It tells nothing of what was written. Contracts see the
+/// writer and how many writes failed.
 #[derive(Drop)]
 pub struct StdSink<W> {
     writer: W,
@@ -210,8 +213,8 @@ impl<W: Write> Sink for StdSink<W> {
 
     ghost port = { λ s. record { bytes = None; faults = s.faults } };
 
-    /// Writes once to the writer. `Failed` comes where the writer failed or took nothing of a piece that is not empty, and
-    /// is counted.
+    /// Writes once to the writer. `Failed` comes where the writer failed or took nothing of a piece
+    /// that is not empty, and is counted.
     fn write(&mut self, piece: &[u8]) -> Result<usize, Failed>
         ensures bound { IfOk result (λ n. n ≤ length piece.now) }
         ensures progress { IfOk result (λ n. 0 < length piece.now → 0 < n) }

@@ -1,4 +1,5 @@
-//! The lines of a source, which are read with a bound on each and a bound on all, and without memory.
+//! The lines of a source, which are read with a bound on each and a bound on all, and without
+//! memory.
 
 mod bounded;
 mod found;

@@ -10,8 +10,8 @@ use std::marker::Model;
 
 /// Writes the whole text.
 ///
-/// `Failed` comes only where the sink counted a fault, and only one is counted. A part of the text that begins it was written
-/// then.
+/// `Failed` comes only where the sink counted a fault, and only one is counted. A part of the text
+/// that begins it was written then.
 pub fn write_all<K: Sink>(sink: &mut K, text: &[u8]) -> Result<(), Failed>
     ensures ok { OnOk result (Appends (K.port sink.old).bytes (K.port sink.new).bytes text.now) }
     ensures err { OnErr result (AppendsPrefix (K.port sink.old).bytes (K.port sink.new).bytes text.now) }
@@ -25,8 +25,8 @@ pub fn write_all<K: Sink>(sink: &mut K, text: &[u8]) -> Result<(), Failed>
     Ok(())
 }
 
-/// Memory to write to, all of which is taken when it is made. The writes whose numbers are listed fail; the first write
-/// has the number 1.
+/// Memory to write to, all of which is taken when it is made. The writes whose numbers are listed
+/// fail; the first write has the number 1.
 #[derive(Drop)]
 pub struct MemSink {
     written: Vec<u8>,
@@ -50,8 +50,8 @@ impl Model for MemSink {
 impl MemSink {
     ghost use Rattle.rept_ports.specs.Memory.{new_sink};
 
-    /// Nothing is written, there is room for so many bytes, and the writes of these numbers are to fail. Its only refusal
-    /// is of memory.
+    /// Nothing is written, there is room for so many bytes, and the writes of these numbers are to
+    /// fail. Its only refusal is of memory.
     pub fn new(alloc: Global, room: usize, fails: &[u64]) -> Result<MemSink, OutOfMemory>
         ensures { IfOk result (λ s. s ≡ new_sink room fails.now) }
     {
@@ -82,8 +82,8 @@ impl Sink for MemSink {
 
     ghost port = { λ s. record { bytes = Some s.written; faults = s.faults } };
 
-    /// Writes as much of the piece as fits in the room that is left. `Failed` comes exactly where the number of this write
-    /// is listed, or no room is left for a piece that is not empty.
+    /// Writes as much of the piece as fits in the room that is left. `Failed` comes exactly where
+    /// the number of this write is listed, or no room is left for a piece that is not empty.
     fn write(&mut self, piece: &[u8]) -> Result<usize, Failed>
         ensures bound { IfOk result (λ n. n ≤ length piece.now) }
         ensures progress { IfOk result (λ n. 0 < length piece.now → 0 < n) }

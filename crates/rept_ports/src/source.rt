@@ -8,11 +8,11 @@ use std::marker::Model;
 
 /// Bytes in memory, which never fail. Contracts see the bytes that are left.
 #[derive(Drop)]
-pub struct CalmSource<'a> {
+pub struct InfallibleSource<'a> {
     rest: &'a [u8],
 }
 
-impl<'a> Model for CalmSource<'a> {
+impl<'a> Model for InfallibleSource<'a> {
     ghost use Rattle.std.specs.Prelude.{List, ℕ};
 
     ghost Value = { List ℕ };
@@ -20,16 +20,16 @@ impl<'a> Model for CalmSource<'a> {
     ghost view = { λ s. s.rest.now };
 }
 
-impl<'a> CalmSource<'a> {
+impl<'a> InfallibleSource<'a> {
     /// All of these bytes are left.
-    pub fn new(bytes: &'a [u8]) -> CalmSource<'a>
+    pub fn new(bytes: &'a [u8]) -> InfallibleSource<'a>
         ensures { result ≡ bytes.now }
     {
-        CalmSource { rest: bytes }
+        InfallibleSource { rest: bytes }
     }
 }
 
-impl<'a> Source for CalmSource<'a> {
+impl<'a> Source for InfallibleSource<'a> {
     ghost use Rattle.std.specs.Prelude.{Some};
     ghost use Rattle.std.specs.Io.{ReadsAtMost};
     ghost use Rattle.std.specs.Io.KnownBytes.{ReadConsumes};
@@ -73,7 +73,8 @@ impl<'a> Model for MemSource<'a> {
 impl<'a> MemSource<'a> {
     ghost use Rattle.rept_ports.specs.Memory.{new_source};
 
-    /// All of these bytes are left, and the reads of these numbers are to fail. Its only refusal is of memory.
+    /// All of these bytes are left, and the reads of these numbers are to fail. Its only refusal is
+    /// of memory.
     pub fn new(alloc: Global, bytes: &'a [u8], fails: &[u64]) -> Result<MemSource<'a>, OutOfMemory>
         ensures { IfOk result (λ s. s ≡ new_source bytes.now fails.now) }
     {
@@ -96,7 +97,8 @@ impl<'a> Source for MemSource<'a> {
 
     ghost port = { λ s. record { bytes = Some s.left; faults = s.faults } };
 
-    /// Moves as many bytes as are left and fit. `Failed` comes exactly where the number of this read is listed.
+    /// Moves as many bytes as are left and fit. `Failed` comes exactly where the number of this
+    /// read is listed.
     fn read(&mut self, into: &mut [u8]) -> Result<usize, Failed>
         ensures bound { ReadsAtMost result into.new }
         ensures bytes { ReadConsumes (Some self.old.left) (Some self.new.left) result into.new }

@@ -3,4 +3,4 @@
 
 pub mod reaches;
 
-pub use reaches::{Reaches, Window};
+pub use reaches::{NumberWindow, Reaches};

@@ -44,7 +44,8 @@ register_known K p r = if r == 0 then Some 0 else K p (Register r)
 abbrev pub register_fact : Knowledge → ℕ → ℕ → Option ℕ
 register_fact K p r = if r == 0 then None else K p (Register r)
 
--- what is known at a point of the register in an operand's place; nothing where the form has no such place
+-- what is known at a point of the register in an operand's place; nothing where the form has no
+-- such place
 abbrev pub operand : Knowledge → ℕ → Option ℕ → Flat
 operand K p None = Unknown
 operand K p (Some r) = flat (register_known K p r)

@@ -21,8 +21,9 @@ impl Default for Cell {
     }
 }
 
-/// A cell has a value: a register at a point, a byte at a moment. Row i leads from point i to i + 1; the points of all threads are numbered one
-/// after the other, and the moments of the memory have numbers of their own. Of one thread in one slice, with n rows, both are the numbers 0 to n.
+/// A cell has a value: a register at a point, a byte at a moment. Row i leads from point i to i +
+/// 1; the points of all threads are numbered one after the other, and the moments of the memory
+/// have numbers of their own. Of one thread in one slice, with n rows, both are the numbers 0 to n.
 #[derive(Clone, Copy, Default, PartialEq, Eq, Debug)]
 pub struct Fact {
     /// of a register the number of the point, of a byte that of the moment

@@ -5,4 +5,4 @@ pub mod fact;
 pub mod reason;
 
 pub use fact::{Cell, Fact};
-pub use reason::{Looked, Reason};
+pub use reason::{RangePremise, Reason};

@@ -11,7 +11,7 @@ use std::default::Default;
 
 /// A range of a register at a point that a rule looked at.
 #[derive(Clone, Copy, PartialEq, Eq, Debug)]
-pub struct Looked {
+pub struct RangePremise {
     /// the point, from 0 before the first row
     pub point: u32,
     /// the register
@@ -20,12 +20,12 @@ pub struct Looked {
     pub range: Range,
 }
 
-impl Default for Looked {
-    fn default() -> Looked
+impl Default for RangePremise {
+    fn default() -> RangePremise
         ensures point { result.point ≡ 0 }
         ensures reg { result.reg ≡ 0 }
     {
-        Looked {
+        RangePremise {
             point: 0,
             reg: Reg::new(0).unwrap(),
             range: Range::unknown(),
@@ -33,8 +33,9 @@ impl Default for Looked {
     }
 }
 
-/// A rule by its number, its premises, and the ranges that it looked at. The rules and their numbers are this project's own.
-/// Both lists keep within the room that they have in place, so a reason takes no memory.
+/// A rule by its number, its premises, and the ranges that it looked at. The rules and their
+/// numbers are this project's own. Both lists keep within the room that they have in place, so a
+/// reason takes no memory.
 #[derive(Drop)]
 pub struct Reason {
     /// the rule's number
@@ -42,7 +43,7 @@ pub struct Reason {
     /// the facts that the rule rests on, in the rule's order
     pub premises: SmallVec<Fact, 10>,
     /// the ranges that the rule looked at, in the rule's order
-    pub ranges: SmallVec<Looked, 8>,
+    pub ranges: SmallVec<RangePremise, 8>,
 }
 
 impl Reason {

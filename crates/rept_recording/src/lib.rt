@@ -8,5 +8,5 @@ mod work;
 
 pub use logs::LogRefusal;
 pub use process::{answer, record_input};
-pub use stop::Stop;
+pub use stop::RecordError;
 pub use work::run;

@@ -13,13 +13,14 @@ use thiserror::Error;
 pub enum LogRefusal {
     /// The log is one of one hart.
     #[error("{0}")]
-    OneHart(rept_simlog::Refusal),
+    OneHart(rept_simlog::SimLogRefusal),
     /// The log is one of several harts.
     #[error("{0}")]
-    SeveralHarts(rept_hartlog::Refusal),
+    SeveralHarts(rept_hartlog::HartLogRefusal),
 }
 
-/// The trace of a log over an executable. The log is one of several harts where its first line has a space, and else one of one hart.
+/// The trace of a log over an executable. The log is one of several harts where its first line has
+/// a space, and else one of one hart.
 pub fn record(alloc: Global, exe: &[u8], log: &[u8]) -> Result<Text, LogRefusal>
     requires { length log.now < 2 ^ 32 }
     ensures ok { IfOk result (λ trace. IsRecordedLog exe.now log.now trace) }

@@ -7,50 +7,53 @@ ghost use Rattle.rept_ports.specs.Port.{move};
 ghost use Rattle.rept_recording.specs.Process.{IsTraceWritten, asked, number_of_end};
 ghost use Rattle.rept_recording.specs.Worked.{inputs_of};
 
-use crate::stop::Stop;
+use crate::stop::RecordError;
 use crate::work::run;
-use rept_ports::{DiskShelf, Shelf, Sink, Source, StdSink, StdSource, Unreadable, words_of};
+use rept_ports::{
+    DiskFileStore, FileStore, Sink, Source, StdSink, StdSource, Unreadable, words_of,
+};
 use std::alloc::Global;
 use std::process::ExitCode;
 use std::{env, io};
 
 /// The only word.
-fn name_of(words: &Result<Vec<String>, Unreadable>) -> Result<&str, Stop>
+fn name_of(words: &Result<Vec<String>, Unreadable>) -> Result<&str, RecordError>
     ensures { result_map_both (λ name. name.now) (λ e. e) result ≡ asked (result_map_both (λ v. map string_bytes v.items) (λ e. e) words.now) }
 {
     let words = match words {
         Ok(words) => words,
-        Err(Unreadable::NotText) => return Err(Stop::Usage),
-        Err(Unreadable::OutOfMemory) => return Err(Stop::OutOfMemory),
+        Err(Unreadable::NotText) => return Err(RecordError::Usage),
+        Err(Unreadable::OutOfMemory) => return Err(RecordError::OutOfMemory),
     };
     match words.as_slice() {
         [name] => Ok(name.as_str()),
-        _ => Err(Stop::Usage),
+        _ => Err(RecordError::Usage),
     }
 }
 
-/// Writes the trace of the log that comes in, over the executable that the only word names. Words that aren't one, or aren't text, are
-/// `Usage`, and words for which there is no memory `OutOfMemory`; nothing is loaded, read or written then.
-pub fn answer<H: Shelf, S: Source, K: Sink>(
+/// Writes the trace of the log that comes in, over the executable that the only word names. Words
+/// that aren't one, or aren't text, are `Usage`, and words for which there is no memory
+/// `OutOfMemory`; nothing is loaded, read or written then.
+pub fn answer<H: FileStore, S: Source, K: Sink>(
     alloc: Global,
     words: &Result<Vec<String>, Unreadable>,
-    shelf: &mut H,
+    file_store: &mut H,
     input: &mut S,
     out: &mut K,
-) -> Result<(), Stop>
+) -> Result<(), RecordError>
     ensures { MatchResult (asked (result_map_both (λ v. map string_bytes v.items) (λ e. e) words.now))
-        (λ name. IsTraceWritten (inputs_of name (move (H.port shelf.old) (H.port shelf.new)) (move (S.port input.old) (S.port input.new))) (move (K.port out.old) (K.port out.new)) result)
-        (λ stop. (result ≡ Err stop) × (shelf.new ≡ shelf.old) × (input.new ≡ input.old) × (out.new ≡ out.old)) }
+        (λ name. IsTraceWritten (inputs_of name (move (H.port file_store.old) (H.port file_store.new)) (move (S.port input.old) (S.port input.new))) (move (K.port out.old) (K.port out.new)) result)
+        (λ stop. (result ≡ Err stop) × (file_store.new ≡ file_store.old) × (input.new ≡ input.old) × (out.new ≡ out.old)) }
 {
     let name = match name_of(words) {
         Ok(name) => name,
         Err(stop) => return Err(stop),
     };
-    run(alloc, name, shelf, input, out)
+    run(alloc, name, file_store, input, out)
 }
 
 /// The number that the process ends with.
-fn exit_code(end: &Result<(), Stop>) -> ExitCode
+fn exit_code(end: &Result<(), RecordError>) -> ExitCode
     ensures { exit_status result ≡ number_of_end end.now }
 {
     match end {
@@ -59,15 +62,16 @@ fn exit_code(end: &Result<(), Stop>) -> ExitCode
     }
 }
 
-/// Runs over the system's files and streams, on the words after the program's name. Why no trace is written is told on standard error.
+/// Runs over the system's files and streams, on the words after the program's name. Why no trace is
+/// written is told on standard error.
 pub fn record_input<R: AllocGlobal + env::Env + std::fs::Files + Input + Print + Eprint>(
     rt: &R,
 ) -> ExitCode {
     let words = words_of(rt.alloc(), env::args(rt));
-    let mut shelf = DiskShelf::new(rt);
+    let mut file_store = DiskFileStore::new(rt);
     let mut source = StdSource::new(rt.reader());
     let mut sink = StdSink::new(io::writer(rt));
-    let end = answer(rt.alloc(), &words, &mut shelf, &mut source, &mut sink);
+    let end = answer(rt.alloc(), &words, &mut file_store, &mut source, &mut sink);
     if let Err(stop) = &end {
         let _ = eprintln!(rt; "{stop}");
     }

@@ -8,7 +8,7 @@ use thiserror::Error;
 
 /// Why no trace was written, or only a part of it.
 #[derive(Clone, Copy, Debug, Error)]
-pub enum Stop {
+pub enum RecordError {
     /// The words aren't one name.
     #[error("usage: rept_record EXE < LOG > TRACE")]
     Usage,
@@ -38,23 +38,25 @@ pub enum Stop {
     OutOfMemory,
 }
 
-impl Stop {
+impl RecordError {
     /// The exit status.
     pub fn number(self) -> u8
         ensures { result ≡ number_of_stop self }
     {
         match self {
-            Stop::Refused(LogRefusal::OneHart(rept_simlog::Refusal::OutOfMemory))
-            | Stop::Refused(LogRefusal::SeveralHarts(rept_hartlog::Refusal::OutOfMemory))
-            | Stop::OutOfMemory => 11,
-            Stop::Refused(_) => 1,
-            Stop::Usage => 2,
-            Stop::LoadFault => 3,
-            Stop::NoFile => 4,
-            Stop::TooLarge => 5,
-            Stop::InputFault => 9,
-            Stop::OutputFault => 10,
-            Stop::TooMuchInput => 12,
+            RecordError::Refused(LogRefusal::OneHart(rept_simlog::SimLogRefusal::OutOfMemory))
+            | RecordError::Refused(
+                LogRefusal::SeveralHarts(rept_hartlog::HartLogRefusal::OutOfMemory),
+            )
+            | RecordError::OutOfMemory => 11,
+            RecordError::Refused(_) => 1,
+            RecordError::Usage => 2,
+            RecordError::LoadFault => 3,
+            RecordError::NoFile => 4,
+            RecordError::TooLarge => 5,
+            RecordError::InputFault => 9,
+            RecordError::OutputFault => 10,
+            RecordError::TooMuchInput => 12,
         }
     }
 }

@@ -7,8 +7,8 @@ ghost use Rattle.rept_ports.specs.Shelves.{Loads};
 ghost use Rattle.rept_recording.specs.Worked.{Ends, Makes, ReadStops, Stops, WritesTrace, inputs_of};
 
 use crate::logs::record;
-use crate::stop::Stop;
-use rept_ports::{LoadFault, Shelf, Sink, Source, write_all};
+use crate::stop::RecordError;
+use rept_ports::{FileStore, LoadFault, Sink, Source, write_all};
 use rept_word::Text;
 use std::alloc::Global;
 
@@ -53,60 +53,62 @@ fn read_all<S: Source>(alloc: Global, input: &mut S) -> Result<Vec<u8>, InputSto
 }
 
 /// The trace of the log that comes in, over the executable of a name.
-fn trace_of<H: Shelf, S: Source>(
+fn trace_of<H: FileStore, S: Source>(
     alloc: Global,
     name: &str,
-    shelf: &mut H,
+    file_store: &mut H,
     input: &mut S,
-) -> Result<Text, Stop>
-    ensures ok { IfOk result (λ trace. Makes (inputs_of name.now (move (H.port shelf.old) (H.port shelf.new)) (move (S.port input.old) (S.port input.new))) trace) }
-    ensures err { IfErr result (Stops (inputs_of name.now (move (H.port shelf.old) (H.port shelf.new)) (move (S.port input.old) (S.port input.new)))) }
-    ensures loads { Loads (H.port shelf.old) (H.port shelf.new) result }
+) -> Result<Text, RecordError>
+    ensures ok { IfOk result (λ trace. Makes (inputs_of name.now (move (H.port file_store.old) (H.port file_store.new)) (move (S.port input.old) (S.port input.new))) trace) }
+    ensures err { IfErr result (Stops (inputs_of name.now (move (H.port file_store.old) (H.port file_store.new)) (move (S.port input.old) (S.port input.new)))) }
+    ensures loads { Loads (H.port file_store.old) (H.port file_store.new) result }
 {
-    let exe = match shelf.load(alloc, name, EXE_LIMIT) {
+    let exe = match file_store.load(alloc, name, EXE_LIMIT) {
         Ok(exe) => exe,
         Err(fault) => match fault {
-            LoadFault::Failed => return Err(Stop::LoadFault),
-            LoadFault::Missing => return Err(Stop::NoFile),
-            LoadFault::TooLarge => return Err(Stop::TooLarge),
-            LoadFault::OutOfMemory => return Err(Stop::OutOfMemory),
+            LoadFault::Failed => return Err(RecordError::LoadFault),
+            LoadFault::Missing => return Err(RecordError::NoFile),
+            LoadFault::TooLarge => return Err(RecordError::TooLarge),
+            LoadFault::OutOfMemory => return Err(RecordError::OutOfMemory),
         },
     };
     let log = match read_all(alloc, input) {
         Ok(log) => log,
         Err(fault) => match fault {
-            InputStop::Failed => return Err(Stop::InputFault),
-            InputStop::TooMuch => return Err(Stop::TooMuchInput),
-            InputStop::OutOfMemory => return Err(Stop::OutOfMemory),
+            InputStop::Failed => return Err(RecordError::InputFault),
+            InputStop::TooMuch => return Err(RecordError::TooMuchInput),
+            InputStop::OutOfMemory => return Err(RecordError::OutOfMemory),
         },
     };
     match record(alloc, exe.as_slice(), log.as_slice()) {
         Ok(trace) => Ok(trace),
-        Err(refusal) => Err(Stop::Refused(refusal)),
+        Err(refusal) => Err(RecordError::Refused(refusal)),
     }
 }
 
-/// Writes the trace of the log that comes in, over the executable of a name. Nothing is written before all of it was made, and nothing
-/// where no trace is made.
+/// Writes the trace of the log that comes in, over the executable of a name. Nothing is written
+/// before all of it was made, and nothing where no trace is made.
 ///
-/// Each `Err` has its cause: `LoadFault` where the shelf counted a fault; `NoFile` and `TooLarge` where the shelf's files say so, or, of a
-/// shelf that doesn't tell them, where it counted a fault; `InputFault` and `OutputFault` where that port counted one; `TooMuchInput` where
-/// the log has more than 256 MiB; `Refused` where the log isn't that of a run of the executable. `OutOfMemory` may come at any time but
-/// after a failed read or write. No other fault is counted.
-pub fn run<H: Shelf, S: Source, K: Sink>(
+/// Each `Err` has its cause: `LoadFault` where the file store counted a fault; `NoFile` and
+/// `TooLarge` where the file store's files say so, or, of a file store that doesn't tell them,
+/// where it counted a fault; `InputFault` and `OutputFault` where that port counted one;
+/// `TooMuchInput` where the log has more than 256 MiB; `Refused` where the log isn't that of a run
+/// of the executable. `OutOfMemory` may come at any time but after a failed read or write. No other
+/// fault is counted.
+pub fn run<H: FileStore, S: Source, K: Sink>(
     alloc: Global,
     name: &str,
-    shelf: &mut H,
+    file_store: &mut H,
     input: &mut S,
     out: &mut K,
-) -> Result<(), Stop>
-    ensures ok { OnOk result (WritesTrace (inputs_of name.now (move (H.port shelf.old) (H.port shelf.new)) (move (S.port input.old) (S.port input.new))) (move (K.port out.old) (K.port out.new))) }
-    ensures err { IfErr result (Ends (inputs_of name.now (move (H.port shelf.old) (H.port shelf.new)) (move (S.port input.old) (S.port input.new))) (move (K.port out.old) (K.port out.new))) }
-    ensures loads { Loads (H.port shelf.old) (H.port shelf.new) result }
+) -> Result<(), RecordError>
+    ensures ok { OnOk result (WritesTrace (inputs_of name.now (move (H.port file_store.old) (H.port file_store.new)) (move (S.port input.old) (S.port input.new))) (move (K.port out.old) (K.port out.new))) }
+    ensures err { IfErr result (Ends (inputs_of name.now (move (H.port file_store.old) (H.port file_store.new)) (move (S.port input.old) (S.port input.new))) (move (K.port out.old) (K.port out.new))) }
+    ensures loads { Loads (H.port file_store.old) (H.port file_store.new) result }
 {
-    let trace = trace_of(alloc, name, shelf, input)?;
+    let trace = trace_of(alloc, name, file_store, input)?;
     match write_all(out, trace.bytes()) {
         Ok(()) => Ok(()),
-        Err(_) => Err(Stop::OutputFault),
+        Err(_) => Err(RecordError::OutputFault),
     }
 }

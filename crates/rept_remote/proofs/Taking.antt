@@ -59,8 +59,8 @@ pub noise_more : (noise : List ℕ) (byte : ℕ) → has_call noise ≡ false �
 noise_more noise byte h k = none_with asks noise byte h k
 
 -- one byte taken makes the measure less
-pub falls : (a b : ℕ) (s t : Port) (byte : ℕ) → TakesByte (move a b) (move s t) (Ok byte) → most_input - b < most_input - a
-falls a b s t byte h = omega (arith, h.took.counted, h.took.within)
+pub may_act : (a b : ℕ) (s t : Port) (byte : ℕ) → TakesByte (move a b) (move s t) (Ok byte) → most_input - b < most_input - a
+may_act a b s t byte h = omega (arith, h.took.counted, h.took.within)
 
 -- the second digit doesn't come
 pub digit_halts : (a b c : ℕ) (s t u : Port) (high : ℕ) (why : NoByte) → TakesByte (move a b) (move s t) (Ok high) → TakesByte (move b c) (move t u) (Err why) → TakesDigits (move a c) (move s u) (Err why)

@@ -1,4 +1,5 @@
--- Bytes that stand for others, and the sum by which a packet is checked (GDB manual, appendix Remote Serial Protocol, section Overview).
+-- Bytes that stand for others, and the sum by which a packet is checked (GDB manual, appendix
+-- Remote Serial Protocol, section Overview).
 use Rattle.std.specs.Prelude.{ℕ, ◌+◌, ◌*◌, ◌-◌, ◌%◌, ◌^◌, List, [], ◌∷◌, ◌++◌, Bool, ◌&&◌, ◌||◌, ◌==◌, nat_le, sum, Option, None, Some, option_map, if◌then◌else◌}
 use Rattle.std.specs.Int.Bits.{bit_xor}
 use Rattle.std.specs.List.{flat_map}

@@ -1,4 +1,5 @@
--- What arrives from a debugger (GDB manual, appendix Remote Serial Protocol, sections Overview, Packet Acknowledgment and Interrupts).
+-- What arrives from a debugger (GDB manual, appendix Remote Serial Protocol, sections Overview,
+-- Packet Acknowledgment and Interrupts).
 use Rattle.std.specs.Prelude.{◌≡◌, ◌⊎◌, ℕ, ◌≤◌, List, [], ◌∷◌, ◌++◌, length, Bool, true, false, ◌||◌, ◌==◌, nat_lt, nat_eq, Option, None, Some, if◌then◌else◌}
 use Rattle.std.specs.List.{list_any}
 use Rattle.std.specs.Option.{option_map_or}
@@ -6,8 +7,8 @@ use Rattle.rept_remote.specs.Escapes.{checksum, digits_value, unescaped}
 use Rattle.rept_remote.specs.declared.arrival.Arrival.{Arrival}
 use Rattle.rept_remote.specs.declared.arrival.Arrival.TheVariants as arrival
 
--- what arrived: a packet with the bytes that it carries, one whose digits or pairs are wrong, one of too many bytes, a wish to have the last
--- reply again, or an interrupt
+-- what arrived: a packet with the bytes that it carries, one whose digits or pairs are wrong, one
+-- of too many bytes, a wish to have the last reply again, or an interrupt
 pub data Arrived : Type 0 where
   packet : List ℕ → Arrived
   broken : Arrived
@@ -23,7 +24,8 @@ arrived arrival.Large bytes = large
 arrived arrival.Again bytes = again
 arrived arrival.Interrupt bytes = interrupt
 
--- a byte between packets that asks for something: `$`, which begins a packet, `-`, and the byte of an interrupt
+-- a byte between packets that asks for something: `$`, which begins a packet, `-`, and the byte of
+-- an interrupt
 abbrev pub asks : ℕ → Bool
 asks byte = byte == 36 || byte == 45 || byte == 3
 
@@ -45,7 +47,8 @@ abbrev pub carried : Option (List ℕ) → Arrived
 carried None = broken
 carried (Some bytes) = packet bytes
 
--- what a packet brings by what stands between `$` and `#` and the two digits after it; one of more than 4096 bytes is large
+-- what a packet brings by what stands between `$` and `#` and the two digits after it; one of more
+-- than 4096 bytes is large
 abbrev pub brought : List ℕ → ℕ → ℕ → Arrived
 brought body high low = if is_checked body (digits_value high low) then (if nat_lt 4096 (length body) then large else carried (unescaped body)) else broken
 

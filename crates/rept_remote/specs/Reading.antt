@@ -1,4 +1,5 @@
--- What a call of the reader of packets does. It takes bytes one by one, at most 2^40 of them in all.
+-- What a call of the reader of packets does. It takes bytes one by one, at most 2^40 of them in
+-- all.
 use Rattle.std.specs.Prelude.{◌≡◌, ℕ, ◌+◌, ◌≤◌, ◌^◌, List, [], ◌∷◌, ◌++◌, length, false, Option, None, Some, Result, Ok, Err, MatchOption}
 use Rattle.std.specs.Io.KnownBytes.{Consumes, IsAtEnd}
 use Rattle.rept_ports.specs.Causes.{OneFault}
@@ -67,7 +68,8 @@ abbrev pub ComesNext : PacketReader → PacketReader → PortMove Port → Resul
 ComesNext old new source (Ok what) = (got : List ℕ) × Passed (taking (record { before = old.count; after = new.count }) source got) × Arrives got (arrived what new.carried) × (new.over ≡ None)
 ComesNext old new source (Err why) = (got : List ℕ) × Stops (taking (record { before = old.count; after = new.count }) source got) why × (new.over ≡ Some why)
 
--- what a call of the reader gives: the next arrival or why there is none; after a reason, the same one again, with nothing read
+-- what a call of the reader gives: the next arrival or why there is none; after a reason, the same
+-- one again, with nothing read
 abbrev pub ReadsNext : PacketReader → PacketReader → PortMove Port → Result Arrival Ending → Type 0
 ReadsNext old new source result =
     MatchOption old.over (ComesNext old new source result)

@@ -13,7 +13,8 @@ pub const MOST_BODY: usize = 4096;
 pub enum Arrival {
     /// A packet; the reader keeps the bytes that it carries.
     Packet,
-    /// A packet whose two digits aren't its sum, or which ends within a pair of bytes that stands for one.
+    /// A packet whose two digits aren't its sum, or which ends within a pair of bytes that stands
+    /// for one.
     Broken,
     /// A packet of more than 4096 bytes, which were passed over.
     Large,

@@ -6,11 +6,11 @@ ghost use Rattle.rept_remote.specs.Frames.{arrived, brought};
 ghost use Rattle.rept_remote.specs.Steps.{IsBody};
 
 use crate::arrival::Arrival;
-use crate::frame::{Body, Kept};
+use crate::frame::{Body, PacketBytes};
 use crate::unescape::unescape;
 
 /// What a packet of these bytes and digits brings. The bytes that it carries are then in `carried`.
-pub fn bring(kept: &Kept, told: Body, digits: (u8, u8), carried: &mut Kept) -> Arrival
+pub fn bring(kept: &PacketBytes, told: Body, digits: (u8, u8), carried: &mut PacketBytes) -> Arrival
     ensures { (body : List ℕ) → IsBody kept.now.items told body → arrived result carried.new.items ≡ brought body digits.0 digits.1 }
 {
     if digits_value(digits.0, digits.1) != Some(told.sum) {

@@ -9,8 +9,8 @@ use crate::bytes::{NoByte, take_byte};
 use arrayvec::ArrayVec;
 use rept_ports::Source;
 
-/// As many bytes as a packet may have between `$` and `#`.
-pub type Kept = ArrayVec<u8, 4096>;
+/// The bytes of a packet between `$` and `#`: 4,096 at most.
+pub type PacketBytes = ArrayVec<u8, 4096>;
 
 /// What is told of the bytes between `$` and `#` besides the bytes.
 #[derive(Clone, Copy)]
@@ -25,7 +25,7 @@ pub struct Body {
 pub fn take_body<S: Source>(
     count: &mut u64,
     source: &mut S,
-    kept: &mut Kept,
+    kept: &mut PacketBytes,
 ) -> Result<Body, NoByte>
     requires { count.old ≤ most_input }
     ensures { TakesBody (move count.old count.new) (move (S.port source.old) (S.port source.new)) kept.new.items result }
@@ -45,7 +45,7 @@ pub fn take_body<S: Source>(
 }
 
 /// One byte more.
-fn with_byte(kept: &mut Kept, told: Body, byte: u8) -> Body
+fn with_byte(kept: &mut PacketBytes, told: Body, byte: u8) -> Body
     ensures { (body : List ℕ) → byte ≢ 35 → IsBody kept.old.items told body → IsBody kept.new.items result (body ++ byte ∷ []) }
 {
     Body {

@@ -12,5 +12,5 @@ pub mod writer;
 
 pub use arrival::{Arrival, Ending};
 pub use check::digits_value;
-pub use reader::Packets;
+pub use reader::GdbPackets;
 pub use writer::push_packet;

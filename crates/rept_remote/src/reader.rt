@@ -8,7 +8,7 @@ ghost use Rattle.rept_remote.specs.Steps.{TakesArrival, TakesPacket, ending_of};
 use crate::arrival::{Arrival, Ending};
 use crate::bytes::{NoByte, take_call};
 use crate::check::bring;
-use crate::frame::{Kept, take_body, take_digits};
+use crate::frame::{PacketBytes, take_body, take_digits};
 use rept_ports::Source;
 use std::marker::Model;
 
@@ -16,14 +16,14 @@ use std::marker::Model;
 ///
 /// Between packets it passes over all bytes but `-` and that of an interrupt.
 #[derive(Drop)]
-pub struct Packets {
-    kept: Kept,
-    carried: Kept,
+pub struct GdbPackets {
+    kept: PacketBytes,
+    carried: PacketBytes,
     count: u64,
     over: Option<Ending>,
 }
 
-impl Model for Packets {
+impl Model for GdbPackets {
     ghost use Rattle.std.specs.Prelude.{◌≤◌};
     ghost use Rattle.rept_remote.specs.Reading.{PacketReader, most_input};
 
@@ -34,16 +34,16 @@ impl Model for Packets {
     ghost invariant = { λ s. s.count ≤ most_input };
 }
 
-impl Packets {
+impl GdbPackets {
     ghost use Rattle.rept_remote.specs.Reading.{ReadsNext};
 
     /// No byte was taken yet.
-    pub fn new() -> Packets
+    pub fn new() -> GdbPackets
         ensures { result ≡ record { carried = []; count = 0; over = None } }
     {
-        Packets {
-            kept: Kept::new(),
-            carried: Kept::new(),
+        GdbPackets {
+            kept: PacketBytes::new(),
+            carried: PacketBytes::new(),
             count: 0,
             over: None,
         }
@@ -56,11 +56,14 @@ impl Packets {
         self.carried.as_slice()
     }
 
-    /// Goes on to what arrives next. The bytes that a packet carries are `carried` then, up to the next call.
+    /// Goes on to what arrives next. The bytes that a packet carries are `carried` then, up to the
+    /// next call.
     ///
-    /// `AtEnd` comes exactly at the end of the input where no packet is open, and `InPacket` where one is. `ReadFault` comes only where the
-    /// source counted one fault in this call, and `TooMuchInput` where 1,099,511,627,776 bytes were taken and another one came; nothing
-    /// arrived in the bytes that were taken then. After a refusal each call answers the same again, and nothing is read.
+    /// `AtEnd` comes exactly at the end of the input where no packet is open, and `InPacket` where
+    /// one is. `ReadFault` comes only where the source counted one fault in this call, and
+    /// `TooMuchInput` where 1,099,511,627,776 bytes were taken and another one came; nothing
+    /// arrived in the bytes that were taken then. After a refusal each call answers the same again,
+    /// and nothing is read.
     pub fn next<S: Source>(&mut self, source: &mut S) -> Result<Arrival, Ending>
         ensures { ReadsNext self.old self.new (move (S.port source.old) (S.port source.new)) result }
     {
@@ -79,8 +82,8 @@ impl Packets {
 fn take_arrival<S: Source>(
     count: &mut u64,
     source: &mut S,
-    kept: &mut Kept,
-    carried: &mut Kept,
+    kept: &mut PacketBytes,
+    carried: &mut PacketBytes,
 ) -> Result<Arrival, Ending>
     requires { count.old ≤ most_input }
     ensures { TakesArrival (move count.old count.new) (move (S.port source.old) (S.port source.new)) carried.new.items result }
@@ -100,8 +103,8 @@ fn take_arrival<S: Source>(
 fn take_packet<S: Source>(
     count: &mut u64,
     source: &mut S,
-    kept: &mut Kept,
-    carried: &mut Kept,
+    kept: &mut PacketBytes,
+    carried: &mut PacketBytes,
 ) -> Result<Arrival, NoByte>
     requires { count.old ≤ most_input }
     ensures { TakesPacket (move count.old count.new) (move (S.port source.old) (S.port source.new)) carried.new.items result }

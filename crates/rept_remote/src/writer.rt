@@ -7,7 +7,8 @@ ghost use Rattle.rept_remote.specs.Frames.{CarriesBytes};
 use rept_word::{OutOfMemory, Text};
 use std::alloc::Global;
 
-/// Appends a packet that carries these bytes: a reader of packets reads them back. The only refusal is out of memory.
+/// Appends a packet that carries these bytes: a reader of packets reads them back. The only refusal
+/// is out of memory.
 pub fn push_packet(alloc: Global, text: &mut Text, reply: &[u8]) -> Result<(), OutOfMemory>
     ensures text { OnOk result (text.new ≡ text.old ++ packet_of reply.now) }
     ensures reads_back { OnOk result (CarriesBytes (packet_of reply.now) reply.now) }

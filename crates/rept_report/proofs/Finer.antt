@@ -20,14 +20,14 @@ use Rattle.rept_report.specs.Spots.{passage}
 use Rattle.rept_report.specs.Views.{point_of, bounds, register_range, seen_at, registers_at, touched_by, may_write, Carries}
 use Rattle.rept_report.specs.Conclusions.{HasWords, IsCarried, Follows, Concludes}
 use Rattle.rept_report.specs.Conclusions.IsCarried.{last_byte, onward, back}
-use Rattle.rept_report.specs.Conclusions.Follows.{last_value, kept_onward, kept_back, carried, drawn, only_value}
+use Rattle.rept_report.specs.Conclusions.Follows.{last_value, kept_onward, kept_back, carried, inferred, only_value}
 use Rattle.rept_report.specs.Conflicts.{IsQuiet}
 use Rattle.rept_report.specs.Closure.{Derivation, InClosure, IsReport}
 use Rattle.rept_report.specs.Log.{Entry, facts_of}
 use Rattle.rept_report.specs.Implied.{HasEnded, known_at_end}
 use Rattle.rept_report.proofs.Told.{none_some, told_in}
 use Rattle.rept_report.proofs.ViewLaws.{LiesIn, TablesMore, exact_cases, only_in, exact_bounds, wide_bounds, seen_more, known_word, seen_at_lawful, registers_at_lawful, point_early, register_range_is, register_range_past}
-use Rattle.rept_report.proofs.Monotony.{drawn_more, Concludes_more}
+use Rattle.rept_report.proofs.Monotony.{inferred_more, Concludes_more}
 use Rattle.rept_report.proofs.Registers.{quiet_same}
 use Rattle.rept_report.proofs.Traces.{words_of, trace_words}
 use Rattle.rept_report.proofs.Implied.{known_closed}
@@ -114,7 +114,7 @@ module _ {V W : Type 0} (S : Setting V) (o : Sets W) (m : Moves W) (laws : HasLa
             ]
 
     carries_finer : (a p q : ℕ) → a < 2 ^ 32 → Carries T K (passage a p q) → Carries S K (passage a p q)
-    carries_finer a p q small h = record { next = h.next; light = h.light; spared = λ i falls. spared_finer i a small (h.spared i falls) }
+    carries_finer a p q small h = record { next = h.next; light = h.light; spared = λ i may_act. spared_finer i a small (h.spared i may_act) }
 
     single_finer : (p r v : ℕ) (set : W) → p ≤ S.legs.count → r < 32 → range (way_of T) K p r ≡ Some set → o.as_exact set ≡ Some v → (set' : V) × (range (way_of S) K p r ≡ Some set') × (S.sets.as_exact set' ≡ Some v)
     single_finer p r v set early in_file is only = of_set (range (way_of S) K p r) (quiet.full p r early in_file) (within p r)
@@ -136,9 +136,9 @@ module _ {V W : Type 0} (S : Setting V) (o : Sets W) (m : Moves W) (laws : HasLa
     follows_finer f early cell (kept_onward i r row is p c kept e) = kept_onward i r row is p c kept e
     follows_finer f early cell (kept_back i r row is p c kept e) = kept_back i r row is p c kept e
     follows_finer f early cell (carried h) = carried (carried_finer f cell h)
-    follows_finer f early cell (drawn i row d is h p c v) =
+    follows_finer f early cell (inferred i row d is h p c v) =
         let inside = laws.legs.inside i row is in
-        drawn i row d is (drawn_more S.rules laws.rules row (seen_at T K i) (seen_at S K i) d (seen_at_lawful T K words i) (seen_at_lawful S K words i) (seen_finer i inside) h) p c v
+        inferred i row d is (inferred_more S.rules laws.rules row (seen_at T K i) (seen_at S K i) d (seen_at_lawful T K words i) (seen_at_lawful S K words i) (seen_finer i inside) h) p c v
     follows_finer f early cell (only_value r set c is only) =
         let named : (0 < r) × (r < 32) = subst IsCell c cell in
         let early' : f.point ≤ S.legs.count = subst (λ (x : Cell). IsInstant S x f.point) c early in

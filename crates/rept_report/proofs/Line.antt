@@ -1,5 +1,5 @@
--- Of one path of which each row is traced, the definitions for several threads say what was said of it. What was said is written down here
--- once more.
+-- Of one path of which each row is traced, the definitions for several threads say what was said of
+-- it. What was said is written down here once more.
 use Rattle.std.proofs.Common.{◌≡◌, ◌≢◌, ℕ, zero, suc, ◌+◌, ◌-◌, ◌<◌, ◌≤◌, ◌⊎◌, ◌&&◌, ◌||◌, Bool, true, false, not, eqb, ltb, leb, List, Option, Some, None, inl, inr, refl, sym, ap, subst, ◌∙◌, arith}
 use Rattle.std.specs.Option.{is_some}
 use Rattle.std.proofs.lemmas.Option.{slice_get_within, slice_get_cases}
@@ -11,8 +11,8 @@ use Rattle.rept_reason.specs.declared.fact.Cell.{Cell}
 use Rattle.rept_reason.specs.declared.fact.Cell.TheVariants.{Register, Byte}
 use Rattle.rept_reason.specs.Facts.{Knowledge, told}
 use Rattle.rept_span.specs.Moves.{Moves}
-use Rattle.rept_view.specs.declared.drawn.When.{When}
-use Rattle.rept_view.specs.declared.drawn.When.TheVariants.{Before, After}
+use Rattle.rept_view.specs.declared.inferred.When.{When}
+use Rattle.rept_view.specs.declared.inferred.When.TheVariants.{Before, After}
 use Rattle.rept_view.specs.Rules.{Rules}
 use Rattle.rept_report.specs.Moments.{Moments, points_of}
 use Rattle.rept_report.specs.Setting.{Setting, IsLast, IsInstant}
@@ -73,10 +73,10 @@ module _ {W : Type 0} (sets : Sets W) (moves : Moves W) (rules : Rules) (g : Giv
   pub carries_is_before : (K : Knowledge) (a p q : ℕ) → Carries S K (passage a p q) → CarriesBefore K a p q
   carries_is_before K a p q h =
       let e = next_at p q h.next in
-      record { inside = e.0; next = e.1; spared = h.spared p (subst (λ (t : Moments). t.falls p p q ≡ true) (sym line.moments) (eq-eqb p p refl)) }
+      record { inside = e.0; next = e.1; spared = h.spared p (subst (λ (t : Moments). t.may_act p p q ≡ true) (sym line.moments) (eq-eqb p p refl)) }
 
   pub before_carries : (K : Knowledge) (a p q : ℕ) → CarriesBefore K a p q → Carries S K (passage a p q)
-  before_carries K a p q h = rw h.next (record { next = at_next p h.inside; light = ap (λ (t : Moments). t.dark p (p + 1)) line.moments; spared = λ i falls. let same = eqb-true i p (subst (λ (t : Moments). t.falls i p (p + 1) ≡ true) line.moments falls) in rw same h.spared })
+  before_carries K a p q h = rw h.next (record { next = at_next p h.inside; light = ap (λ (t : Moments). t.untraced p (p + 1)) line.moments; spared = λ i may_act. let same = eqb-true i p (subst (λ (t : Moments). t.may_act i p (p + 1) ≡ true) line.moments may_act) in rw same h.spared })
 
   -- the last point is the one after all rows
   pub last_is : (p : ℕ) → IsLast S p → p ≡ n
@@ -123,7 +123,7 @@ module _ {W : Type 0} (sets : Sets W) (moves : Moves W) (rules : Rules) (g : Giv
           later = subst (λ (t : Moments). t.later j k ≡ true) (sym line.moments) (lt-ltb k j before);
           apart = subst (λ (t : Moments). t.later k j ≡ false) (sym line.moments) (le-ltb j k (omega arith));
         };
-    dark = λ e. absurd (false≢true (subst (λ (t : Moments). t.is_dark ≡ true) line.moments e));
+    untraced = λ e. absurd (false≢true (subst (λ (t : Moments). t.is_untraced ≡ true) line.moments e));
   }
     where
       past_false : (k : ℕ) → k < p → leb p k ≡ false
@@ -178,7 +178,7 @@ module _ {W : Type 0} (sets : Sets W) (moves : Moves W) (rules : Rules) (g : Giv
 
   -- an implied byte is one that no row from the point on may write
   pub settled_is : (K : Knowledge) (p a : ℕ) → is_settled S K (spot p a) ≡ true → (i : ℕ) → p ≤ i → i < n → may_write S K i a ≡ false
-  settled_is K p a e i from to = go n (subst (λ (t : Moments). all_past t (may_write S K) (spot p a) n ≡ true) line.moments (and_parts (S.moments.dark_past p) (all_past S.moments (may_write S K) (spot p a) n) e).1) i from to
+  settled_is K p a e i from to = go n (subst (λ (t : Moments). all_past t (may_write S K) (spot p a) n ≡ true) line.moments (and_parts (S.moments.untraced_past p) (all_past S.moments (may_write S K) (spot p a) n) e).1) i from to
     where
       go : (k : ℕ) → all_past (points_of n) (may_write S K) (spot p a) k ≡ true → (i : ℕ) → p ≤ i → i < k → may_write S K i a ≡ false
       go zero e i from to = absurd (omega arith)
@@ -199,7 +199,7 @@ module _ {W : Type 0} (sets : Sets W) (moves : Moves W) (rules : Rules) (g : Giv
           either false false e h = absurd (false≢true h)
 
   pub is_settled_from : (K : Knowledge) (p a : ℕ) → ((i : ℕ) → p ≤ i → i < n → may_write S K i a ≡ false) → is_settled S K (spot p a) ≡ true
-  is_settled_from K p a h = and_from (S.moments.dark_past p) (all_past S.moments (may_write S K) (spot p a) n) (ap (λ (t : Moments). t.dark_past p) line.moments) (subst (λ (t : Moments). all_past t (may_write S K) (spot p a) n ≡ true) (sym line.moments) (go n (λ i from to. h i from to)))
+  is_settled_from K p a h = and_from (S.moments.untraced_past p) (all_past S.moments (may_write S K) (spot p a) n) (ap (λ (t : Moments). t.untraced_past p) line.moments) (subst (λ (t : Moments). all_past t (may_write S K) (spot p a) n ≡ true) (sym line.moments) (go n (λ i from to. h i from to)))
     where
       either : (x c : Bool) → (x ≡ false → c ≡ false) → (x || not c) ≡ true
       either true c e = refl

@@ -1,5 +1,6 @@
--- What is given of a run, whatever the sets of values and the rules by which it is read: the rows of all threads by number, and where
--- each thread ends; the moments of the memory; the last values of registers; and the dump. This project's own.
+-- What is given of a run, whatever the sets of values and the rules by which it is read: the rows
+-- of all threads by number, and where each thread ends; the moments of the memory; the last values
+-- of registers; and the dump. This project's own.
 use Rattle.std.specs.Prelude.{ℕ, List, Option}
 use Rattle.rept_partial.specs.Sets.{Sets}
 use Rattle.rept_span.specs.Moves.{Moves}

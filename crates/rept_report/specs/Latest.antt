@@ -1,4 +1,5 @@
--- Which of some rows is the last one, where a row may lie wholly before or after another one. This project's own.
+-- Which of some rows is the last one, where a row may lie wholly before or after another one. This
+-- project's own.
 use Rattle.std.specs.Prelude.{◌≡◌, ℕ, true, false}
 use Rattle.rept_report.specs.Moments.{Moments}
 
@@ -11,9 +12,9 @@ pub record IsEarlierRow (moments : Moments) (i j : ℕ) : Type 0 where
 pub record IsLatest (moments : Moments) (Is : ℕ → Type 0) (j : ℕ) : Type 0 where
   pub one : Is j
   pub after : (k : ℕ) → Is k → (k ≡ j → ⊥) → IsEarlierRow moments k j
-  pub dark : moments.is_dark ≡ true → moments.dark_before j ≡ true
+  pub untraced : moments.is_untraced ≡ true → moments.untraced_before j ≡ true
 
 -- there is none of them, and each writer is traced
 pub record HasNone (moments : Moments) (Is : ℕ → Type 0) : Type 0 where
   pub rows : (k : ℕ) → Is k → ⊥
-  pub light : moments.is_dark ≡ false
+  pub light : moments.is_untraced ≡ false

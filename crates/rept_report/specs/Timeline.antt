@@ -1,10 +1,11 @@
--- The rows of all threads by the points that they lead from, and the moments of their memory by numbers. This project's own.
+-- The rows of all threads by the points that they lead from, and the moments of their memory by
+-- numbers. This project's own.
 use Rattle.std.specs.Prelude.{◌≡◌, ◌≢◌, ℕ, ◌+◌, ◌≤◌, ◌<◌, true, false, List, length, Option, Some, None}
 use Rattle.std.specs.Option.{IsSome}
 use Rattle.rept_isa.specs.declared.row.StepRow.{StepRow}
 use Rattle.rept_span.specs.Ranges.{Legs, AreLegs, legs_of}
 use Rattle.rept_report.specs.Moments.{Moments, AreMoments, points_of}
-use Rattle.rept_report.specs.declared.paths.Line.{Line}
+use Rattle.rept_report.specs.declared.paths.NumberChain.{NumberChain}
 use Rattle.rept_report.specs.declared.paths.Strip.{Strip}
 
 pub record Timeline : Type 0 where
@@ -40,10 +41,10 @@ abbrev pub IsFormerFrom : Moments → ℕ → ℕ → Option ℕ → Type 0
 IsFormerFrom moments w least None = (m : ℕ) → least ≤ m → moments.next m w ≡ false
 IsFormerFrom moments w least (Some m) = (moments.next m w ≡ true) × (least ≤ m) × ((v : ℕ) → least ≤ v → v < m → moments.next v w ≡ false)
 
--- the least row from one on that falls between two moments, or that there is none
-abbrev pub IsFallingFrom : Timeline → ℕ → ℕ → ℕ → Option ℕ → Type 0
-IsFallingFrom t m w least None = (i : ℕ) → least ≤ i → i < t.legs.count → t.moments.falls i m w ≡ false
-IsFallingFrom t m w least (Some i) = (i < t.legs.count) × (t.moments.falls i m w ≡ true) × (least ≤ i) × ((j : ℕ) → least ≤ j → j < i → t.moments.falls j m w ≡ false)
+-- the least row from one on that may act between two moments, or that there is none
+abbrev pub IsActingFrom : Timeline → ℕ → ℕ → ℕ → Option ℕ → Type 0
+IsActingFrom t m w least None = (i : ℕ) → least ≤ i → i < t.legs.count → t.moments.may_act i m w ≡ false
+IsActingFrom t m w least (Some i) = (i < t.legs.count) × (t.moments.may_act i m w ≡ true) × (least ≤ i) × ((j : ℕ) → least ≤ j → j < i → t.moments.may_act j m w ≡ false)
 
 -- the least number from one on of which something holds, or that there is none
 abbrev pub IsLeastFrom : (ℕ → Type 0) → ℕ → Option ℕ → Type 0
@@ -101,8 +102,9 @@ pub record IsJoined (moments : Moments) (k : ℕ) : Type 0 where
   pub next : moments.next k (k + 1) ≡ true
   pub only : (w : ℕ) → moments.next k w ≡ true → w ≡ k + 1
 
--- numbers one after the other, each joined to the one after it: the first isn't joined to the one before it, nor the last to the one after it
-pub record IsLine (moments : Moments) (m : ℕ) (line : Line) : Type 0 where
+-- numbers one after the other, each joined to the one after it: the first isn't joined to the one
+-- before it, nor the last to the one after it
+pub record IsLine (moments : Moments) (m : ℕ) (line : NumberChain) : Type 0 where
   pub from : line.first ≤ m
   pub to : m ≤ line.last
   pub inside : line.last ≤ moments.end
@@ -110,39 +112,44 @@ pub record IsLine (moments : Moments) (m : ℕ) (line : Line) : Type 0 where
   pub begins : (k : ℕ) → k + 1 ≡ line.first → IsJoined moments k → ⊥
   pub ends : IsJoined moments line.last → ⊥
 
--- between a number and the one after it no row falls but one before which the number lies, and no writer that isn't told
+-- between a number and the one after it no row may act but one before which the number lies, and no
+-- writer that isn't told
 pub record IsClear (t : Timeline) (k : ℕ) : Type 0 where
-  pub light : t.moments.dark k (k + 1) ≡ false
-  pub own : (i : ℕ) → t.moments.falls i k (k + 1) ≡ true → t.moments.before i ≡ k
+  pub light : t.moments.untraced k (k + 1) ≡ false
+  pub own : (i : ℕ) → t.moments.may_act i k (k + 1) ≡ true → t.moments.before i ≡ k
 
--- what falls between a number and the one after it, but for a row before which the number lies, falls between another number and the one after that
+-- what may act between a number and the one after it, but for a row before which the number lies,
+-- may act between another number and the one after that
 pub record IsLike (t : Timeline) (k p : ℕ) : Type 0 where
-  pub dark : t.moments.dark k (k + 1) ≡ true → t.moments.dark p (p + 1) ≡ true
-  pub others : (i : ℕ) → t.moments.falls i k (k + 1) ≡ true → t.moments.before i ≢ k → t.moments.falls i p (p + 1) ≡ true
+  pub untraced : t.moments.untraced k (k + 1) ≡ true → t.moments.untraced p (p + 1) ≡ true
+  pub others : (i : ℕ) → t.moments.may_act i k (k + 1) ≡ true → t.moments.before i ≢ k → t.moments.may_act i p (p + 1) ≡ true
 
 -- so it is with the pause, if there is one
 abbrev pub IsAlike : Timeline → Option ℕ → ℕ → Type 0
 IsAlike t None k = IsClear t k
 IsAlike t (Some p) k = IsLike t k p
 
--- all that falls between a number and the one after it falls between another number and the one after that
-pub record FallsToo (t : Timeline) (k p : ℕ) : Type 0 where
-  pub dark : t.moments.dark k (k + 1) ≡ true → t.moments.dark p (p + 1) ≡ true
-  pub rows : (i : ℕ) → t.moments.falls i k (k + 1) ≡ true → t.moments.falls i p (p + 1) ≡ true
+-- all that may act between a number and the one after it may act between another number and the one
+-- after that
+pub record MayActToo (t : Timeline) (k p : ℕ) : Type 0 where
+  pub untraced : t.moments.untraced k (k + 1) ≡ true → t.moments.untraced p (p + 1) ≡ true
+  pub rows : (i : ℕ) → t.moments.may_act i k (k + 1) ≡ true → t.moments.may_act i p (p + 1) ≡ true
 
--- something that falls at the pause doesn't fall between the number and the one after it
+-- something that may act at the pause can't act between the number and the one after it
 abbrev pub IsCut : Timeline → Option ℕ → ℕ → Type 0
 IsCut t None k = ⊥
-IsCut t (Some p) k = FallsToo t p k → ⊥
+IsCut t (Some p) k = MayActToo t p k → ⊥
 
--- a number of a strip, between which and the one after it more falls than a row before which it lies
+-- a number of a strip, between which and the one after it more may act than a row before which it
+-- lies
 pub record IsPause (t : Timeline) (strip : Strip) (p : ℕ) : Type 0 where
   pub from : strip.first ≤ p
   pub to : p < strip.last
   pub crossed : IsClear t p → ⊥
 
--- numbers one after the other, each joined to the one after it, between which the same falls. They end where the last one isn't joined to the one after it, or
--- where something doesn't fall any more.
+-- numbers one after the other, each joined to the one after it, between which the same may act.
+-- They end where the last one isn't joined to the one after it, or where something can't act any
+-- more.
 pub record IsStrip (t : Timeline) (m : ℕ) (strip : Strip) : Type 0 where
   pub from : strip.first ≤ m
   pub to : m ≤ strip.last

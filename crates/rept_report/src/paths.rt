@@ -1,34 +1,37 @@
 //! The rows of all threads, and the moments of their memory, by numbers.
 
 ghost use Rattle.std.specs.Prelude.{◌≡◌, ◌≤◌, ◌<◌, true, IsSome};
-ghost use Rattle.rept_report.specs.Timeline.{Timeline, IsTimeline, moment_in, IsNextFrom, IsFormerFrom, IsFallingFrom, IsLeastFrom, IsGreatestTo, IsLastFrom, IsRowAt, IsRowTo, IsRowBetween, IsOpen, IsBegun, IsClose, IsLine, IsStrip};
+ghost use Rattle.rept_report.specs.Timeline.{Timeline, IsTimeline, moment_in, IsNextFrom, IsFormerFrom, IsActingFrom, IsLeastFrom, IsGreatestTo, IsLastFrom, IsRowAt, IsRowTo, IsRowBetween, IsOpen, IsBegun, IsClose, IsLine, IsStrip};
 
 use rept_isa::StepRow;
 
-/// Numbers of moments one after the other, of which each but the last has the one after it next to it, and no other: from it a byte is carried on
-/// there alone. This project's own.
+/// Numbers of moments one after the other, of which each but the last has the one after it next to
+/// it, and no other: from it a byte is carried on there alone. This project's own.
 #[derive(Clone, Copy)]
-pub struct Line {
+pub struct NumberChain {
     /// The first number.
     pub first: u32,
     /// The last number.
     pub last: u32,
 }
 
-/// Numbers of a line one after the other, between which the same falls: between each and the one after it the row before which it lies alone, or what
-/// falls at the pause, if there is one. So it is decided once for all of them whether another row may write a byte. This project's own.
+/// Numbers of a line one after the other, between which the same may act: between each and the one
+/// after it the row before which it lies alone, or what may act at the pause, if there is one. So
+/// it is decided once for all of them whether another row may write a byte. This project's own.
 #[derive(Clone, Copy)]
 pub struct Strip {
     /// The first number.
     pub first: u32,
     /// The last number.
     pub last: u32,
-    /// The number at which all falls that does at another one, but for the rows before which these lie.
+    /// The number at which all may act that does at another one, but for the rows before which
+    /// these lie.
     pub pause: Option<u32>,
 }
 
-/// The rows of all threads, by the points that they lead from: none leads from the last point of a thread. And the moments of their memory, by
-/// numbers: the end has the greatest one. `timeline` names all of it as functions.
+/// The rows of all threads, by the points that they lead from: none leads from the last point of a
+/// thread. And the moments of their memory, by numbers: the end has the greatest one. `timeline`
+/// names all of it as functions.
 pub trait Paths {
     ghost timeline: { Self → Timeline };
 
@@ -54,12 +57,14 @@ pub trait Paths {
         requires { IsSome ((timeline self.now).legs.row row) }
         ensures { result ≡ (timeline self.now).moments.after row };
 
-    /// The number of a point's moment: the one before its row, or the end where no row leads from it.
+    /// The number of a point's moment: the one before its row, or the end where no row leads from
+    /// it.
     fn moment_at(&self, point: u32) -> u32
         requires { point ≤ (timeline self.now).legs.count }
         ensures { result ≡ moment_in (timeline self.now) point };
 
-    /// The least point from `least` on that is the last one of its thread, if there is one: no row leads from it.
+    /// The least point from `least` on that is the last one of its thread, if there is one: no row
+    /// leads from it.
     fn next_last(&self, least: u32) -> Option<u32>
         ensures { IsLastFrom (timeline self.now).legs least result };
 
@@ -71,12 +76,14 @@ pub trait Paths {
     fn row_to(&self, number: u32, least: u32) -> Option<u32>
         ensures { IsLeastFrom (IsRowTo (timeline self.now) number) least result };
 
-    /// The numbers around one, one after the other, of which each but the last has the one after it next to it, and no other.
-    fn line_of(&self, number: u32) -> Line
+    /// The numbers around one, one after the other, of which each but the last has the one after it
+    /// next to it, and no other.
+    fn line_of(&self, number: u32) -> NumberChain
         requires { number ≤ (timeline self.now).moments.end }
         ensures { IsLine (timeline self.now).moments number result };
 
-    /// The numbers around one, one after the other, between which the same falls, as far as they go on from the first.
+    /// The numbers around one, one after the other, between which the same may act, as far as they
+    /// go on from the first.
     fn strip_of(&self, number: u32) -> Strip
         requires { number ≤ (timeline self.now).moments.end }
         ensures { IsStrip (timeline self.now) number result };
@@ -91,15 +98,15 @@ pub trait Paths {
         requires { number ≤ (timeline self.now).moments.end }
         ensures { IsFormerFrom (timeline self.now).moments number least result };
 
-    /// The least row from `least` on that falls between a number and one that is next to it.
-    fn falling_from(&self, number: u32, next: u32, least: u32) -> Option<u32>
+    /// The least row from `least` on that may act between a number and one that is next to it.
+    fn acting_from(&self, number: u32, next: u32, least: u32) -> Option<u32>
         requires { (timeline self.now).moments.next number next ≡ true }
-        ensures { IsFallingFrom (timeline self.now) number next least result };
+        ensures { IsActingFrom (timeline self.now) number next least result };
 
-    /// Whether writers that aren't told fall between a number and one that is next to it.
-    fn is_dark_between(&self, number: u32, next: u32) -> bool
+    /// Whether writers that aren't told may act between a number and one that is next to it.
+    fn is_untraced_between(&self, number: u32, next: u32) -> bool
         requires { (timeline self.now).moments.next number next ≡ true }
-        ensures { result ≡ (timeline self.now).moments.dark number next };
+        ensures { result ≡ (timeline self.now).moments.untraced number next };
 
     /// The least row from `least` on that doesn't lie wholly before a moment.
     fn open_from(&self, number: u32, least: u32) -> Option<u32>
@@ -132,17 +139,17 @@ pub trait Paths {
         ensures { result ≡ (timeline self.now).moments.later row other };
 
     /// Whether there are writers that aren't told.
-    fn is_dark(&self) -> bool
-        ensures { result ≡ (timeline self.now).moments.is_dark };
+    fn is_untraced(&self) -> bool
+        ensures { result ≡ (timeline self.now).moments.is_untraced };
 
     /// Whether they lie wholly before the moment.
-    fn is_dark_past(&self, number: u32) -> bool
-        ensures { result ≡ (timeline self.now).moments.dark_past number };
+    fn is_untraced_past(&self, number: u32) -> bool
+        ensures { result ≡ (timeline self.now).moments.untraced_past number };
 
     /// Whether they lie wholly before the row.
-    fn is_dark_before(&self, row: u32) -> bool
+    fn is_untraced_before(&self, row: u32) -> bool
         requires { IsSome ((timeline self.now).legs.row row) }
-        ensures { result ≡ (timeline self.now).moments.dark_before row };
+        ensures { result ≡ (timeline self.now).moments.untraced_before row };
 
     ghost lawful: { (p : Self) → IsTimeline (timeline p) };
 }
@@ -169,7 +176,8 @@ pub fn greatest_below(count: u32, high: u32, most: u32) -> Option<u32>
     }
 }
 
-/// The row that one moment lies before and another one after, if there is one. There is no second one.
+/// The row that one moment lies before and another one after, if there is one. There is no second
+/// one.
 pub fn row_between<P: Paths>(paths: &P, number: u32, next: u32) -> Option<u32>
     ensures { IsRowBetween (P.timeline paths.now) number next result }
 {

@@ -1,5 +1,6 @@
--- The thread that a packet names (GDB manual, appendix Remote Serial Protocol, sections Packets and vCont). A number of a thread is written in
--- hexadecimal digits, without one of a process before it.
+-- The thread that a packet names (GDB manual, appendix Remote Serial Protocol, sections Packets and
+-- vCont). A number of a thread is written in hexadecimal digits, without one of a process before
+-- it.
 use Rattle.std.specs.Prelude.{ℕ, ◌+◌, List, drop, take, Bool, ◌==◌, Option, None, Some, codes, if◌then◌else◌}
 use Rattle.std.specs.List.{position}
 use Rattle.std.specs.Str.{bytes_eq}
@@ -46,7 +47,8 @@ action_thread action = named_after action (position is_colon action)
 abbrev pub before_colon : List ℕ → List ℕ
 before_colon action = up_to action (position is_colon action)
 
--- the two numbers of the first action after `vCont;`, which stand after the letter that says which one it is
+-- the two numbers of the first action after `vCont;`, which stand after the letter that says which
+-- one it is
 abbrev pub acted_range : List ℕ → Option (ℕ × ℕ)
 acted_range packet = pair_of (before_colon (first_action (drop 7 packet)))
 

@@ -1,5 +1,6 @@
--- Numbers and texts in packets: hexadecimal digits, the highest first, and bytes as pairs of digits (GDB manual, appendix Remote Serial Protocol,
--- section Overview). A number has at most eight digits here, as addresses of 32 bits have.
+-- Numbers and texts in packets: hexadecimal digits, the highest first, and bytes as pairs of digits
+-- (GDB manual, appendix Remote Serial Protocol, section Overview). A number has at most eight
+-- digits here, as addresses of 32 bits have.
 use Rattle.std.specs.Prelude.{ℕ, ◌+◌, List, drop, take, Bool, ◌==◌, Option, None, Some}
 use Rattle.std.specs.List.{position}
 use Rattle.rept_number.specs.Numbers.{hexadecimal_of}

@@ -8,4 +8,4 @@ mod parser;
 pub mod request;
 
 pub use parser::parse;
-pub use request::{CodeRange, Request, ThreadName, WatchKind, Way};
+pub use request::{CodeRange, GdbRequest, Movement, ThreadName, WatchKind};

@@ -4,135 +4,135 @@ ghost use Rattle.std.specs.Prelude.{◌≡◌};
 ghost use Rattle.rept_request.specs.Requests.{acted, acted_within, change_begun, move_begun, move_named, query_begun, query_named, thread_begun};
 
 use crate::names::{acted_range, acted_thread, thread_after};
-use crate::request::{CodeRange, Request, ThreadName, Way};
+use crate::request::{CodeRange, GdbRequest, Movement, ThreadName};
 use rept_number::is_word;
 
 /// Packets that move.
-pub fn move_named(packet: &[u8]) -> Option<Request>
+pub fn move_named(packet: &[u8]) -> Option<GdbRequest>
     ensures { result ≡ move_named packet.now }
 {
     if is_word(packet, b"s") {
-        Some(Request::Move(Way::Step, ThreadName::Selected))
+        Some(GdbRequest::Move(Movement::Step, ThreadName::Selected))
     } else if is_word(packet, b"c") {
-        Some(Request::Move(Way::Continue, ThreadName::Selected))
+        Some(GdbRequest::Move(Movement::Continue, ThreadName::Selected))
     } else if is_word(packet, b"bs") {
-        Some(Request::Move(Way::StepBack, ThreadName::Selected))
+        Some(GdbRequest::Move(Movement::StepBack, ThreadName::Selected))
     } else if is_word(packet, b"bc") {
-        Some(Request::Move(Way::ContinueBack, ThreadName::Selected))
+        Some(GdbRequest::Move(Movement::ContinueBack, ThreadName::Selected))
     } else if is_word(packet, b"D") {
-        Some(Request::Detach)
+        Some(GdbRequest::Detach)
     } else if is_word(packet, b"k") {
-        Some(Request::Kill)
+        Some(GdbRequest::Kill)
     } else {
         None
     }
 }
 
 /// Packets that ask for something of what stands there.
-pub fn query_named(packet: &[u8]) -> Option<Request>
+pub fn query_named(packet: &[u8]) -> Option<GdbRequest>
     ensures { result ≡ query_named packet.now }
 {
     if is_word(packet, b"?") {
-        Some(Request::Reason)
+        Some(GdbRequest::Reason)
     } else if is_word(packet, b"g") {
-        Some(Request::Registers)
+        Some(GdbRequest::Registers)
     } else if is_word(packet, b"qC") {
-        Some(Request::Thread)
+        Some(GdbRequest::Thread)
     } else if is_word(packet, b"qfThreadInfo") {
-        Some(Request::Threads)
+        Some(GdbRequest::Threads)
     } else if is_word(packet, b"qsThreadInfo") {
-        Some(Request::MoreThreads)
+        Some(GdbRequest::MoreThreads)
     } else if is_word(packet, b"QStartNoAckMode") {
-        Some(Request::NoAcknowledgments)
+        Some(GdbRequest::NoAcknowledgments)
     } else if is_word(packet, b"vCont?") {
-        Some(Request::Moves)
+        Some(GdbRequest::Moves)
     } else {
         None
     }
 }
 
 /// A move that `vCont;` asks for.
-fn acted(packet: &[u8], way: Way) -> Request
+fn acted(packet: &[u8], way: Movement) -> GdbRequest
     ensures { result ≡ acted packet.now way }
 {
-    Request::Move(way, acted_thread(packet))
+    GdbRequest::Move(way, acted_thread(packet))
 }
 
 /// A move out of the range that `vCont;r` names.
-fn acted_within(packet: &[u8]) -> Request
+fn acted_within(packet: &[u8]) -> GdbRequest
     ensures { result ≡ acted_within packet.now }
 {
     match acted_range(packet) {
-        Some((first, end)) => acted(packet, Way::StepWithin(CodeRange { first, end })),
-        None => Request::Unknown,
+        Some((first, end)) => acted(packet, Movement::StepWithin(CodeRange { first, end })),
+        None => GdbRequest::Unknown,
     }
 }
 
 /// Packets that move, by how they begin.
-pub fn move_begun(packet: &[u8]) -> Option<Request>
+pub fn move_begun(packet: &[u8]) -> Option<GdbRequest>
     ensures { result ≡ move_begun packet.now }
 {
     if packet.starts_with(b"vCont;s") {
-        Some(acted(packet, Way::Step))
+        Some(acted(packet, Movement::Step))
     } else if packet.starts_with(b"vCont;S") {
-        Some(acted(packet, Way::Step))
+        Some(acted(packet, Movement::Step))
     } else if packet.starts_with(b"vCont;r") {
         Some(acted_within(packet))
     } else if packet.starts_with(b"vCont;c") {
-        Some(acted(packet, Way::Continue))
+        Some(acted(packet, Movement::Continue))
     } else if packet.starts_with(b"vCont;C") {
-        Some(acted(packet, Way::Continue))
+        Some(acted(packet, Movement::Continue))
     } else {
         None
     }
 }
 
 /// Packets that ask, by how they begin.
-pub fn query_begun(packet: &[u8]) -> Option<Request>
+pub fn query_begun(packet: &[u8]) -> Option<GdbRequest>
     ensures { result ≡ query_begun packet.now }
 {
     if packet.starts_with(b"qSupported") {
-        Some(Request::Features)
+        Some(GdbRequest::Features)
     } else if packet.starts_with(b"qAttached") {
-        Some(Request::Attached)
+        Some(GdbRequest::Attached)
     } else if packet.starts_with(b"qThreadExtraInfo,") {
-        Some(Request::ThreadText(thread_after(17, packet)))
+        Some(GdbRequest::ThreadText(thread_after(17, packet)))
     } else if packet.starts_with(b"qRcmd,") {
-        Some(Request::Monitor)
+        Some(GdbRequest::Monitor)
     } else {
         None
     }
 }
 
 /// Packets that name a thread, by how they begin.
-pub fn thread_begun(packet: &[u8]) -> Option<Request>
+pub fn thread_begun(packet: &[u8]) -> Option<GdbRequest>
     ensures { result ≡ thread_begun packet.now }
 {
     if packet.starts_with(b"Hg") {
-        Some(Request::SelectThread(thread_after(2, packet)))
+        Some(GdbRequest::SelectThread(thread_after(2, packet)))
     } else if packet.starts_with(b"Hc") {
-        Some(Request::SelectMoving(thread_after(2, packet)))
+        Some(GdbRequest::SelectMoving(thread_after(2, packet)))
     } else if packet.starts_with(b"H") {
-        Some(Request::SelectThread(ThreadName::Unreadable))
+        Some(GdbRequest::SelectThread(ThreadName::Unreadable))
     } else if packet.starts_with(b"T") {
-        Some(Request::IsAlive(thread_after(1, packet)))
+        Some(GdbRequest::IsAlive(thread_after(1, packet)))
     } else {
         None
     }
 }
 
 /// Packets that change, by how they begin.
-pub fn change_begun(packet: &[u8]) -> Option<Request>
+pub fn change_begun(packet: &[u8]) -> Option<GdbRequest>
     ensures { result ≡ change_begun packet.now }
 {
     if packet.starts_with(b"G") {
-        Some(Request::Change)
+        Some(GdbRequest::Change)
     } else if packet.starts_with(b"P") {
-        Some(Request::Change)
+        Some(GdbRequest::Change)
     } else if packet.starts_with(b"M") {
-        Some(Request::Change)
+        Some(GdbRequest::Change)
     } else if packet.starts_with(b"X") {
-        Some(Request::Change)
+        Some(GdbRequest::Change)
     } else {
         None
     }

@@ -7,11 +7,11 @@ ghost use Rattle.rept_request.specs.Requests.{is_part, lettered, named, numbered
 
 use crate::named::{change_begun, move_begun, move_named, query_begun, query_named, thread_begun};
 use crate::numbers::pair_of;
-use crate::request::{Request, WatchKind};
+use crate::request::{GdbRequest, WatchKind};
 use rept_number::hexadecimal;
 
 /// What a packet asks for. Each packet asks for something; what isn't known is `Unknown`.
-pub fn parse(packet: &[u8]) -> Request
+pub fn parse(packet: &[u8]) -> GdbRequest
     ensures { result ≡ request_of packet.now }
 {
     match named(packet) {
@@ -21,7 +21,7 @@ pub fn parse(packet: &[u8]) -> Request
 }
 
 /// A packet that is known by a word.
-fn named(packet: &[u8]) -> Option<Request>
+fn named(packet: &[u8]) -> Option<GdbRequest>
     ensures { result ≡ named packet.now }
 {
     if let Some(request) = move_named(packet) {
@@ -43,7 +43,7 @@ fn named(packet: &[u8]) -> Option<Request>
 }
 
 /// A packet with numbers in it, or one that asks for a part of the description.
-fn numbered_or_part(packet: &[u8]) -> Request
+fn numbered_or_part(packet: &[u8]) -> GdbRequest
     ensures { result ≡ numbered_or_part packet.now }
 {
     if is_part(packet) {
@@ -62,97 +62,101 @@ fn is_part(packet: &[u8]) -> bool
     packet.starts_with(b"qXfer:features:read:target.xml:")
 }
 
-fn part_of(rest: &[u8]) -> Request
-    ensures { result ≡ with_pair Request.Description (pair_of rest.now) }
+fn part_of(rest: &[u8]) -> GdbRequest
+    ensures { result ≡ with_pair GdbRequest.Description (pair_of rest.now) }
 {
     match pair_of(rest) {
-        Some((offset, length)) => Request::Description(offset, length),
-        None => Request::Unknown,
+        Some((offset, length)) => GdbRequest::Description(offset, length),
+        None => GdbRequest::Unknown,
     }
 }
 
-fn lettered(packet: &[u8]) -> Request
+fn lettered(packet: &[u8]) -> GdbRequest
     ensures { result ≡ lettered packet.now }
 {
     match packet.split_first() {
         Some((letter, rest)) => numbered(*letter, rest),
-        None => Request::Unknown,
+        None => GdbRequest::Unknown,
     }
 }
 
 /// A packet with numbers in it, by its first byte.
-fn numbered(letter: u8, rest: &[u8]) -> Request
+fn numbered(letter: u8, rest: &[u8]) -> GdbRequest
     ensures { result ≡ numbered letter rest.now }
 {
     match letter {
         b'p' => register_of(rest),
         b'm' => match pair_of(rest) {
-            Some((address, length)) => Request::Memory(address, length),
-            None => Request::Unknown,
+            Some((address, length)) => GdbRequest::Memory(address, length),
+            None => GdbRequest::Unknown,
         },
         b'x' => match pair_of(rest) {
-            Some((address, length)) => Request::Bytes(address, length),
-            None => Request::Unknown,
+            Some((address, length)) => GdbRequest::Bytes(address, length),
+            None => GdbRequest::Unknown,
         },
         b'Z' => spot_set(rest),
         b'z' => spot_taken(rest),
-        _ => Request::Unknown,
+        _ => GdbRequest::Unknown,
     }
 }
 
-fn register_of(rest: &[u8]) -> Request
-    ensures { result ≡ with_number Request.Register (hexadecimal_of rest.now) }
+fn register_of(rest: &[u8]) -> GdbRequest
+    ensures { result ≡ with_number GdbRequest.Register (hexadecimal_of rest.now) }
 {
     match hexadecimal(rest) {
-        Some(number) => Request::Register(number),
-        None => Request::Unknown,
+        Some(number) => GdbRequest::Register(number),
+        None => GdbRequest::Unknown,
     }
 }
 
 /// What is set, by what comes after `Z`.
-fn spot_set(rest: &[u8]) -> Request
-    ensures { result ≡ with_spot Request.Break Request.Watch rest.now }
+fn spot_set(rest: &[u8]) -> GdbRequest
+    ensures { result ≡ with_spot GdbRequest.Break GdbRequest.Watch rest.now }
 {
     match spot_of(rest) {
-        Some(Spot::Code(address)) => Request::Break(address),
-        Some(Spot::Bytes(kind, address, length)) => Request::Watch(kind, address, length),
-        None => Request::Unknown,
+        Some(BreakOrWatch::Code(address)) => GdbRequest::Break(address),
+        Some(BreakOrWatch::Bytes(kind, address, length)) => GdbRequest::Watch(
+            kind, address, length,
+        ),
+        None => GdbRequest::Unknown,
     }
 }
 
 /// What is taken away, by what comes after `z`.
-fn spot_taken(rest: &[u8]) -> Request
-    ensures { result ≡ with_spot Request.Unbreak Request.Unwatch rest.now }
+fn spot_taken(rest: &[u8]) -> GdbRequest
+    ensures { result ≡ with_spot GdbRequest.Unbreak GdbRequest.Unwatch rest.now }
 {
     match spot_of(rest) {
-        Some(Spot::Code(address)) => Request::Unbreak(address),
-        Some(Spot::Bytes(kind, address, length)) => Request::Unwatch(kind, address, length),
-        None => Request::Unknown,
+        Some(BreakOrWatch::Code(address)) => GdbRequest::Unbreak(address),
+        Some(BreakOrWatch::Bytes(kind, address, length)) => GdbRequest::Unwatch(
+            kind, address, length,
+        ),
+        None => GdbRequest::Unknown,
     }
 }
 
 /// A breakpoint, or bytes whose writes are watched.
 #[derive(Clone, Copy)]
-enum Spot {
+enum BreakOrWatch {
     Code(u32),
     Bytes(WatchKind, u32, u32),
 }
 
 /// The breakpoint or watchpoint of what comes after `Z` or `z`.
-fn spot_of(rest: &[u8]) -> Option<Spot>
-    ensures { (code : ℕ → Request) (watched : WatchKind → ℕ → ℕ → Request) → with_spot code watched rest.now ≡ request_at code watched result }
+fn spot_of(rest: &[u8]) -> Option<BreakOrWatch>
+    ensures { (code : ℕ → GdbRequest) (watched : WatchKind → ℕ → ℕ → GdbRequest) → with_spot code watched rest.now ≡ request_at code watched result }
 {
     if rest.starts_with(b"0,") || rest.starts_with(b"1,") {
         let (address, _kind) = pair_of(&rest[2..])?;
-        return Some(Spot::Code(address));
+        return Some(BreakOrWatch::Code(address));
     }
     if rest.starts_with(b"2,") {
         let (address, length) = pair_of(&rest[2..])?;
-        return Some(Spot::Bytes(WatchKind::Writes, address, length));
+        return Some(BreakOrWatch::Bytes(WatchKind::Writes, address, length));
     }
     if rest.starts_with(b"4,") {
         let (address, length) = pair_of(&rest[2..])?;
-        return Some(Spot::Bytes(WatchKind::Accesses, address, length));
+        return Some(BreakOrWatch::Bytes(WatchKind::Accesses, address, length));
     }
     None
 }

@@ -33,7 +33,7 @@ pub enum WatchKind {
 
 /// A move.
 #[derive(Clone, Copy, Debug)]
-pub enum Way {
+pub enum Movement {
     /// One step forward.
     Step,
     /// Forward out of a range: one step, and on as long as the address is one of these.
@@ -48,7 +48,7 @@ pub enum Way {
 
 /// A request of a debugger. Addresses and counts are in bytes.
 #[derive(Clone, Copy, Debug)]
-pub enum Request {
+pub enum GdbRequest {
     /// `qSupported`: what this side can do.
     Features,
     /// `QStartNoAckMode`: packets are no longer to be acknowledged.
@@ -63,10 +63,11 @@ pub enum Request {
     Memory(u32, u32),
     /// `x A,LEN`: the same, as they are.
     Bytes(u32, u32),
-    /// `s`, `vCont;s`, `vCont;S`: one step forward; `vCont;rFIRST,END`: forward out of a range; `c`, `vCont;c`, `vCont;C`: forward to
-    /// the next stop; `bs` and `bc`: one step back, and back to the last stop. `vCont;` may name a thread in its first action, and
-    /// further actions are for other threads.
-    Move(Way, ThreadName),
+    /// `s`, `vCont;s`, `vCont;S`: one step forward; `vCont;rFIRST,END`: forward out of a range;
+    /// `c`, `vCont;c`, `vCont;C`: forward to the next stop; `bs` and `bc`: one step back, and back
+    /// to the last stop. `vCont;` may name a thread in its first action, and further actions are
+    /// for other threads.
+    Move(Movement, ThreadName),
     /// `vCont?`: which moves are known.
     Moves,
     /// `Z0 A`, `Z1 A`: a breakpoint is set at an address.

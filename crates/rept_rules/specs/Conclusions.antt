@@ -1,6 +1,7 @@
--- What a row of a path lets one conclude of the values before and after it, from what is known of others. What the row's step does is told
--- by the RISC-V unprivileged manual (20191213, chapters 2.4 to 2.6 and 7); which conclusions are drawn, and their numbers, are this
--- project's own. Rules 1 to 6 and 17 are those of whole paths.
+-- What a row of a path lets one conclude of the values before and after it, from what is known of
+-- others. What the row's step does is told by the RISC-V unprivileged manual (20191213, chapters
+-- 2.4 to 2.6 and 7); which conclusions are inferred, and their numbers, are this project's own.
+-- Rules 1 to 6 and 17 are those of whole paths.
 use Rattle.std.specs.Prelude.{◌≡◌, ℕ, ◌<◌, ℤ, Bool, true, false, Option, Some, None}
 use Rattle.rept_isa.specs.declared.instr.Instr.{Instr}
 use Rattle.rept_isa.specs.declared.instr.Instr.TheVariants.{Branch, Load, Store, Imm, Op}
@@ -23,9 +24,9 @@ use Rattle.rept_partial.specs.declared.flat.Flat.TheVariants.{Unknown, Known}
 use Rattle.rept_machine.specs.Arithmetic.{loaded, word_at, byte_of, store_width, register_form}
 use Rattle.rept_reason.specs.declared.fact.Cell.TheVariants.{Register, Byte}
 use Rattle.rept_reason.specs.Facts.{flat}
-use Rattle.rept_view.specs.declared.drawn.When.{When}
-use Rattle.rept_view.specs.declared.drawn.When.TheVariants.{Before, After}
-use Rattle.rept_view.specs.declared.drawn.Drawn.{Drawn}
+use Rattle.rept_view.specs.declared.inferred.When.{When}
+use Rattle.rept_view.specs.declared.inferred.When.TheVariants.{Before, After}
+use Rattle.rept_view.specs.declared.inferred.Conclusion.{Conclusion}
 use Rattle.rept_view.specs.Seen.{Seen}
 use Rattle.rept_rules.specs.declared.operand.Side.{Side}
 use Rattle.rept_rules.specs.Results.{forward_of}
@@ -45,14 +46,14 @@ seen_operand s None = Unknown
 seen_operand s (Some r) = flat (s.register Before r)
 
 -- a conclusion on a register, and one on byte k of those from a base on, which is byte k of a value
-abbrev pub on_register : ℕ → When → ℕ → ℕ → Drawn
+abbrev pub on_register : ℕ → When → ℕ → ℕ → Conclusion
 on_register rule when r v = record { rule = rule; when = when; cell = Register r; value = v; slot = 0 }
 
-abbrev pub on_byte : ℕ → When → ℕ → ℕ → ℕ → Drawn
+abbrev pub on_byte : ℕ → When → ℕ → ℕ → ℕ → Conclusion
 on_byte rule when base v k = record { rule = rule; when = when; cell = Byte (beside base k); value = byte_of v k; slot = k }
 
 -- only registers x1 to x31 are concluded on
-pub record IsOnRegister (d : Drawn) (rule : ℕ) (when : When) (r v : ℕ) : Type 0 where
+pub record IsOnRegister (d : Conclusion) (rule : ℕ) (when : When) (r v : ℕ) : Type 0 where
   pub named : 0 < r
   pub in_file : r < 32
   pub is : d ≡ on_register rule when r v
@@ -65,7 +66,8 @@ load_width Lw = 4
 load_width Lbu = 1
 load_width Lhu = 2
 
--- the number of the rule by which an operand follows from the result: 10 for ADD and ADDI, 11 for SUB, 12 for XOR and XORI, 13 for MUL
+-- the number of the rule by which an operand follows from the result: 10 for ADD and ADDI, 11 for
+-- SUB, 12 for XOR and XORI, 13 for MUL
 abbrev pub operation_rule : RegOp → Option ℕ
 operation_rule Add = Some 10
 operation_rule Sub = Some 11
@@ -84,7 +86,7 @@ equates Beq Taken = true
 equates Bne NotTaken = true
 equates _ turn = false
 
-pub data ConcludesByRow (row : StepRow) (s : Seen) (d : Drawn) : Type 0 where
+pub data ConcludesByRow (row : StepRow) (s : Seen) (d : Conclusion) : Type 0 where
   -- 7: the destination has the result that follows from what is known of the operands
   result : (rd v : ℕ) → written_by row.instr ≡ Some rd → forward_of row.instr (from_of row) (seen_operand s (first_read row.instr)) (seen_operand s (second_read row.instr)) ≡ Known v → IsOnRegister d 7 After rd v → ConcludesByRow row s d
   -- 8: a load of known bytes at a known base

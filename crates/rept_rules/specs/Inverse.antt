@@ -1,4 +1,5 @@
--- The number by which an odd word is multiplied to give 1 modulo 2 ^ 32 (Hacker's Delight, chapter 10).
+-- The number by which an odd word is multiplied to give 1 modulo 2 ^ 32 (Hacker's Delight, chapter
+-- 10).
 use Rattle.std.specs.Prelude.{ℕ, ◌+◌, ◌-◌, ◌*◌, ◌%◌, ◌^◌}
 
 -- one step of Newton's iteration, x (2 - v x), which doubles how many low bits are right

@@ -1,4 +1,5 @@
--- The conclusions of a row as a list, in the order in which they are listed. What they are is told by `Conclusions`.
+-- The conclusions of a row as a list, in the order in which they are listed. What they are is told
+-- by `Conclusions`.
 use Rattle.std.specs.Prelude.{ℕ, suc, zero, ◌+◌, ◌*◌, ◌^◌, nat_lt, ℤ, Bool, ◌&&◌, if◌then◌else◌, Option, Some, None, List, [], ◌∷◌, ◌++◌}
 use Rattle.rept_isa.specs.declared.instr.Instr.{Instr}
 use Rattle.rept_isa.specs.declared.instr.Instr.TheVariants.{Lui, Auipc, Jal, Jalr, Branch, Load, Store, Imm, Op, Amo, Fence, Ecall, Ebreak, Counter}
@@ -16,9 +17,9 @@ use Rattle.rept_partial.specs.declared.flat.Flat.{Flat}
 use Rattle.rept_partial.specs.declared.flat.Flat.TheVariants.{Unknown, Known}
 use Rattle.rept_machine.specs.Arithmetic.{store_width, extended}
 use Rattle.rept_reason.specs.Facts.{flat}
-use Rattle.rept_view.specs.declared.drawn.When.{When}
-use Rattle.rept_view.specs.declared.drawn.When.TheVariants.{Before, After}
-use Rattle.rept_view.specs.declared.drawn.Drawn.{Drawn}
+use Rattle.rept_view.specs.declared.inferred.When.{When}
+use Rattle.rept_view.specs.declared.inferred.When.TheVariants.{Before, After}
+use Rattle.rept_view.specs.declared.inferred.Conclusion.{Conclusion}
 use Rattle.rept_view.specs.Seen.{Seen}
 use Rattle.rept_rules.specs.declared.operand.Side.{Side}
 use Rattle.rept_rules.specs.declared.operand.Side.TheVariants.{First, Second}
@@ -30,29 +31,29 @@ use Rattle.rept_rules.specs.Conclusions.{seen_operand, on_register, on_byte, loa
 abbrev pub is_named : ℕ → Bool
 is_named r = nat_lt 0 r && nat_lt r 32
 
-abbrev pub if_named : ℕ → Drawn → List Drawn
+abbrev pub if_named : ℕ → Conclusion → List Conclusion
 if_named r d = if is_named r then d ∷ [] else []
 
 -- a register has a known value
-abbrev pub register_drawn : ℕ → When → ℕ → Flat → List Drawn
-register_drawn rule when r Unknown = []
-register_drawn rule when r (Known v) = if_named r (on_register rule when r v)
+abbrev pub register_inferred : ℕ → When → ℕ → Flat → List Conclusion
+register_inferred rule when r Unknown = []
+register_inferred rule when r (Known v) = if_named r (on_register rule when r v)
 
 -- the same, where there is such a register
-abbrev pub some_drawn : ℕ → When → Option ℕ → Flat → List Drawn
-some_drawn rule when None x = []
-some_drawn rule when (Some r) x = register_drawn rule when r x
+abbrev pub some_inferred : ℕ → When → Option ℕ → Flat → List Conclusion
+some_inferred rule when None x = []
+some_inferred rule when (Some r) x = register_inferred rule when r x
 
 -- the low bytes of a value from a base on
-abbrev pub bytes_drawn : ℕ → When → ℕ → ℕ → ℕ → List Drawn
-bytes_drawn rule when base v zero = []
-bytes_drawn rule when base v (suc k) = bytes_drawn rule when base v k ++ on_byte rule when base v k ∷ []
+abbrev pub bytes_inferred : ℕ → When → ℕ → ℕ → ℕ → List Conclusion
+bytes_inferred rule when base v zero = []
+bytes_inferred rule when base v (suc k) = bytes_inferred rule when base v k ++ on_byte rule when base v k ∷ []
 
 -- the same, where base and value are known
-abbrev pub known_bytes_drawn : ℕ → When → Flat → ℤ → Flat → ℕ → List Drawn
-known_bytes_drawn rule when Unknown imm v width = []
-known_bytes_drawn rule when (Known b) imm Unknown width = []
-known_bytes_drawn rule when (Known b) imm (Known v) width = bytes_drawn rule when (plus b imm) v width
+abbrev pub known_bytes_inferred : ℕ → When → Flat → ℤ → Flat → ℕ → List Conclusion
+known_bytes_inferred rule when Unknown imm v width = []
+known_bytes_inferred rule when (Known b) imm Unknown width = []
+known_bytes_inferred rule when (Known b) imm (Known v) width = bytes_inferred rule when (plus b imm) v width
 
 -- the numbers in two and four bytes, where these are known
 abbrev pub two_bytes : Option ℕ → Option ℕ → Flat
@@ -99,67 +100,67 @@ abbrev pub known_after : Seen → Option ℕ → Flat
 known_after s None = Unknown
 known_after s (Some rd) = flat (s.register After rd)
 
-abbrev pub result_drawn : StepRow → Seen → List Drawn
-result_drawn row s = some_drawn 7 After (written_by row.instr) (forward_of row.instr (from_of row) (seen_operand s (first_read row.instr)) (seen_operand s (second_read row.instr)))
+abbrev pub result_inferred : StepRow → Seen → List Conclusion
+result_inferred row s = some_inferred 7 After (written_by row.instr) (forward_of row.instr (from_of row) (seen_operand s (first_read row.instr)) (seen_operand s (second_read row.instr)))
 
 abbrev pub solve_known : Instr → Side → Flat → Flat → Flat
 solve_known instr side Unknown other = Unknown
 solve_known instr side (Known v) other = solve_of instr side v other
 
-abbrev pub by_rule : Option ℕ → Option ℕ → Flat → List Drawn
+abbrev pub by_rule : Option ℕ → Option ℕ → Flat → List Conclusion
 by_rule None r x = []
-by_rule (Some rule) r x = some_drawn rule Before r x
+by_rule (Some rule) r x = some_inferred rule Before r x
 
 -- the operand on one side of an operation
-abbrev pub solved_drawn : Instr → Side → Seen → List Drawn
-solved_drawn instr side s = by_rule (solving_rule instr) (operand_of instr side) (solve_known instr side (known_after s (written_by instr)) (seen_operand s (operand_of instr (opposite side))))
+abbrev pub solved_inferred : Instr → Side → Seen → List Conclusion
+solved_inferred instr side s = by_rule (solving_rule instr) (operand_of instr side) (solve_known instr side (known_after s (written_by instr)) (seen_operand s (operand_of instr (opposite side))))
 
-abbrev pub both_drawn : ℕ → ℕ → Seen → List Drawn
-both_drawn rd source s = register_drawn 18 After rd (known_at s Before source) ++ register_drawn 18 Before source (known_at s After rd)
+abbrev pub both_inferred : ℕ → ℕ → Seen → List Conclusion
+both_inferred rd source s = register_inferred 18 After rd (known_at s Before source) ++ register_inferred 18 Before source (known_at s After rd)
 
-abbrev pub copied_between : Option ℕ → Option ℕ → Seen → List Drawn
+abbrev pub copied_between : Option ℕ → Option ℕ → Seen → List Conclusion
 copied_between None source s = []
 copied_between (Some rd) None s = []
-copied_between (Some rd) (Some source) s = both_drawn rd source s
+copied_between (Some rd) (Some source) s = both_inferred rd source s
 
 -- a copy and its source
-abbrev pub copy_drawn : Instr → Seen → List Drawn
-copy_drawn instr s = copied_between (written_by instr) (copied instr) s
+abbrev pub copy_inferred : Instr → Seen → List Conclusion
+copy_inferred instr s = copied_between (written_by instr) (copied instr) s
 
 -- all of an operation's operands
-abbrev pub operation_drawn : Instr → Seen → List Drawn
-operation_drawn instr s = solved_drawn instr First s ++ solved_drawn instr Second s ++ copy_drawn instr s
+abbrev pub operation_inferred : Instr → Seen → List Conclusion
+operation_inferred instr s = solved_inferred instr First s ++ solved_inferred instr Second s ++ copy_inferred instr s
 
-abbrev pub load_drawn : LoadOp → ℕ → ℕ → ℤ → Seen → List Drawn
-load_drawn op rd rs1 imm s = register_drawn 8 After rd (at_known (known_at s Before rs1) imm (loaded_from op (s.byte Before))) ++ known_bytes_drawn 15 Before (known_at s Before rs1) imm (known_after s (unless_zero rd)) (load_width op)
+abbrev pub load_inferred : LoadOp → ℕ → ℕ → ℤ → Seen → List Conclusion
+load_inferred op rd rs1 imm s = register_inferred 8 After rd (at_known (known_at s Before rs1) imm (loaded_from op (s.byte Before))) ++ known_bytes_inferred 15 Before (known_at s Before rs1) imm (known_after s (unless_zero rd)) (load_width op)
 
-abbrev pub store_back_drawn : StoreOp → Flat → ℕ → ℤ → Seen → List Drawn
-store_back_drawn Sw base rs2 imm s = register_drawn 16 Before rs2 (at_known base imm (word_from (s.byte After)))
-store_back_drawn Sb base rs2 imm s = []
-store_back_drawn Sh base rs2 imm s = []
+abbrev pub store_back_inferred : StoreOp → Flat → ℕ → ℤ → Seen → List Conclusion
+store_back_inferred Sw base rs2 imm s = register_inferred 16 Before rs2 (at_known base imm (word_from (s.byte After)))
+store_back_inferred Sb base rs2 imm s = []
+store_back_inferred Sh base rs2 imm s = []
 
-abbrev pub store_drawn : StoreOp → ℕ → ℕ → ℤ → Seen → List Drawn
-store_drawn op rs1 rs2 imm s = known_bytes_drawn 9 After (known_at s Before rs1) imm (known_at s Before rs2) (store_width op) ++ store_back_drawn op (known_at s Before rs1) rs2 imm s
+abbrev pub store_inferred : StoreOp → ℕ → ℕ → ℤ → Seen → List Conclusion
+store_inferred op rs1 rs2 imm s = known_bytes_inferred 9 After (known_at s Before rs1) imm (known_at s Before rs2) (store_width op) ++ store_back_inferred op (known_at s Before rs1) rs2 imm s
 
 -- a branch that went this way
-abbrev pub branch_drawn : BranchOp → ℕ → ℕ → Turn → Seen → List Drawn
-branch_drawn op rs1 rs2 turn s = if equates op turn then register_drawn 14 Before rs2 (known_at s Before rs1) ++ register_drawn 14 Before rs1 (known_at s Before rs2) else []
+abbrev pub branch_inferred : BranchOp → ℕ → ℕ → Turn → Seen → List Conclusion
+branch_inferred op rs1 rs2 turn s = if equates op turn then register_inferred 14 Before rs2 (known_at s Before rs1) ++ register_inferred 14 Before rs1 (known_at s Before rs2) else []
 
-abbrev pub others_drawn : Instr → Turn → Seen → List Drawn
-others_drawn (Load op rd rs1 imm) turn s = load_drawn op rd rs1 imm s
-others_drawn (Store op rs1 rs2 imm) turn s = store_drawn op rs1 rs2 imm s
-others_drawn (Imm op rd rs1 imm) turn s = operation_drawn (Imm op rd rs1 imm) s
-others_drawn (Op op rd rs1 rs2) turn s = operation_drawn (Op op rd rs1 rs2) s
-others_drawn (Branch op rs1 rs2 imm) turn s = branch_drawn op rs1 rs2 turn s
-others_drawn (Lui rd imm) turn s = []
-others_drawn (Auipc rd imm) turn s = []
-others_drawn (Jal rd imm) turn s = []
-others_drawn (Jalr rd rs1 imm) turn s = []
-others_drawn (Amo op rd rs1 rs2) turn s = []
-others_drawn Fence turn s = []
-others_drawn Ecall turn s = []
-others_drawn Ebreak turn s = []
-others_drawn (Counter rd csr) turn s = []
+abbrev pub others_inferred : Instr → Turn → Seen → List Conclusion
+others_inferred (Load op rd rs1 imm) turn s = load_inferred op rd rs1 imm s
+others_inferred (Store op rs1 rs2 imm) turn s = store_inferred op rs1 rs2 imm s
+others_inferred (Imm op rd rs1 imm) turn s = operation_inferred (Imm op rd rs1 imm) s
+others_inferred (Op op rd rs1 rs2) turn s = operation_inferred (Op op rd rs1 rs2) s
+others_inferred (Branch op rs1 rs2 imm) turn s = branch_inferred op rs1 rs2 turn s
+others_inferred (Lui rd imm) turn s = []
+others_inferred (Auipc rd imm) turn s = []
+others_inferred (Jal rd imm) turn s = []
+others_inferred (Jalr rd rs1 imm) turn s = []
+others_inferred (Amo op rd rs1 rs2) turn s = []
+others_inferred Fence turn s = []
+others_inferred Ecall turn s = []
+others_inferred Ebreak turn s = []
+others_inferred (Counter rd csr) turn s = []
 
-abbrev pub conclusions : StepRow → Seen → List Drawn
-conclusions row s = result_drawn row s ++ others_drawn row.instr (turn_of row) s
+abbrev pub conclusions : StepRow → Seen → List Conclusion
+conclusions row s = result_inferred row s ++ others_inferred row.instr (turn_of row) s

@@ -1,5 +1,5 @@
--- Which bytes a row may write, by the ranges of registers around it; whether it writes all of these; and how many byte facts it gives.
--- This project's own.
+-- Which bytes a row may write, by the ranges of registers around it; whether it writes all of
+-- these; and how many byte facts it gives. This project's own.
 use Rattle.std.specs.Prelude.{ℕ, nat_lt, ◌==◌, ◌&&◌, Bool, true, false, not, if◌then◌else◌, List, [], ◌∷◌, is_some, pos}
 use Rattle.rept_isa.specs.declared.instr.Instr.{Instr}
 use Rattle.rept_isa.specs.declared.instr.Instr.TheVariants.{Lui, Auipc, Jal, Jalr, Branch, Load, Store, Imm, Op, Amo, Fence, Ecall, Ebreak, Counter}
@@ -12,9 +12,9 @@ use Rattle.rept_partial.specs.Ranges.{from_to}
 use Rattle.rept_machine.specs.Arithmetic.{store_width}
 use Rattle.rept_alias.specs.Accesses.{hits, call_hits, access_of}
 use Rattle.rept_havoc.specs.Havoc.{changed, IsExact, AreExact}
-use Rattle.rept_view.specs.declared.drawn.When.{When}
-use Rattle.rept_view.specs.declared.drawn.When.TheVariants.{Before, After}
-use Rattle.rept_view.specs.declared.drawn.RegisterAt.{RegisterAt}
+use Rattle.rept_view.specs.declared.inferred.When.{When}
+use Rattle.rept_view.specs.declared.inferred.When.TheVariants.{Before, After}
+use Rattle.rept_view.specs.declared.inferred.RegisterAt.{RegisterAt}
 use Rattle.rept_view.specs.Seen.{Seen}
 use Rattle.rept_rules.specs.Conclusions.{load_width}
 
@@ -53,9 +53,10 @@ writes_word atomic.Max rd s = true
 writes_word atomic.Minu rd s = true
 writes_word atomic.Maxu rd s = true
 
--- a store may write the bytes of its access, over the range of its base before the row; a call those of the table of calls, over the
--- ranges of its number (x17) and its arguments (x10 to x15) before the row, and of its answer (x10) after it; an atomic instruction
--- its word, over the range of its address before the row, unless it is an LR or has failed; no other row writes memory
+-- a store may write the bytes of its access, over the range of its base before the row; a call
+-- those of the table of calls, over the ranges of its number (x17) and its arguments (x10 to x15)
+-- before the row, and of its answer (x10) after it; an atomic instruction its word, over the range
+-- of its address before the row, unless it is an LR or has failed; no other row writes memory
 abbrev pub instr_may_write : Instr → Seen → ℕ → ℕ → Bool
 instr_may_write (Store op rs1 rs2 imm) s image_end a = hits (access_of (range_of s Before rs1) imm (store_width op)) a
 instr_may_write (Amo op rd rs1 rs2) s image_end a = writes_word op rd s && hits (access_of (range_of s Before rs1) (pos 0) 4) a
@@ -75,7 +76,8 @@ instr_may_write (Counter rd csr) s image_end a = false
 abbrev pub register_at : When → ℕ → RegisterAt
 register_at when r = record { when = when; register = r }
 
--- of an atomic instruction its address, and of an SC its answer, where it has one; an LR writes nothing
+-- of an atomic instruction its address, and of an SC its answer, where it has one; an LR writes
+-- nothing
 abbrev pub tells_atomic : AmoOp → ℕ → ℕ → List RegisterAt
 tells_atomic atomic.Lr rd rs1 = []
 tells_atomic atomic.Sc rd rs1 = register_at Before rs1 ∷ (if rd == 0 then [] else register_at After rd ∷ [])
@@ -89,8 +91,8 @@ tells_atomic atomic.Max rd rs1 = register_at Before rs1 ∷ []
 tells_atomic atomic.Minu rd rs1 = register_at Before rs1 ∷ []
 tells_atomic atomic.Maxu rd rs1 = register_at Before rs1 ∷ []
 
--- The registers whose ranges tell which bytes a row may write: of a store its base; of a call its number in x17, its arguments in
--- x10 to x15, and its answer in x10 after it (RISC-V psABI).
+-- The registers whose ranges tell which bytes a row may write: of a store its base; of a call its
+-- number in x17, its arguments in x10 to x15, and its answer in x10 after it (RISC-V psABI).
 abbrev pub tells_writes : Instr → List RegisterAt
 tells_writes (Store op rs1 rs2 imm) = register_at Before rs1 ∷ []
 tells_writes (Amo op rd rs1 rs2) = tells_atomic op rd rs1

@@ -1,5 +1,5 @@
--- An operand, from the result of an instruction and the other operand. This project's own table: where the operation on words has one
--- operand for each result.
+-- An operand, from the result of an instruction and the other operand. This project's own table:
+-- where the operation on words has one operand for each result.
 use Rattle.std.specs.Prelude.{ℕ, ◌+◌, ◌-◌, ◌*◌, ◌%◌, ◌^◌, ◌==◌, if◌then◌else◌, ℤ, Option, Some, None, bit_xor, Bool, false}
 use Rattle.rept_isa.specs.declared.instr.Instr.{Instr}
 use Rattle.rept_isa.specs.declared.instr.Instr.TheVariants.{Lui, Auipc, Jal, Jalr, Branch, Load, Store, Imm, Op, Amo, Fence, Ecall, Ebreak, Counter}
@@ -37,7 +37,8 @@ abbrev pub solved_by : RegOp → Side → ℕ → Flat → Flat
 solved_by op side v Unknown = Unknown
 solved_by op side v (Known o) = solved op side v o
 
--- whether the operation with this immediate leaves its operand as it is: a shift by 0, AND with all ones, OR with 0
+-- whether the operation with this immediate leaves its operand as it is: a shift by 0, AND with all
+-- ones, OR with 0
 abbrev pub is_neutral : ImmOp → ℤ → Bool
 is_neutral Slli imm = word imm == 0
 is_neutral Srli imm = word imm == 0
@@ -76,8 +77,8 @@ abbrev pub first_known : Flat → Flat → Flat
 first_known Unknown y = y
 first_known (Known v) y = Known v
 
--- The operand from the result of a copy, too. No rule asks for it: the operations that copy have no rule of `solving_rule`, and rule 18, which goes by `copied`,
--- tells of copies.
+-- The operand from the result of a copy, too. No rule asks for it: the operations that copy have no
+-- rule of `solving_rule`, and rule 18, which goes by `copied`, tells of copies.
 abbrev pub immediate_solved : ImmOp → ℤ → ℕ → Flat
 immediate_solved op imm v = if is_neutral op imm then Known v else solved (register_form op) First v (word imm)
 

@@ -1,5 +1,6 @@
--- The result of an instruction, from what is known of its operands. The operations are those of the RISC-V unprivileged manual
--- (20191213, chapters 2.4 to 2.6 and 7); that some results are known from one operand alone is this project's own table.
+-- The result of an instruction, from what is known of its operands. The operations are those of the
+-- RISC-V unprivileged manual (20191213, chapters 2.4 to 2.6 and 7); that some results are known
+-- from one operand alone is this project's own table.
 use Rattle.std.specs.Prelude.{ℕ, ◌-◌, ◌^◌, ◌==◌, if◌then◌else◌, Bool, false, ⊤, ◌≡◌, Option, Some, None}
 use Rattle.rept_isa.specs.declared.instr.Instr.{Instr}
 use Rattle.rept_isa.specs.declared.instr.Instr.TheVariants.{Lui, Auipc, Jal, Jalr, Branch, Load, Store, Imm, Op, Amo, Fence, Ecall, Ebreak, Counter}
@@ -43,8 +44,9 @@ result_of op Unknown Unknown = Unknown
 abbrev pub registers_result : RegOp → ℕ → ℕ → Flat → Flat → Flat
 registers_result op rs1 rs2 a b = if cancels op rs1 rs2 then Known 0 else result_of op (operand rs1 a) (operand rs2 b)
 
--- what the instruction that is followed four bytes from an address puts into its destination, from what is known of the registers in the places of rs1 and rs2;
--- LUI, AUIPC, JAL and JALR always give theirs
+-- what the instruction that is followed four bytes from an address puts into its destination, from
+-- what is known of the registers in the places of rs1 and rs2; LUI, AUIPC, JAL and JALR always give
+-- theirs
 abbrev pub forward_of : Instr → ℕ → Flat → Flat → Flat
 forward_of (Lui rd imm) from a b = Known imm
 forward_of (Auipc rd imm) from a b = Known (beside from imm)

@@ -3,35 +3,35 @@
 ghost use Rattle.std.specs.Prelude.{◌≡◌, ℕ, ◌+◌, ◌^◌, ◌<◌, min, Contains};
 ghost use Rattle.rept_alias.specs.Accesses.{call_hits};
 ghost use Rattle.rept_machine.specs.Calls.{may_change};
-ghost use Rattle.rept_view.specs.declared.drawn.Drawn.{Drawn};
+ghost use Rattle.rept_view.specs.declared.inferred.Conclusion.{Conclusion};
 ghost use Rattle.rept_rules.specs.Conclusions.{ConcludesByRow};
 ghost use Rattle.rept_rules.specs.Listing.{conclusions};
 ghost use Rattle.rept_rules.specs.MayWrite.{IsKnownCall, instr_may_write};
 
-use crate::draw::{draw_others, draw_result, load_width};
+use crate::infer::{infer_others, infer_result, load_width};
 use crate::rest::add_needs;
 use crate::tell::add_tells;
 use crate::touch::{is_sure, touched};
 use rept_alias::CallAccess;
 use rept_isa::{Instr, StepRow};
 use rept_machine::store_width;
-use rept_view::{Drawn, Need, RegisterAt, RowRules, RowView};
+use rept_view::{Conclusion, Premise, RegisterAt, RowRules, RowView};
 use smallvec::SmallVec;
 use std::alloc::Global;
 
-/// The rules of RV32IM: the results of operations, loads and stores, the operands and bytes that follow from them, the equal operands of
-/// branches, and copies.
+/// The rules of RV32IM: the results of operations, loads and stores, the operands and bytes that
+/// follow from them, the equal operands of branches, and copies.
 #[derive(Drop)]
 pub struct Base {
-    draws: u64,
+    infers: u64,
 }
 
 impl Base {
-    /// The rules, which nothing was drawn by yet.
+    /// The rules, which nothing was inferred by yet.
     pub fn new() -> Self
-        ensures { result.draws ≡ 0 }
+        ensures { result.infers ≡ 0 }
     {
-        Base { draws: 0 }
+        Base { infers: 0 }
     }
 }
 
@@ -41,32 +41,37 @@ impl RowRules for Base {
 
     ghost rules = { base_rules };
 
-    ghost draws = { λ b. b.draws };
+    ghost infers = { λ b. b.infers };
 
     ghost lawful = { base_lawful };
 
-    fn draw<V: RowView>(&mut self, alloc: Global, row: &StepRow, view: &V) -> SmallVec<Drawn, 16>
+    fn infer<V: RowView>(
+        &mut self,
+        alloc: Global,
+        row: &StepRow,
+        view: &V,
+    ) -> SmallVec<Conclusion, 16>
         ensures list { result.items ≡ conclusions row.now (V.seen view.now) }
         ensures inline { result.capacity ≡ 16 }
-        ensures raised { self.new.draws ≡ min (self.old.draws + 1) 18446744073709551615 }
-        ensures listed { (d : Drawn) → Contains result.items d → ConcludesByRow row.now (V.seen view.now) d }
-        ensures all { (d : Drawn) → ConcludesByRow row.now (V.seen view.now) d → Contains result.items d }
+        ensures raised { self.new.infers ≡ min (self.old.infers + 1) 18446744073709551615 }
+        ensures listed { (d : Conclusion) → Contains result.items d → ConcludesByRow row.now (V.seen view.now) d }
+        ensures all { (d : Conclusion) → ConcludesByRow row.now (V.seen view.now) d → Contains result.items d }
     {
-        self.draws = self.draws.saturating_add(1);
-        let mut drawn = SmallVec::new(alloc);
-        draw_result(&mut drawn, row, view);
-        draw_others(&mut drawn, row, view);
-        drawn
+        self.infers = self.infers.saturating_add(1);
+        let mut inferred = SmallVec::new(alloc);
+        infer_result(&mut inferred, row, view);
+        infer_others(&mut inferred, row, view);
+        inferred
     }
 
     fn needs<V: RowView>(
         alloc: Global,
         row: &StepRow,
         view: &V,
-        drawn: &Drawn,
-    ) -> SmallVec<Need, 10> {
+        inferred: &Conclusion,
+    ) -> SmallVec<Premise, 10> {
         let mut needs = SmallVec::new(alloc);
-        add_needs(&mut needs, &row.instr, view, drawn);
+        add_needs(&mut needs, &row.instr, view, inferred);
         needs
     }
 

@@ -8,7 +8,7 @@ ghost use Rattle.rept_reason.specs.Facts.{flat};
 ghost use Rattle.rept_rules.specs.Conclusions.{seen_operand};
 ghost use Rattle.rept_rules.specs.MayWrite.{is_register};
 ghost use Rattle.rept_rules.specs.Listing.{two_bytes, four_bytes, half_from, word_from, extended_from, loaded_from, at_known, known_after};
-ghost use Rattle.rept_view.specs.declared.drawn.When.TheVariants.{Before, After};
+ghost use Rattle.rept_view.specs.declared.inferred.When.TheVariants.{Before, After};
 
 use rept_isa::number::plus;
 use rept_isa::{Instr, LoadOp, Reg, writes};
@@ -36,7 +36,8 @@ pub fn is_known<V: RowView>(view: &V, r: Reg) -> bool
     }
 }
 
-/// What is known after the row of the register that the instruction writes. Unknown where there is none.
+/// What is known after the row of the register that the instruction writes. Unknown where there is
+/// none.
 pub fn result_after<V: RowView>(view: &V, instr: &Instr) -> Flat
     ensures { result ≡ known_after (V.seen view.now) (written_by instr.now) }
 {

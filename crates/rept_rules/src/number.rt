@@ -1,4 +1,5 @@
-//! The numbers of the rules by which a row lets facts be drawn. Those of whole paths have 1 to 6 and 17.
+//! The numbers of the rules by which a row lets facts be applied. Those of whole paths have 1 to 6
+//! and 17.
 
 /// the result of an instruction, from its operands
 pub const RESULT: u8 = 7;

@@ -25,9 +25,10 @@ pub enum Side {
     Second,
 }
 
-/// The operand on the side `which` of the instruction, where its result is `v`, from what is known of the operand on the other side;
-/// x0 is 0. Known only where no other operand gives this result: for ADD, SUB and XOR with a known other operand or an immediate,
-/// for MUL with a known odd one, and where the result is a copy of the operand. Unknown for all else.
+/// The operand on the side `which` of the instruction, where its result is `v`, from what is known
+/// of the operand on the other side; x0 is 0. Known only where no other operand gives this result:
+/// for ADD, SUB and XOR with a known other operand or an immediate, for MUL with a known odd one,
+/// and where the result is a copy of the operand. Unknown for all else.
 pub fn solve(instr: &Instr, which: Side, v: u32, other: Flat) -> Flat
     ensures value { result ≡ solve_of instr.now which v other }
     ensures sound { (image_end rd r w : ℕ) (place : Addresses) (s t : State) → IsState s → HasEffect instr.now image_end place s t → written_by instr.now ≡ Some rd → t.register rd ≡ v → operand_of instr.now which ≡ Some r → HoldsIn s (operand_of instr.now (opposite which)) other → result ≡ Flat.Known w → s.register r ≡ w }

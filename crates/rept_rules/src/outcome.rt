@@ -11,9 +11,11 @@ use rept_isa::{Instr, Reg, RegOp};
 use rept_machine::arithmetic::{computed, register_form};
 use rept_partial::Flat;
 
-/// What the instruction that is followed four bytes from `from` puts into its destination, from what is known of the registers in the places of rs1 and rs2; x0 is
-/// 0, and an operand that the form doesn't have isn't looked at. LUI, AUIPC, JAL and JALR always give their value, the operations
-/// on registers and immediates where their operands are known, or where one of them decides. Unknown for all else.
+/// What the instruction that is followed four bytes from `from` puts into its destination, from
+/// what is known of the registers in the places of rs1 and rs2; x0 is 0, and an operand that the
+/// form doesn't have isn't looked at. LUI, AUIPC, JAL and JALR always give their value, the
+/// operations on registers and immediates where their operands are known, or where one of them
+/// decides. Unknown for all else.
 pub fn forward(instr: &Instr, from: u32, a: Flat, b: Flat) -> Flat
     ensures value { result ≡ forward_of instr.now from a b }
     ensures sound { (image_end at next rd : ℕ) (s t : State) → IsState s → HasEffect instr.now image_end (record { at = at; from = from; next = next }) s t → HoldsIn s (first_read instr.now) a → HoldsIn s (second_read instr.now) b → written_by instr.now ≡ Some rd → Admits result (t.register rd) }

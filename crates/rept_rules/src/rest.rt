@@ -9,7 +9,7 @@ ghost use Rattle.rept_rules.specs.Conclusions.{load_width};
 ghost use Rattle.rept_rules.specs.Listing.{known_at};
 ghost use Rattle.rept_rules.specs.Needs.{register_need, both_needs, byte_needs, known_byte_needs, decides, result_needs, other_register, source_need, immediate_needs, operation_needs, load_needs, store_needs, copy_needs, needs_of};
 
-use crate::draw::load_width;
+use crate::infer::load_width;
 use crate::number;
 use crate::operand::copied_register;
 use crate::outcome::{absorbs, cancels, operand};
@@ -18,11 +18,11 @@ use rept_isa::{ImmOp, Instr, LoadOp, Reg, RegOp};
 use rept_machine::arithmetic::register_form;
 use rept_partial::Flat;
 use rept_reason::Cell;
-use rept_view::{Drawn, Need, RowView, When};
+use rept_view::{Conclusion, Premise, RowView, When};
 use smallvec::SmallVec;
 
 /// A list of what a conclusion rests on, which keeps within the room that it has in place.
-pub type Needs = SmallVec<Need, 10>;
+pub type Needs = SmallVec<Premise, 10>;
 
 /// A register, unless it is x0.
 pub fn need_register(needs: &mut Needs, when: When, r: Reg)
@@ -32,7 +32,7 @@ pub fn need_register(needs: &mut Needs, when: When, r: Reg)
     ensures few { length needs.new.items ≤ length needs.old.items + 1 }
 {
     if r.number() != 0 {
-        needs.push_reserved(Need {
+        needs.push_reserved(Premise {
             when,
             cell: Cell::Register(r),
         });
@@ -52,7 +52,7 @@ pub fn need_both(needs: &mut Needs, r: Reg, q: Reg)
     }
 }
 
-/// So many bytes from a base on.
+/// The bytes from a base on, this many.
 pub fn need_bytes(needs: &mut Needs, when: When, base: u32, width: u32)
     requires few { width ≤ 4 }
     requires room { HasRoomFor needs.old width }
@@ -60,7 +60,7 @@ pub fn need_bytes(needs: &mut Needs, when: When, base: u32, width: u32)
     ensures capacity { needs.new.capacity ≡ needs.old.capacity }
 {
     for k in 0..width {
-        needs.push_reserved(Need {
+        needs.push_reserved(Premise {
             when,
             cell: Cell::Byte(base.wrapping_add(k)),
         });
@@ -80,19 +80,19 @@ fn need_known_bytes(needs: &mut Needs, when: When, base: Flat, imm: i32, width: 
 }
 
 /// Adds what the conclusion rests on.
-pub fn add_needs<V: RowView>(needs: &mut Needs, instr: &Instr, view: &V, drawn: &Drawn)
+pub fn add_needs<V: RowView>(needs: &mut Needs, instr: &Instr, view: &V, inferred: &Conclusion)
     requires { HasRoomFor needs.old 6 }
-    ensures items { needs.new.items ≡ needs.old.items ++ needs_of instr.now (V.seen view.now) drawn.now }
+    ensures items { needs.new.items ≡ needs.old.items ++ needs_of instr.now (V.seen view.now) inferred.now }
     ensures capacity { needs.new.capacity ≡ needs.old.capacity }
 {
     match *instr {
-        Instr::Imm { op, rd, rs1, imm } => need_immediate(needs, op, rd, rs1, imm, drawn),
-        Instr::Op { op, rd, rs1, rs2 } => need_operation(needs, op, rd, rs1, rs2, view, drawn),
+        Instr::Imm { op, rd, rs1, imm } => need_immediate(needs, op, rd, rs1, imm, inferred),
+        Instr::Op { op, rd, rs1, rs2 } => need_operation(needs, op, rd, rs1, rs2, view, inferred),
         Instr::Branch { rs1, rs2, .. } => {
-            need_register(needs, When::Before, other_register(drawn.cell, rs1, rs2));
+            need_register(needs, When::Before, other_register(inferred.cell, rs1, rs2));
         }
-        Instr::Load { op, rd, rs1, imm } => need_load(needs, op, rd, rs1, imm, view, drawn.when),
-        Instr::Store { rs1, rs2, imm, .. } => need_store(needs, rs1, rs2, imm, view, drawn.when),
+        Instr::Load { op, rd, rs1, imm } => need_load(needs, op, rd, rs1, imm, view, inferred.when),
+        Instr::Store { rs1, rs2, imm, .. } => need_store(needs, rs1, rs2, imm, view, inferred.when),
         Instr::Lui { .. }
         | Instr::Auipc { .. }
         | Instr::Jal { .. }
@@ -116,17 +116,17 @@ fn other_register(cell: Cell, rs1: Reg, rs2: Reg) -> Reg
 }
 
 /// The result, the copy or the operand of an operation with an immediate.
-fn need_immediate(needs: &mut Needs, op: ImmOp, rd: Reg, rs1: Reg, imm: i32, drawn: &Drawn)
+fn need_immediate(needs: &mut Needs, op: ImmOp, rd: Reg, rs1: Reg, imm: i32, inferred: &Conclusion)
     requires { HasRoomFor needs.old 1 }
-    ensures items { needs.new.items ≡ needs.old.items ++ immediate_needs op rd rs1 imm drawn.now }
+    ensures items { needs.new.items ≡ needs.old.items ++ immediate_needs op rd rs1 imm inferred.now }
     ensures capacity { needs.new.capacity ≡ needs.old.capacity }
 {
-    if drawn.rule == number::RESULT {
+    if inferred.rule == number::RESULT {
         if !absorbs(register_form(op), word(imm)) {
             need_register(needs, When::Before, rs1);
         }
     } else {
-        match drawn.when {
+        match inferred.when {
             When::Before => need_register(needs, When::After, rd),
             When::After => need_register(needs, When::Before, rs1),
         }
@@ -141,18 +141,18 @@ fn need_operation<V: RowView>(
     rs1: Reg,
     rs2: Reg,
     view: &V,
-    drawn: &Drawn,
+    inferred: &Conclusion,
 )
     requires { HasRoomFor needs.old 2 }
-    ensures items { needs.new.items ≡ needs.old.items ++ operation_needs op rd rs1 rs2 (V.seen view.now) drawn.now }
+    ensures items { needs.new.items ≡ needs.old.items ++ operation_needs op rd rs1 rs2 (V.seen view.now) inferred.now }
     ensures capacity { needs.new.capacity ≡ needs.old.capacity }
 {
-    if drawn.rule == number::RESULT {
+    if inferred.rule == number::RESULT {
         need_result(needs, op, rs1, rs2, view);
-    } else if drawn.rule == number::COPY {
-        need_copy(needs, drawn.when, rd, copied_register(op, rs1, rs2));
+    } else if inferred.rule == number::COPY {
+        need_copy(needs, inferred.when, rd, copied_register(op, rs1, rs2));
     } else {
-        let other = other_register(drawn.cell, rs1, rs2);
+        let other = other_register(inferred.cell, rs1, rs2);
         need_register(needs, When::After, rd);
         need_register(needs, When::Before, other);
     }

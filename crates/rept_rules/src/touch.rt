@@ -5,7 +5,7 @@ ghost use Rattle.rept_alias.specs.Accesses.{hits, call_hits, access_of};
 ghost use Rattle.rept_havoc.specs.Havoc.{changed};
 ghost use Rattle.rept_machine.specs.Arithmetic.{store_width};
 ghost use Rattle.rept_partial.specs.declared.flat.Flat.{Flat};
-ghost use Rattle.rept_view.specs.declared.drawn.When.TheVariants.{Before, After};
+ghost use Rattle.rept_view.specs.declared.inferred.When.TheVariants.{Before, After};
 ghost use Rattle.rept_rules.specs.MayWrite.{range_of, only_value, is_failure, has_failed, writes_word, instr_may_write, instr_is_sure};
 
 use crate::look::is_known;
@@ -16,7 +16,8 @@ use rept_machine::store_width;
 use rept_partial::{Flat, Partial, Range};
 use rept_view::{RowView, When};
 
-/// The bytes that the row of this instruction may write, where the program's own memory ends at `image_end`.
+/// The bytes that the row of this instruction may write, where the program's own memory ends at
+/// `image_end`.
 pub fn touched<V: RowView>(instr: &Instr, view: &V, image_end: u64) -> CallAccess
     ensures { (a : ℕ) → call_hits result a ≡ instr_may_write instr.now (V.seen view.now) image_end a }
 {
@@ -145,7 +146,8 @@ fn only_value(range: Range) -> Flat
     }
 }
 
-/// Whether the row of this instruction writes all bytes that it may write: a store of known base does.
+/// Whether the row of this instruction writes all bytes that it may write: a store of known base
+/// does.
 pub fn is_sure<V: RowView>(instr: &Instr, view: &V) -> bool
     ensures { result ≡ instr_is_sure instr.now (V.seen view.now) }
 {

@@ -1,4 +1,5 @@
--- How many rows a run has: the rows of joins have room, so all of them together are few, where no two threads are of one process.
+-- How many rows a run has: the rows of joins have room, so all of them together are few, where no
+-- two threads are of one process.
 use Rattle.std.proofs.Common.{◌≡◌, ◌≢◌, ◌⊎◌, ℕ, ◌+◌, ◌-◌, ◌<◌, ◌≤◌, eqb, nat_le, cond, Bool, true, false, List, [], ◌∷◌, length, map, reverse, Some, None, Result, Ok, Err, slice_get, inl, inr, refl, sym, ap, ◌∙◌, subst, arith, length-append}
 use Rattle.std.specs.List.{filter, flat_map, list_any}
 use Rattle.std.specs.Prelude.{◌%◌, ◌==◌, ◌&&◌, ◌||◌}
@@ -105,7 +106,8 @@ end_fits e count r more is =
     let some = fits.0 in let room : length more ≤ 65536 - count = omega (arith, fits.1) in
     omega arith
 
--- the rows of a thread's slices with those of its joins: they are no fewer, and with so many rows of all threads before there is room for them
+-- the rows of a thread's slices with those of its joins: they are no fewer, and with so many rows
+-- of all threads before there is room for them
 record Fits (count : ℕ) (rs : List RanSlice) (js : List JoinedSlice) : Type 0 where
   own : ran_rows rs ≤ rows_in js
   none : rs ≡ [] → rows_in js ≡ 0

@@ -1,4 +1,5 @@
--- The notes of a core file are those of few threads, no two of one process, and there are no others.
+-- The notes of a core file are those of few threads, no two of one process, and there are no
+-- others.
 use Rattle.std.proofs.Common.{◌≡◌, ℕ, nat_lt, cond, Bool, List, [], ◌∷◌, length, map, Option, Some, None, Result, Ok, Err, inl, inr, refl, sym, ap, ◌∙◌, subst}
 use Rattle.std.specs.List.{filter}
 use Rattle.std.proofs.lemmas.Bool.{cases_lt, lt-ltb, le-ltb}
@@ -9,7 +10,7 @@ use Rattle.rept_dump.specs.declared.fault.CoreFault.{CoreFault}
 use Rattle.rept_dump.specs.declared.fault.CoreFault.TheVariants.{TooManyThreads}
 use Rattle.rept_dump.proofs.NoteLemmas.{all_said_once}
 use Rattle.rept_runs.specs.Told.{AreNotesApart}
-use Rattle.rept_runs.specs.Notes.{OneFileBytes, HasNotes}
+use Rattle.rept_runs.specs.Notes.{OneFileBytes, HasThreadNotes}
 
 ok_descs : {a b : List (List ℕ)} → ◌≡◌ {A = Result (List (List ℕ)) CoreFault} (Ok a) (Ok b) → a ≡ b
 ok_descs e = cc
@@ -43,12 +44,12 @@ apart_of : (descs : List (List ℕ)) (statuses : List Note) → Ok descs ≡ all
 apart_of descs [] h = absurd (ok_err h)
 apart_of descs (note ∷ notes) h = apart_by_size descs (descs_of (note ∷ notes)) (first_short (note ∷ notes)) h
 
-pub notes_apart : (b : OneFileBytes) (descs : List (List ℕ)) → HasNotes b descs → AreNotesApart descs
+pub notes_apart : (b : OneFileBytes) (descs : List (List ℕ)) → HasThreadNotes b descs → AreNotesApart descs
 notes_apart b descs h =
     elim h.said [
       | inl cut ↦ absurd (ok_err cut.2)
       | inr whole ↦ apart_of descs (filter is_status whole.0) whole.2
     ]
 
-pub notes_once : (b : OneFileBytes) (a d : List (List ℕ)) → HasNotes b a → HasNotes b d → a ≡ d
+pub notes_once : (b : OneFileBytes) (a d : List (List ℕ)) → HasThreadNotes b a → HasThreadNotes b d → a ≡ d
 notes_once b a d h k = ok_descs (all_said_once (length b.core) (segments b.core) (Ok a) (Ok d) h.said k.said)

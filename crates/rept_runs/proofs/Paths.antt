@@ -1,4 +1,5 @@
--- A run of one thread in one slice, all of which is told, is a path that ends at the program counter of the thread's note.
+-- A run of one thread in one slice, all of which is told, is a path that ends at the program
+-- counter of the thread's note.
 use Rattle.std.proofs.Common.{◌≡◌, ℕ, ◌+◌, ◌-◌, ◌<◌, ◌==◌, eqb, nat_le, cond, Bool, true, false, List, [], ◌∷◌, ◌++◌, length, map, reverse, Option, Some, None, Result, Ok, Err, inl, inr, refl, sym, ap, ◌∙◌, subst, arith, append-nil, append_assoc, length-append}
 use Rattle.std.specs.Prelude.{◌%◌, ◌&&◌}
 use Rattle.std.proofs.lemmas.Bool.{true≢false}
@@ -182,8 +183,8 @@ none_some e = cc
 some_same : {x y : List StepRow} → Some x ≡ Some y → x ≡ y
 some_same e = cc
 
-alone_of : (all : List ThreadRows) (dark : Option ℕ) (rows : List StepRow) → alone_by all dark ≡ Some rows → Alone all rows
-alone_of [] dark rows e = absurd (none_some e)
+alone_of : (all : List ThreadRows) (untraced : Option ℕ) (rows : List StepRow) → alone_by all untraced ≡ Some rows → Alone all rows
+alone_of [] untraced rows e = absurd (none_some e)
 alone_of (th ∷ []) (Some d) rows e = absurd (none_some e)
 alone_of (th ∷ []) None rows e = of_slices th.slices refl e
   where
@@ -191,7 +192,7 @@ alone_of (th ∷ []) None rows e = of_slices th.slices refl e
     of_slices [] is h = absurd (none_some h)
     of_slices (s ∷ []) is h = record { thread = th; is = refl; slice = s; whole = is; own = some_same h }
     of_slices (s ∷ u ∷ ss) is h = absurd (none_some h)
-alone_of (th ∷ other ∷ all) dark rows e = absurd (none_some e)
+alone_of (th ∷ other ∷ all) untraced rows e = absurd (none_some e)
 
 desc_of : (descs : List (List ℕ)) (rows : List StepRow) → Only (map note_in descs) rows → EndsPath descs rows
 desc_of [] rows only = absurd (let n = ap (λ (xs : List ThreadNote). length xs) only.is in omega arith)
@@ -205,7 +206,7 @@ desc_of (desc ∷ other ∷ descs) rows only = absurd (let n = ap (λ (xs : List
 
 pub path_ends : (t : Traced) (run : Run) (rows : List StepRow) → IsTracedRun t run → path_rows run ≡ Some rows → EndsPath t.notes rows
 path_ends t run rows is one =
-    let alone = alone_of run.threads run.dark rows one in
+    let alone = alone_of run.threads run.untraced rows one in
     let w = walked_threads (traces (files_in t is.0) is.2.0) run is.2.2 in
     let all : w.0 ≡ alone.thread ∷ [] = w.2 ∙ alone.is in
     let own = traces (files_in t is.0) is.2.0 in

@@ -13,7 +13,7 @@ is_several trace = starts_with nat_eq trace (codes "RTR2")
 
 -- the steps of a run that is one path: of one thread in one slice, all of which is told
 abbrev pub path_rows : Run → Option (List StepRow)
-path_rows run = alone_by run.threads run.dark
+path_rows run = alone_by run.threads run.untraced
 
 -- The rows are some, and there is one note, at whose program counter they end.
 pub record EndsPath (descs : List (List ℕ)) (rows : List StepRow) : Type 0 where

@@ -1,4 +1,5 @@
--- The notes of a core file that is accepted beside its executable, one of each thread (ELF-32 Object File Format; Linux core notes of RISC-V).
+-- The notes of a core file that is accepted beside its executable, one of each thread (ELF-32
+-- Object File Format; Linux core notes of RISC-V).
 use Rattle.std.specs.Prelude.{◌≡◌, ℕ, List, length, Option, None, Ok}
 use Rattle.rept_elf.specs.Segments.{segments}
 use Rattle.rept_elf.specs.Checks.{checks, first_failure}
@@ -19,7 +20,7 @@ abbrev pub core_image_fault : OneFileBytes → Option ElfFault
 core_image_fault b = first_failure (checks want.Core b.core)
 
 -- both are accepted, and the notes of the core file are these, one of each thread
-pub record HasNotes (b : OneFileBytes) (descs : List (List ℕ)) : Type 0 where
+pub record HasThreadNotes (b : OneFileBytes) (descs : List (List ℕ)) : Type 0 where
   pub executable : executable_fault b ≡ None
   pub core_image : core_image_fault b ≡ None
   pub said : SaysOfAll (length b.core) (segments b.core) (Ok descs)

@@ -1,4 +1,5 @@
--- The run that a trace of several streams tells of a program and of the threads of its core file. This project's own.
+-- The run that a trace of several streams tells of a program and of the threads of its core file.
+-- This project's own.
 use Rattle.std.specs.Prelude.{◌≡◌, ◌⊎◌, ◌≤◌, ℕ, List, length, map, None}
 use Rattle.rept_dump.specs.Dump.{exe_of}
 use Rattle.rept_dump.specs.Program.{Program, contents}
@@ -11,7 +12,9 @@ use Rattle.rept_path.specs.declared.fault.PathFault.{PathFault}
 use Rattle.rept_path.specs.declared.fault.PathFault.TheVariants.{Packet}
 use Rattle.rept_slices.specs.Raw.{RawFiles, note_in, IsRunOfFiles, HasNoRun}
 
--- what a run is told by: the files of the program, the descriptors of the register notes, one of each thread, the bytes of the trace, and the number of the packet of each stream from which on its window may begin
+-- what a run is told by: the files of the program, the descriptors of the register notes, one of
+-- each thread, the bytes of the trace, and the number of the packet of each stream from which on
+-- its window may begin
 pub record Traced : Type 0 where
   pub program : Program
   pub notes : List (List ℕ)

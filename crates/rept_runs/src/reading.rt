@@ -17,10 +17,14 @@ use rept_threads::rebuilding::rebuild_many;
 use rept_trace::Streams;
 use std::alloc::Global;
 
-/// The run that the bytes of a trace of several streams tell of the program of a dump and of its threads, those of its notes in their order. Windows of streams begin at start packets of the number `from` in their
-/// stream or a later one. The refusals come in this order: bytes that are no such trace, as `Packet` with the fault of `Streams::open`; then those of `rebuild_many`. `OutOfMemory` alone may come at any time.
+/// The run that the bytes of a trace of several streams tell of the program of a dump and of its
+/// threads, those of its notes in their order. Windows of streams begin at start packets of the
+/// number `from` in their stream or a later one. The refusals come in this order: bytes that are no
+/// such trace, as `Packet` with the fault of `Streams::open`; then those of `rebuild_many`.
+/// `OutOfMemory` alone may come at any time.
 ///
-/// A run is sound. Where there are at most 1,024 notes, no two of one process, it is as small as an analysis wants it.
+/// A run is sound. Where there are at most 1,024 notes, no two of one process, it is as small as an
+/// analysis wants it.
 pub fn read_run(alloc: Global, trace: &[u8], dump: &Dump<'_>, from: u32) -> Result<Run, PathFault>
     requires { length trace.now < 2 ^ 32 }
     ensures ok { (descs : List (List ℕ)) → HasThreads dump.now descs → threads_of dump.now ≡ length descs → IfOk result (IsTracedRun (traced dump.now descs trace.now from)) }

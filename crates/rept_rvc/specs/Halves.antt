@@ -1,6 +1,8 @@
--- Which instruction a half spells: the C extension on RV32 without floating point (RISC-V unprivileged manual 20191213, chapter 16: 16.2
--- for the formats, 16.3 to 16.5 for what each instruction expands to, tables 16.5 to 16.7 for the listing). Bit 0 is the least
--- significant. A half that the listing calls reserved, or leaves to custom use or to floating point, spells none; hints are their expansions.
+-- Which instruction a half spells: the C extension on RV32 without floating point (RISC-V
+-- unprivileged manual 20191213, chapter 16: 16.2 for the formats, 16.3 to 16.5 for what each
+-- instruction expands to, tables 16.5 to 16.7 for the listing). Bit 0 is the least significant. A
+-- half that the listing calls reserved, or leaves to custom use or to floating point, spells none;
+-- hints are their expansions.
 use Rattle.std.specs.Prelude.{◌≡◌, ℕ, ◌+◌, ◌*◌, ◌^◌, ℤ, pos}
 use Rattle.rept_isa.specs.declared.instr.Instr.{Instr}
 use Rattle.rept_isa.specs.declared.instr.Instr.TheVariants.{Lui, Jal, Jalr, Branch, Load, Store, Imm, Op, Ebreak}

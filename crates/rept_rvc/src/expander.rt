@@ -12,9 +12,9 @@ use crate::quadrant_two::quadrant_two;
 use crate::quadrant_zero::quadrant_zero;
 use rept_isa::Instr;
 
-/// The instruction of RV32IM that the half stands for: the expansion of a compressed instruction (unprivileged manual,
-/// chapter 16; tables 16.5 to 16.7), hints too. None exactly where the half is none: its lowest two bits are 3, or it is
-/// reserved or one of floating point.
+/// The instruction of RV32IM that the half stands for: the expansion of a compressed instruction
+/// (unprivileged manual, chapter 16; tables 16.5 to 16.7), hints too. None exactly where the half
+/// is none: its lowest two bits are 3, or it is reserved or one of floating point.
 pub fn expand(half: u16) -> Option<Instr>
     ensures some { IfSome result (λ i. IsHalf half i) }
     ensures only { (i : Instr) → IsHalf half i → result ≡ Some i }

@@ -57,7 +57,8 @@ quit_there (d ∷ done) l later e = by_test (is_quit_line d) (quit_there done l 
     by_test true k = refl
     by_test false k = k
 
--- A session so far: its answers to the lines that were given are written, and none of these is `quit`.
+-- A session so far: its answers to the lines that were given are written, and none of these is
+-- `quit`.
 pub record SoFar (t : SessionTold) (input : List ℕ) (left : Option (List ℕ)) (intake : Taken) (cursor : ThreadPoint) (old new : Option (List ℕ)) : Type 0 where
   pub done : List (List ℕ)
   pub read : ReadTo input left intake done

@@ -1,5 +1,5 @@
--- What a session writes, and how it ends. It answers each line of the input before it reads the next one, with the cursor at the
--- last point of thread 0 first. This project's own.
+-- What a session writes, and how it ends. It answers each line of the input before it reads the
+-- next one, with the cursor at the last point of thread 0 first. This project's own.
 use Rattle.std.specs.Prelude.{◌≡◌, ◌⊎◌, ℕ, ◌≤◌, ◌<◌, List, ◌++◌, length, take, Bool, true, false, nat_le, Option, Some, if◌then◌else◌}
 use Rattle.std.specs.List.{list_any}
 use Rattle.std.specs.Io.KnownBytes.{Appends}
@@ -16,11 +16,13 @@ use Rattle.rept_serve.specs.declared.serving.Served.TheVariants as served
 abbrev pub most_input : ℕ
 most_input = 1048576
 
--- the lines that are read of an input: all of them, or the whole lines of its first bytes where it has too many
+-- the lines that are read of an input: all of them, or the whole lines of its first bytes where it
+-- has too many
 abbrev pub lines_read : List ℕ → List (List ℕ)
 lines_read input = if nat_le (length input) most_input then lines_of input else whole_lines (take most_input input)
 
--- the bytes of an input, and those that it has left when the session has ended, where its source tells them
+-- the bytes of an input, and those that it has left when the session has ended, where its source
+-- tells them
 pub record Reading : Type 0 where
   pub input : List ℕ
   pub left : Option (List ℕ)
@@ -38,7 +40,8 @@ pub record InputEnded (t : SessionTold) (input text : List ℕ) : Type 0 where
   pub whole : (length input ≤ most_input) ⊎ (has_quit (lines_read input) ≡ true)
   pub answers : AreAnswers t (lines_read input) text
 
--- The input failed after the bytes that are no longer left of it; none of their lines is `quit`, and all whole ones are answered.
+-- The input failed after the bytes that are no longer left of it; none of their lines is `quit`,
+-- and all whole ones are answered.
 pub record Failed (t : SessionTold) (reading : Reading) (text : List ℕ) : Type 0 where
   pub taken : List ℕ
   pub rest : List ℕ
@@ -68,8 +71,8 @@ Wrote t reading text served.TooMuchInput = Overran t reading.input text
 Wrote t reading text served.OutOfMemory = FirstAnswers t reading.input text
 Wrote t reading text served.OutputFault = ⊥
 
--- The output is what it was, followed by such a text; or it failed once, and what follows is a prefix of the answers to the first
--- lines.
+-- The output is what it was, followed by such a text; or it failed once, and what follows is a
+-- prefix of the answers to the first lines.
 abbrev pub Serves : SessionTold → Reading → PortMove Port → Served → Type 0
 Serves t reading out result =
     ((text : List ℕ) × Wrote t reading text result × Appends out.before.bytes out.after.bytes text)

@@ -100,8 +100,9 @@ fn reply<F: Findings, K: Sink>(
     }
 }
 
-/// Answers the lines of the input, each before the next one is read, with the cursor at the last point of thread 0 first. `skipped` is the
-/// count of packets that the path was read without. In each case the findings stay as they were.
+/// Answers the lines of the input, each before the next one is read, with the cursor at the last
+/// point of thread 0 first. `skipped` is the count of packets that the path was read without. In
+/// each case the findings stay as they were.
 pub fn serve<F: Findings, S: Source, K: Sink>(
     alloc: Global,
     findings: &mut F,

@@ -74,7 +74,8 @@ abbrev pub begins_with_digit : List ℕ → Bool
 begins_with_digit [] = false
 begins_with_digit (byte ∷ bytes) = is_ascii_digit byte
 
--- `why`: a word that names a register is one; any other is an address, and no register where it doesn't begin with a digit
+-- `why`: a word that names a register is one; any other is an address, and no register where it
+-- doesn't begin with a digit
 abbrev pub why_command : Option ℕ → List ℕ → Result Command BadCommand
 why_command (Some r) word = Ok (command.WhyReg r)
 why_command None word = if begins_with_digit word then with_number command.WhyByte (number_of_word word) else Err bad.Register
@@ -120,7 +121,8 @@ abbrev pub command_of_words : ℕ → ℕ → List (List ℕ) → Result Command
 command_of_words last threads [] = Ok command.Nothing
 command_of_words last threads (word ∷ words) = command_of_first last threads (verb_of word) words
 
--- the command that a line is, over a thread whose points end at `last` in a run of so many threads, or the first check that fails
+-- the command that a line is, over a thread whose points end at `last` in a run of so many threads,
+-- or the first check that fails
 abbrev pub command_of : ℕ → ℕ → List ℕ → Result Command BadCommand
 command_of last threads line = if nat_lt 256 (length line) then Err bad.LongLine else command_of_words last threads (words_in line)
 
@@ -132,7 +134,8 @@ number_of_refusal bad.Register = 4
 number_of_refusal bad.Limit = 5
 number_of_refusal bad.LongLine = 6
 
--- a command whose point or step is one of the thread, whose thread is one of the run, and whose count is 1 to 256
+-- a command whose point or step is one of the thread, whose thread is one of the run, and whose
+-- count is 1 to 256
 abbrev pub IsCommandWithin : ℕ → ℕ → Command → Type 0
 IsCommandWithin last threads (command.Goto i) = i ≤ last
 IsCommandWithin last threads (command.Thread t) = t < threads

@@ -1,5 +1,5 @@
--- The names of registers: x0 to x31 (RISC-V unprivileged manual, chapter 2.1) and the names of the RISC-V psABI, chapter 1.1. They are
--- in lower case, and the number in a name has no leading zero.
+-- The names of registers: x0 to x31 (RISC-V unprivileged manual, chapter 2.1) and the names of the
+-- RISC-V psABI, chapter 1.1. They are in lower case, and the number in a name has no leading zero.
 use Rattle.std.specs.Prelude.{ℕ, ◌+◌, ◌*◌, ◌-◌, List, [], ◌∷◌, ◌&&◌, ◌==◌, not, nat_lt, Option, None, Some, codes, if◌then◌else◌}
 use Rattle.std.specs.Char.{is_ascii_digit}
 use Rattle.std.specs.Option.{option_and_then, option_or}
@@ -26,7 +26,8 @@ plain_index (ten ∷ unit ∷ more ∷ digits) = None
 abbrev pub below : ℕ → ℕ → ℕ → Option ℕ
 below limit index number = if nat_lt index limit then Some number else None
 
--- x0 to x31; a0 to a7 are x10 to x17; s0 and s1 are x8 and x9, s2 to s11 are x18 to x27; t0 to t2 are x5 to x7, t3 to t6 are x28 to x31
+-- x0 to x31; a0 to a7 are x10 to x17; s0 and s1 are x8 and x9, s2 to s11 are x18 to x27; t0 to t2
+-- are x5 to x7, t3 to t6 are x28 to x31
 abbrev pub indexed : ℕ → ℕ → Option ℕ
 indexed letter index =
     if letter == 120 then below 32 index index

@@ -1,4 +1,5 @@
--- A whole session: a fold over the lines of its input, with a cursor, which is a point of a thread. This project's own.
+-- A whole session: a fold over the lines of its input, with a cursor, which is a point of a thread.
+-- This project's own.
 use Rattle.std.specs.Prelude.{◌≡◌, ℕ, List, [], ◌∷◌, ◌++◌, length, Bool, false, Result, Ok, Err, MatchBool}
 use Rattle.rept_session.specs.declared.command.Command.{Command}
 use Rattle.rept_session.specs.declared.command.BadCommand.{BadCommand}
@@ -21,7 +22,8 @@ abbrev pub ends : Said → Bool
 ends (Ok command) = is_quit command
 ends (Err refusal) = false
 
--- whether a line ends the session, which it does at each cursor or at none (`quits_alike`): so it is asked of a thread without steps
+-- whether a line ends the session, which it does at each cursor or at none (`quits_alike`): so it
+-- is asked of a thread without steps
 abbrev pub is_quit_line : List ℕ → Bool
 is_quit_line line = ends (command_of 0 1 line)
 
@@ -42,14 +44,16 @@ pub record IsDivided (text : List ℕ) (First Rest : List ℕ → Type 0) : Type
   pub answers : First first
   pub follows : Rest rest
 
--- whether a text is what a session writes to these lines from a cursor on: the answer to each line in order, up to `quit`
+-- whether a text is what a session writes to these lines from a cursor on: the answer to each line
+-- in order, up to `quit`
 abbrev pub IsSession : SessionTold → ThreadPoint → List (List ℕ) → List ℕ → Type 0
 IsSession t cursor [] text = text ≡ []
 IsSession t cursor (line ∷ lines) text =
     MatchBool (ends (said_at t.shown cursor line)) (text ≡ [])
     (IsDivided text (IsReply t cursor (said_at t.shown cursor line)) (IsSession t (cursor_of t.shown cursor (said_at t.shown cursor line)) lines))
 
--- Some lines were answered by a text, and the cursor is where it is then; none of them ended the session. However the input goes on, what
--- the session writes is this text and what it writes to the rest from that cursor on.
+-- Some lines were answered by a text, and the cursor is where it is then; none of them ended the
+-- session. However the input goes on, what the session writes is this text and what it writes to
+-- the rest from that cursor on.
 pub record HasAnswered (t : SessionTold) (start : ThreadPoint) (lines : List (List ℕ)) (written : List ℕ) (cursor : ThreadPoint) : Type 0 where
   pub onward : (later : List (List ℕ)) (text : List ℕ) → IsSession t cursor later text → IsSession t start (lines ++ later) (written ++ text)

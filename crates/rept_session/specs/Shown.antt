@@ -1,4 +1,5 @@
--- What a session tells of an analysis of a run of threads. Registers go by their numbers. This project's own.
+-- What a session tells of an analysis of a run of threads. Registers go by their numbers. This
+-- project's own.
 use Rattle.std.specs.Prelude.{ℕ, ◌↔◌, ◌+◌, ◌<◌, ◌≤◌, List, length, Option}
 use Rattle.rept_elf.specs.Symbols.{FunctionSymbol}
 use Rattle.rept_isa.specs.declared.row.StepRow.{StepRow}
@@ -13,10 +14,12 @@ use Rattle.rept_report.specs.declared.counts.Counts.{Counts}
 use Rattle.rept_session.specs.declared.place.ThreadPoint.{ThreadPoint}
 use Rattle.rept_session.specs.declared.place.ThreadPlace.{ThreadPlace}
 
--- The points of all threads have numbers, those of a thread side by side; registers have values at points. Moments have numbers of
--- their own; bytes have values at moments. In a run of one thread both are the points 0 to n.
+-- The points of all threads have numbers, those of a thread side by side; registers have values at
+-- points. Moments have numbers of their own; bytes have values at moments. In a run of one thread
+-- both are the points 0 to n.
 pub record Shown : Type 0 where
-  -- how many threads; of each of them the process, the steps, the address after the last one, and the number of its point 0
+  -- how many threads; of each of them the process, the steps, the address after the last one, and
+  -- the number of its point 0
   pub threads : ℕ
   pub process : ℕ → ℕ
   pub rows : ℕ → List StepRow
@@ -25,16 +28,18 @@ pub record Shown : Type 0 where
   -- how many points all threads have together, and the thread and point that a number stands for
   pub points : ℕ
   pub point : ℕ → ThreadPoint
-  -- at a point, the value of a register, the values that it may have, and the bits in which all of them are alike (a mask, and what they
-  -- are) where bits are followed
+  -- at a point, the value of a register, the values that it may have, and the bits in which all of
+  -- them are alike (a mask, and what they are) where bits are followed
   pub register : ℕ → ℕ → Option ℕ
   pub range : ℕ → ℕ → Range
   pub note : ℕ → ℕ → Option (ℕ × ℕ)
-  -- how many moments there are, the one at a point, and the thread and place that a number stands for
+  -- how many moments there are, the one at a point, and the thread and place that a number stands
+  -- for
   pub moments : ℕ
   pub moment : ℕ → ℕ
   pub place : ℕ → ThreadPlace
-  -- at a moment, the byte at an address, and the step that wrote it last; a step has the number of the point that it leads from
+  -- at a moment, the byte at an address, and the step that wrote it last; a step has the number of
+  -- the point that it leads from
   pub byte : ℕ → ℕ → Option ℕ
   pub writer : ℕ → ℕ → Writer
   pub counts : Counts
@@ -53,7 +58,8 @@ number s c = s.first c.thread + c.point
 abbrev pub moment_at : Shown → ThreadPoint → ℕ
 moment_at s c = s.moment (number s c)
 
--- what a session tells: what was found, how many packets were left out, and what is a reason of a fact
+-- what a session tells: what was found, how many packets were left out, and what is a reason of a
+-- fact
 pub record SessionTold : Type 1 where
   pub shown : Shown
   pub skipped : ℕ

@@ -1,4 +1,5 @@
--- What a session answers to a command. HEX below is `0x` and eight lower-case hexadecimal digits. This project's own.
+-- What a session answers to a command. HEX below is `0x` and eight lower-case hexadecimal digits.
+-- This project's own.
 use Rattle.std.specs.Prelude.{◌≡◌, ℕ, ◌+◌, ◌-◌, ◌*◌, ◌/◌, ◌%◌, ◌^◌, min, List, [], ◌∷◌, ◌++◌, length, map, reverse, take, Bool, true, false, ◌==◌, ◌&&◌, nat_le, nat_lt, Option, None, Some, slice_get, codes, MatchBool, if◌then◌else◌}
 use Rattle.std.specs.List.{flat_map, range_with_len}
 use Rattle.std.specs.Option.{option_and_then, option_map_or}
@@ -12,7 +13,7 @@ use Rattle.rept_partial.specs.declared.range.Range.{Range}
 use Rattle.rept_reason.specs.declared.fact.Fact.{Fact}
 use Rattle.rept_reason.specs.declared.fact.Cell.{Cell}
 use Rattle.rept_reason.specs.declared.fact.Cell.TheVariants.{Register, Byte}
-use Rattle.rept_reason.specs.declared.reason.Looked.{Looked}
+use Rattle.rept_reason.specs.declared.reason.RangePremise.{RangePremise}
 use Rattle.rept_report.specs.Why.{Because}
 use Rattle.rept_report.specs.declared.writer.Writer.{Writer}
 use Rattle.rept_report.specs.declared.writer.Writer.TheVariants as writer
@@ -27,7 +28,8 @@ use Rattle.rept_session.specs.declared.place.Place.TheVariants as places
 use Rattle.rept_session.specs.declared.place.ThreadPoint.{ThreadPoint}
 use Rattle.rept_session.specs.declared.place.ThreadPlace.{ThreadPlace}
 
--- the address at a point of a thread: that of the step that begins there, or the one after the last step
+-- the address at a point of a thread: that of the step that begins there, or the one after the last
+-- step
 abbrev pub pc_at : Shown → ThreadPoint → ℕ
 pc_at s c = option_map_or (λ row. row.at) (slice_get (s.rows c.thread) c.point) (s.end_pc c.thread)
 
@@ -66,7 +68,8 @@ register_lines s point = flat_map (register_line s point) (range_with_len 1 31)
 abbrev pub range_text : ℕ → Range → List ℕ
 range_text r range = register_text r ++ codes " " ++ hex_word range.lo ++ codes ".." ++ hex_word range.hi
 
--- ` known HEX value HEX`: a mask of the bits in which all values are alike, and what they are; nothing where bits aren't followed
+-- ` known HEX value HEX`: a mask of the bits in which all values are alike, and what they are;
+-- nothing where bits aren't followed
 abbrev pub note_text : Option (ℕ × ℕ) → List ℕ
 note_text None = []
 note_text (Some known) = codes " known " ++ hex_word known.0 ++ codes " value " ++ hex_word known.1
@@ -123,7 +126,8 @@ step_lines rows first count = flat_map (λ j. step_line j (slice_get rows j)) (r
 abbrev pub visible : ℕ → ℕ
 visible byte = if nat_le 33 byte && nat_le byte 126 then byte else 63
 
--- ` NAME+0xOFFSET`: the function that has an address, and how far the address is from its first one; nothing where none is named
+-- ` NAME+0xOFFSET`: the function that has an address, and how far the address is from its first
+-- one; nothing where none is named
 abbrev pub function_text : ℕ → Option FunctionSymbol → List ℕ
 function_text address None = []
 function_text address (Some s) = codes " " ++ map visible s.name ++ codes "+" ++ hex_text ((address + (2 ^ 32 - s.value)) % 2 ^ 32)
@@ -185,17 +189,18 @@ abbrev pub premise_line : Shown → Fact → List ℕ
 premise_line s fact = fact_line s (place_of s fact.cell fact.point) fact
 
 -- two spaces, and `range P xN HEX..HEX`, and ` of T`
-abbrev pub range_at_line : Shown → ThreadPoint → Looked → List ℕ
+abbrev pub range_at_line : Shown → ThreadPoint → RangePremise → List ℕ
 range_at_line s at looked = codes "  range " ++ decimal at.point ++ codes " " ++ range_text looked.reg looked.range ++ of_thread s at.thread ++ 10 ∷ []
 
-abbrev pub looked_line : Shown → Looked → List ℕ
+abbrev pub looked_line : Shown → RangePremise → List ℕ
 looked_line s looked = range_at_line s (s.point looked.point) looked
 
 -- `rule N`, its premises, and the ranges that it looked at
 abbrev pub reason_lines : Shown → Because → List ℕ
 reason_lines s why = codes "rule " ++ decimal why.rule ++ 10 ∷ [] ++ flat_map (premise_line s) why.premises ++ flat_map (looked_line s) why.ranges
 
--- why a cell has this value at a point or moment: `unknown` where it has none, else a reason of the fact
+-- why a cell has this value at a point or moment: `unknown` where it has none, else a reason of the
+-- fact
 abbrev pub IsExplained : SessionTold → ℕ → Cell → Option ℕ → List ℕ → Type 0
 IsExplained t point cell None text = text ≡ codes "unknown" ++ 10 ∷ []
 IsExplained t point cell (Some value) text = (why : Because) × (t.reasons (record { point = point; cell = cell; value = value }) why × (text ≡ reason_lines t.shown why))
@@ -212,7 +217,8 @@ at thread point = record { thread = thread; point = point }
 abbrev pub last_of : Shown → ℕ → ThreadPoint
 last_of s thread = at thread (length (s.rows thread))
 
--- the point after a command that leaves the cursor in its thread: `back` goes down to 0 at most, `fwd` up to the last point at most
+-- the point after a command that leaves the cursor in its thread: `back` goes down to 0 at most,
+-- `fwd` up to the last point at most
 abbrev pub point_after : ℕ → ℕ → Command → ℕ
 point_after last point (command.Back k) = point - k
 point_after last point (command.Fwd k) = min (point + k) last

@@ -20,7 +20,8 @@ use rept_report::Counts;
 use rept_word::{OutOfMemory, Text};
 use std::alloc::Global;
 
-/// The answer to a command at a cursor. `skipped` is the count of packets that the path was read without.
+/// The answer to a command at a cursor. `skipped` is the count of packets that the path was read
+/// without.
 ///
 /// The only refusal is out of memory. In each case the findings stay as they were.
 pub fn answer<F: Findings>(
@@ -48,7 +49,8 @@ pub fn answer<F: Findings>(
     })
 }
 
-/// The answer to a line at a cursor: that to its command, or `? N` for a line that is none, which leaves the cursor where it is.
+/// The answer to a line at a cursor: that to its command, or `? N` for a line that is none, which
+/// leaves the cursor where it is.
 ///
 /// The only refusal is out of memory. In each case the findings stay as they were.
 pub fn answer_line<F: Findings>(

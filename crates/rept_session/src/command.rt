@@ -6,8 +6,9 @@ ghost use Rattle.rept_session.specs.Commands.{number_of_refusal};
 use rept_isa::Reg;
 use thiserror::Error;
 
-/// A command of a session. A cursor is at a point of one thread. Points are counted from 0 before the thread's first step to n after its
-/// last one; steps from 0; threads from 0, in the order of the core file's register notes.
+/// A command of a session. A cursor is at a point of one thread. Points are counted from 0 before
+/// the thread's first step to n after its last one; steps from 0; threads from 0, in the order of
+/// the core file's register notes.
 #[derive(Clone, Copy, Debug)]
 pub enum Command {
     /// `where`: tells the cursor and the address there.
@@ -44,9 +45,11 @@ pub enum Command {
         /// how many steps, 1 to 256
         count: u32,
     },
-    /// `thread T`: moves the cursor to the last point of a thread, and tells the thread's process and the cursor.
+    /// `thread T`: moves the cursor to the last point of a thread, and tells the thread's process
+    /// and the cursor.
     Thread(u32),
-    /// `stack`: tells the address at the cursor and the calls that the thread is in there, the last one first, at most 256 lines.
+    /// `stack`: tells the address at the cursor and the calls that the thread is in there, the last
+    /// one first, at most 256 lines.
     Stack,
     /// `summary`: tells how much is known.
     Summary,
@@ -56,8 +59,8 @@ pub enum Command {
     Nothing,
 }
 
-/// Why a line is no command. The first check that fails is told, in this order: the line's length, its first word, how many words
-/// come after that, registers, numbers, limits.
+/// Why a line is no command. The first check that fails is told, in this order: the line's length,
+/// its first word, how many words come after that, registers, numbers, limits.
 #[derive(Clone, Copy, Debug, Error)]
 pub enum BadCommand {
     /// The first word names no command.
@@ -66,7 +69,7 @@ pub enum BadCommand {
     /// A word that has to be a number is none.
     #[error("a word is no number")]
     Number,
-    /// So many words come after the first one, and the command takes another count of them.
+    /// This many words come after the first one, and the command takes another count of them.
     #[error("the command doesn't take {0} words")]
     Words(usize),
     /// A word that has to be a register is none.

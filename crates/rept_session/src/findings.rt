@@ -19,10 +19,11 @@ use rept_report::{Counts, Writer};
 use rept_word::OutOfMemory;
 use std::alloc::Global;
 
-/// What an analysis of a run of threads found out. Threads have numbers from 0 on; a thread of n steps has the points 0 to n. The points
-/// of all threads have numbers, those of a thread side by side, and so have the moments at which bytes have values; of one thread both
-/// are its points. `shown` is all that a session tells of it but for reasons, and `reasons` says what is a reason of a fact; no call
-/// changes what they are.
+/// What an analysis of a run of threads found out. Threads have numbers from 0 on; a thread of n
+/// steps has the points 0 to n. The points of all threads have numbers, those of a thread side by
+/// side, and so have the moments at which bytes have values; of one thread both are its points.
+/// `shown` is all that a session tells of it but for reasons, and `reasons` says what is a reason
+/// of a fact; no call changes what they are.
 pub trait Findings {
     ghost shown: { Self → Shown };
 
@@ -84,8 +85,8 @@ pub trait Findings {
         requires { point < (shown self.now).points }
         ensures { result ≡ (shown self.now).range point register };
 
-    /// The bits in which all values that a register may have at a point are alike, where bits are followed: a mask, and what they
-    /// are. The bits of the second that aren't in the mask are 0.
+    /// The bits in which all values that a register may have at a point are alike, where bits are
+    /// followed: a mask, and what they are. The bits of the second that aren't in the mask are 0.
     fn note(&self, point: u32, register: Reg) -> Option<(u32, u32)>
         requires { point < (shown self.now).points }
         ensures { result ≡ (shown self.now).note point register };
@@ -95,8 +96,9 @@ pub trait Findings {
         requires { moment < (shown self.now).moments }
         ensures { result ≡ (shown self.now).byte moment address };
 
-    /// What is known of the step that last wrote the byte at an address before a moment. A step has the number of the point that it
-    /// leads from. A step that is named at a point of a thread came before it, and is named at each point of the thread since it came.
+    /// What is known of the step that last wrote the byte at an address before a moment. A step has
+    /// the number of the point that it leads from. A step that is named at a point of a thread came
+    /// before it, and is named at each point of the thread since it came.
     fn writer(&self, moment: u32, address: u32) -> Writer
         requires { moment < (shown self.now).moments }
         ensures value { result ≡ (shown self.now).writer moment address }
@@ -106,8 +108,9 @@ pub trait Findings {
     fn counts(&self) -> Counts
         ensures { result ≡ (shown self.now).counts };
 
-    /// The functions that have these addresses, and where they begin, where the files of the program name them: one answer for each
-    /// address. A refusal is for running out of memory alone.
+    /// The functions that have these addresses, and where they begin, where the files of the
+    /// program name them: one answer for each address. A refusal is for running out of memory
+    /// alone.
     fn symbols(
         &self,
         alloc: Global,
@@ -115,8 +118,8 @@ pub trait Findings {
     ) -> Result<Vec<Option<Symbol<'_>>>, OutOfMemory>
         ensures { IfOk result (λ found. map (option_map symbol_of) found.items ≡ map (shown self.now).symbol addresses.now) };
 
-    /// A reason of a fact, which isn't one of x0: its value needs no reason. None only where the fact isn't known. A refusal is for
-    /// running out of memory alone.
+    /// A reason of a fact, which isn't one of x0: its value needs no reason. None only where the
+    /// fact isn't known. A refusal is for running out of memory alone.
     fn why(&mut self, alloc: Global, fact: Fact) -> Result<Option<Reason>, OutOfMemory>
         requires point { fact.point < places_of (shown self.old) fact.cell }
         requires named { fact.cell ≢ Register 0 }

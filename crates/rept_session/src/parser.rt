@@ -21,8 +21,8 @@ const MOST_BYTES: usize = 256;
 /// The most bytes or steps that one command tells.
 const MOST_TOLD: u32 = 256;
 
-/// The command that a line is, over a thread whose last point is `last` in a run of so many threads, or the first check that fails.
-/// It takes no memory.
+/// The command that a line is, over a thread whose last point is `last` in a run of so many
+/// threads, or the first check that fails. It takes no memory.
 ///
 /// A line's words are parted by spaces and tabs. A line without words is `Nothing`.
 pub fn parse(line: &[u8], last: u32, threads: u32) -> Result<Command, BadCommand>

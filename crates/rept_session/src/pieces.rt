@@ -10,7 +10,7 @@ use crate::findings::Findings;
 use crate::place::{Place, ThreadPlace};
 use rept_isa::{Reg, Shown, StepRow};
 use rept_partial::{Partial, Range};
-use rept_reason::{Cell, Fact, Looked};
+use rept_reason::{Cell, Fact, RangePremise};
 use rept_report::Writer;
 use rept_word::{OutOfMemory, Text};
 use std::alloc::Global;
@@ -243,7 +243,7 @@ fn push_stored(text: &mut Text, address: u32, byte: u8) -> Result<(), OutOfMemor
 pub fn push_looked<F: Findings>(
     text: &mut Text,
     findings: &F,
-    looked: &Looked,
+    looked: &RangePremise,
 ) -> Result<(), OutOfMemory>
     ensures { OnOk result (text.new ≡ text.old ++ looked_line (F.shown findings.now) looked.now) }
 {

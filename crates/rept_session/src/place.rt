@@ -1,11 +1,13 @@
 //! Where in a run of threads something stands, as a session names it.
 
-/// A point of a thread. A thread of n steps has the points 0 to n; step i leads from point i to point i + 1.
+/// A point of a thread. A thread of n steps has the points 0 to n; step i leads from point i to
+/// point i + 1.
 #[derive(Clone, Copy)]
 pub struct ThreadPoint {
     /// the thread, from 0 on, in the order of the core file's register notes
     pub thread: u32,
-    /// the point, from 0 before the thread's first step to the count of its steps after the last one
+    /// the point, from 0 before the thread's first step to the count of its steps after the last
+    /// one
     pub point: u32,
 }
 
@@ -14,8 +16,8 @@ pub struct ThreadPoint {
 pub enum Place {
     /// The moment at this point of the thread: before the step of this number.
     Point(u32),
-    /// The moment after this step of the thread, which is another one than that before its next step: another thread may write
-    /// between them.
+    /// The moment after this step of the thread, which is another one than that before its next
+    /// step: another thread may write between them.
     After(u32),
     /// The end, after all steps of all threads.
     End,

@@ -9,7 +9,7 @@ ghost use Rattle.rept_session.specs.Texts.{IsExplained, IsRegisterExplained, loo
 use crate::findings::Findings;
 use crate::pieces::{push_looked, push_numbered, push_premise};
 use rept_isa::Reg;
-use rept_reason::{Cell, Fact, Looked, Reason};
+use rept_reason::{Cell, Fact, RangePremise, Reason};
 use rept_word::{OutOfMemory, Text};
 use std::alloc::Global;
 
@@ -140,7 +140,7 @@ fn push_premises<F: Findings>(
 fn push_ranges<F: Findings>(
     text: &mut Text,
     findings: &F,
-    ranges: &[Looked],
+    ranges: &[RangePremise],
 ) -> Result<(), OutOfMemory>
     ensures { OnOk result (text.new ≡ text.old ++ flat_map (looked_line (F.shown findings.now)) ranges.now) }
 {

@@ -18,7 +18,8 @@ use std::alloc::Global;
 /// The most lines that are told.
 const MOST_LINES: u32 = 256;
 
-/// The lines of the address at a point of a thread and of the calls that the thread is in there, the last one first.
+/// The lines of the address at a point of a thread and of the calls that the thread is in there,
+/// the last one first.
 pub fn stack_text<F: Findings>(
     alloc: Global,
     findings: &F,

@@ -4,7 +4,8 @@ ghost use Rattle.std.specs.Prelude.{◌≡◌, ◌∷◌, [], MatchOption, lengt
 ghost use Rattle.std.specs.List.{position};
 ghost use Rattle.rept_session.specs.Words.{is_blank, is_letter, is_some_part, words_in};
 
-/// The first word of a text, and what comes after the space or tab that ends it. None exactly where it has no word.
+/// The first word of a text, and what comes after the space or tab that ends it. None exactly where
+/// it has no word.
 pub fn first_word(text: &[u8]) -> Option<(&[u8], &[u8])>
     ensures { MatchOption result (words_in text.now ≡ []) (λ found. words_in text.now ≡ found.0.now ∷ words_in found.1.now) }
 {

@@ -1,4 +1,5 @@
--- The lines of a log, and what they tell. A newline ends a line (POSIX.1-2017, 3.206); the last one may lack it. What a line tells is an entry, and each kind of log has its own: of a line, its
+-- The lines of a log, and what they tell. A newline ends a line (POSIX.1-2017, 3.206); the last one
+-- may lack it. What a line tells is an entry, and each kind of log has its own: of a line, its
 -- number and an entry `tells` says that the line tells this entry.
 use Rattle.std.specs.Prelude.{◌≡◌, ◌≢◌, ℕ, ◌+◌, ◌-◌, ◌<◌, ◌≤◌, List, [], ◌∷◌, ◌++◌, length, take, drop, slice_get, slice_index, Some}
 use Rattle.rept_elf.specs.Checks.{checks, first_failure}
@@ -52,6 +53,7 @@ IsLogFault tells exe log (Executable fault) = first_failure (checks Exec exe) �
 IsLogFault tells exe log (NoEntry k) = IsNoEntry tells log k
 IsLogFault tells exe log OutOfMemory = Unit {0}
 
--- the last 65,537 of them: of one hart where each of the last 65,536 steps began, and where the last one led
+-- the last 65,537 of them: of one hart where each of the last 65,536 steps began, and where the
+-- last one led
 abbrev pub last_entries : {E : Type 0} → List E → List E
 last_entries entries = drop (length entries - 65537) entries

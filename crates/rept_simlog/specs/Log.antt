@@ -1,7 +1,8 @@
--- A log of executed addresses: one a line, in decimal digits, or in `0x` and hexadecimal ones. It is this project's own.
+-- A log of executed addresses: one a line, in decimal digits, or in `0x` and hexadecimal ones. It
+-- is this project's own.
 use Rattle.std.specs.Prelude.{◌≡◌, ℕ, ◌<◌, ◌^◌, ◌⊎◌, List, ◌∷◌}
 use Rattle.std.specs.Str.Parse.{IsNumeral, digits_value}
-use Rattle.rept_simlog.specs.declared.entry.Entry.{Entry}
+use Rattle.rept_simlog.specs.declared.entry.LogLine.{LogLine}
 
 -- The digits write a number below 2^32.
 pub record WritesNumber (radix : ℕ) (digits : List ℕ) (n : ℕ) : Type 0 where
@@ -18,6 +19,7 @@ pub record WritesHex (line : List ℕ) (n : ℕ) : Type 0 where
 abbrev pub IsLogNumber : List ℕ → ℕ → Type 0
 IsLogNumber line n = WritesNumber 10 line n ⊎ WritesHex line n
 
--- The line of this number tells the entry, which has the number of the line and the address that it writes.
-abbrev pub IsAddressEntry : ℕ → List ℕ → Entry → Type 0
+-- The line of this number tells the entry, which has the number of the line and the address that it
+-- writes.
+abbrev pub IsAddressEntry : ℕ → List ℕ → LogLine → Type 0
 IsAddressEntry number line entry = (entry.line ≡ number) × IsLogNumber line entry.address

@@ -7,17 +7,17 @@ use crate::lines::LogEntry;
 
 /// A line of a log: its number, from 1 on, and the address that it gives.
 #[derive(Clone, Copy)]
-pub struct Entry {
+pub struct LogLine {
     pub line: u32,
     pub address: u32,
 }
 
-impl LogEntry for Entry {
+impl LogEntry for LogLine {
     ghost tells = { IsAddressEntry };
 
-    fn of_line(line: &[u8], number: u32) -> Option<Entry> {
+    fn of_line(line: &[u8], number: u32) -> Option<LogLine> {
         match address_of(line) {
-            Some(address) => Some(Entry {
+            Some(address) => Some(LogLine {
                 line: number,
                 address,
             }),

@@ -13,6 +13,6 @@ mod walk;
 pub use address::address_of;
 pub use lines::LogEntry;
 pub use log::{Log, LogFault, last_entries, read_log};
-pub use program::Program;
+pub use program::LoggedProgram;
 pub use recorder::record;
-pub use refusal::Refusal;
+pub use refusal::SimLogRefusal;

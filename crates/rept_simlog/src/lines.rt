@@ -6,7 +6,8 @@ ghost use Rattle.rept_simlog.specs.Lines.{IsLineEnd, IsFirstLine, AreEntries, Is
 use crate::log::LogFault;
 use std::alloc::Global;
 
-/// What a line of a log tells. `tells` says of a line, its number and an entry that the line tells this entry.
+/// What a line of a log tells. `tells` says of a line, its number and an entry that the line tells
+/// this entry.
 pub trait LogEntry: Copy {
     ghost tells: { ℕ → List ℕ → Self → Type 0 };
 

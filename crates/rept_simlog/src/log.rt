@@ -7,7 +7,7 @@ ghost use Rattle.rept_simlog.specs.Lines.{AreEntries, IsLogFault, last_entries};
 ghost use Rattle.rept_simlog.specs.Program.{program_of, built};
 
 use crate::lines::{LogEntry, entries_of};
-use crate::program::Program;
+use crate::program::LoggedProgram;
 use rept_elf::{ElfFault, Image, Want};
 use std::alloc::Global;
 
@@ -25,7 +25,7 @@ pub enum LogFault {
 /// The code of an executable, and what the lines of a log over it tell.
 #[derive(Drop)]
 pub struct Log<'a, E: LogEntry> {
-    pub program: Program<'a>,
+    pub program: LoggedProgram<'a>,
     /// What each line tells, in order.
     pub entries: Vec<E>,
 }
@@ -33,7 +33,8 @@ pub struct Log<'a, E: LogEntry> {
 /// The most entries that are recorded: one more than the steps of the longest path.
 const MOST: usize = 65537;
 
-/// The last entries, as many as are recorded: 65,537 at most, one more than the steps of the longest path.
+/// The last entries, as many as are recorded: 65,537 at most, one more than the steps of the
+/// longest path.
 pub fn last_entries<E: LogEntry>(entries: &[E]) -> &[E]
     ensures last { result.now ≡ last_entries entries.now }
     ensures few { length result.now ≤ 65537 }
@@ -44,7 +45,8 @@ pub fn last_entries<E: LogEntry>(entries: &[E]) -> &[E]
     entries
 }
 
-/// An executable, and all entries of a log over it. A refusal is that of the executable, or it names the first line that tells nothing; or it is a want of memory and no other fault.
+/// An executable, and all entries of a log over it. A refusal is that of the executable, or it
+/// names the first line that tells nothing; or it is a want of memory and no other fault.
 pub fn read_log<'a, E: LogEntry>(
     alloc: Global,
     exe: &'a [u8],
@@ -62,7 +64,7 @@ pub fn read_log<'a, E: LogEntry>(
     };
     match entries_of(alloc, log) {
         Ok(entries) => Ok(Log {
-            program: Program::new(&image),
+            program: LoggedProgram::new(&image),
             entries,
         }),
         Err(fault) => Err(fault),

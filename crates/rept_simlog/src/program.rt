@@ -12,7 +12,7 @@ use rept_path::{PathFault, by_half, by_word};
 
 /// The code of an executable, and whether it may be compressed.
 #[derive(Clone, Copy)]
-pub struct Program<'a> {
+pub struct LoggedProgram<'a> {
     pub code: Code<'a>,
     pub halves: bool,
 }
@@ -27,34 +27,34 @@ fn is_compressed(file: &[u8]) -> bool
     }
 }
 
-impl<'a> Program<'a> {
+impl<'a> LoggedProgram<'a> {
     ghost use Rattle.std.specs.Prelude.{◌≡◌, ◌<◌, Ok, Err, IfOk, IfErr};
     ghost use Rattle.rept_elf.specs.Image.{file_of};
     ghost use Rattle.rept_path.specs.Code.{short_half, is_short, alignment, look};
     ghost use Rattle.rept_simlog.specs.Program.{program_of, built, site_of};
 
     /// The code of this executable.
-    pub fn new(image: &Image<'a>) -> Program<'a>
+    pub fn new(image: &Image<'a>) -> LoggedProgram<'a>
         ensures { program_of result ≡ built (file_of image.now) }
     {
-        Program {
+        LoggedProgram {
             code: Code::new(*image),
             halves: is_compressed(image.file()),
         }
     }
 
-    /// The same code, which is found near this address without a search among all segments.
-    pub fn near(&self, a: u32) -> Program<'a>
+    /// This code, found near this address without a search among all segments.
+    pub fn near(&self, a: u32) -> LoggedProgram<'a>
         ensures { program_of result ≡ program_of self.now }
     {
         let code = self.code.near(a);
         if self.halves {
-            return Program {
+            return LoggedProgram {
                 code: code.near_half(a),
                 halves: true,
             };
         }
-        Program {
+        LoggedProgram {
             code,
             halves: false,
         }

@@ -8,9 +8,9 @@ ghost use Rattle.rept_simlog.specs.Program.{program_of};
 ghost use Rattle.rept_simlog.specs.Recorded.{IsStepRefused, IsWalkFault};
 ghost use Rattle.rept_simlog.specs.Walk.{AddsRow, GoAlong, MayStep};
 
-use crate::entry::Entry;
-use crate::program::Program;
-use crate::refusal::Refusal;
+use crate::entry::LogLine;
+use crate::program::LoggedProgram;
+use crate::refusal::SimLogRefusal;
 use rept_encode::{StepFault, push_step};
 use rept_steps::Steps;
 use std::alloc::Global;
@@ -18,10 +18,10 @@ use std::alloc::Global;
 /// Adds the step from an entry to the next one, for which there is room.
 fn add_step(
     steps: &mut Steps,
-    program: &Program<'_>,
-    from: &Entry,
-    to: &Entry,
-) -> Result<(), Refusal>
+    program: &LoggedProgram<'_>,
+    from: &LogLine,
+    to: &LogLine,
+) -> Result<(), SimLogRefusal>
     requires steps { All (IsStepped program.now.halves) steps.old }
     requires ends { EndBefore steps.old from.now.address }
     requires few { length steps.old < 65536 }
@@ -33,20 +33,25 @@ fn add_step(
 {
     let site = match program.site_at(from.address) {
         Ok(site) => site,
-        Err(fault) => return Err(Refusal::NoInstruction(from.line, fault)),
+        Err(fault) => return Err(SimLogRefusal::NoInstruction(from.line, fault)),
     };
     match push_step(steps, program.halves, &site, to.address) {
         Ok(()) => Ok(()),
         Err(fault) => match fault {
-            StepFault::NoStep => Err(Refusal::NoStep(to.line)),
+            StepFault::NoStep => Err(SimLogRefusal::NoStep(to.line)),
             StepFault::Full => unreachable!(),
-            StepFault::OutOfMemory => Err(Refusal::OutOfMemory),
+            StepFault::OutOfMemory => Err(SimLogRefusal::OutOfMemory),
         },
     }
 }
 
-/// The steps of entries, of which there are two or more, and no more than the longest path has places.
-pub fn steps_of(alloc: Global, program: &Program<'_>, entries: &[Entry]) -> Result<Steps, Refusal>
+/// The steps of entries, of which there are two or more, and no more than the longest path has
+/// places.
+pub fn steps_of(
+    alloc: Global,
+    program: &LoggedProgram<'_>,
+    entries: &[LogLine],
+) -> Result<Steps, SimLogRefusal>
     requires some { 2 ≤ length entries.now }
     requires few { length entries.now ≤ 65537 }
     ensures along { IfOk result (λ steps. GoAlong (program_of program.now) entries.now steps) }

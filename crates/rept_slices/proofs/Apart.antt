@@ -13,13 +13,13 @@ use Rattle.rept_slices.specs.Order.{put, by_time, least, slices_of}
 use Rattle.rept_slices.specs.Skipping.{greatest, begin_past, end_skipped, ends_of}
 use Rattle.rept_slices.specs.Ends.{past_of, ends_in}
 use Rattle.rept_slices.specs.Entries.{IsEntryOf, AreEntriesOf}
-use Rattle.rept_slices.specs.declared.telling.Entry.{Entry}
+use Rattle.rept_slices.specs.declared.telling.StreamSlice.{StreamSlice}
 use Rattle.rept_slices.proofs.InTime.{Each, Ascend, ascends, each_put, each_by_time, each_of_time, each_filter}
 use Rattle.rept_slices.proofs.Past.{ascend_rest, past_there, past_sorted, past_own}
 use Rattle.rept_slices.proofs.Sorting.{like}
 
 -- entries stand for slices in one way
-pub same_told : (e : Entry) (t u : ToldSlice) → IsEntryOf e t → IsEntryOf e u → t ≡ u
+pub same_told : (e : StreamSlice) (t u : ToldSlice) → IsEntryOf e t → IsEntryOf e u → t ≡ u
 same_told e t u x y =
     let stream : t.stream ≡ u.stream = sym x.stream ∙ y.stream in
     let number : t.number ≡ u.number = sym x.number ∙ y.number in
@@ -28,7 +28,7 @@ same_told e t u x y =
     let inside : t.inside ≡ u.inside = sym x.inside ∙ y.inside in
     λ i. record { stream = stream i; number = number i; start = start i; later = later i; inside = inside i }
 
-pub same_all_told : (es : List Entry) (a b : List ToldSlice) → AreEntriesOf es a → AreEntriesOf es b → a ≡ b
+pub same_all_told : (es : List StreamSlice) (a b : List ToldSlice) → AreEntriesOf es a → AreEntriesOf es b → a ≡ b
 same_all_told [] a b x y = x ∙ sym y
 same_all_told (e ∷ es) [] b x y = absurd x
 same_all_told (e ∷ es) (t ∷ a) [] x y = absurd y
@@ -38,42 +38,42 @@ same_all_told (e ∷ es) (t ∷ a) (u ∷ b) x y =
     λ i. first i ∷ rest i
 
 -- entries each of which stands for a slice
-abbrev pub HasTold : Entry → Type 0
+abbrev pub HasTold : StreamSlice → Type 0
 HasTold e = (t : ToldSlice) × IsEntryOf e t
 
-pub each_told : (es : List Entry) (ts : List ToldSlice) → AreEntriesOf es ts → Each HasTold es
+pub each_told : (es : List StreamSlice) (ts : List ToldSlice) → AreEntriesOf es ts → Each HasTold es
 each_told [] ts a = tt
 each_told (e ∷ es) [] a = absurd a
 each_told (e ∷ es) (t ∷ ts) a = ((t, a.0), each_told es ts a.1)
 
-pub told_by_each : (es : List Entry) → Each HasTold es → (ts : List ToldSlice) × AreEntriesOf es ts
+pub told_by_each : (es : List StreamSlice) → Each HasTold es → (ts : List ToldSlice) × AreEntriesOf es ts
 told_by_each [] h = ([], refl)
 told_by_each (e ∷ es) h =
     let r = told_by_each es h.1 in
     (h.0.0 ∷ r.0, (h.0.1, r.1))
 
-abbrev pub entry_thread : Entry → ℕ
+abbrev pub entry_thread : StreamSlice → ℕ
 entry_thread e = context_of e.start
 
-abbrev pub entry_begin : Entry → ℕ
+abbrev pub entry_begin : StreamSlice → ℕ
 entry_begin e = clock_of e.start
 
 -- those of one thread, and those in order
-pub told_filter : (n : ℕ) (es : List Entry) (ts : List ToldSlice) → AreEntriesOf es ts → AreEntriesOf (filter (λ (e : Entry). context_of e.start == n) es) (filter (λ (t : ToldSlice). thread_of t == n) ts)
+pub told_filter : (n : ℕ) (es : List StreamSlice) (ts : List ToldSlice) → AreEntriesOf es ts → AreEntriesOf (filter (λ (e : StreamSlice). context_of e.start == n) es) (filter (λ (t : ToldSlice). thread_of t == n) ts)
 told_filter n [] ts a = ap (filter (λ (t : ToldSlice). thread_of t == n)) a
 told_filter n (e ∷ es) [] a = absurd a
 told_filter n (e ∷ es) (t ∷ ts) a =
     let same : (context_of e.start == n) ≡ (thread_of t == n) = ap (λ (p : Packet). context_of p == n) (a.0).start in
     go (context_of e.start == n) (thread_of t == n) same (told_filter n es ts a.1)
   where
-    go : (b c : Bool) → b ≡ c → AreEntriesOf (filter (λ (e : Entry). context_of e.start == n) es) (filter (λ (t : ToldSlice). thread_of t == n) ts)
-        → AreEntriesOf (cond b (e ∷ filter (λ (e : Entry). context_of e.start == n) es) (filter (λ (e : Entry). context_of e.start == n) es)) (cond c (t ∷ filter (λ (t : ToldSlice). thread_of t == n) ts) (filter (λ (t : ToldSlice). thread_of t == n) ts))
+    go : (b c : Bool) → b ≡ c → AreEntriesOf (filter (λ (e : StreamSlice). context_of e.start == n) es) (filter (λ (t : ToldSlice). thread_of t == n) ts)
+        → AreEntriesOf (cond b (e ∷ filter (λ (e : StreamSlice). context_of e.start == n) es) (filter (λ (e : StreamSlice). context_of e.start == n) es)) (cond c (t ∷ filter (λ (t : ToldSlice). thread_of t == n) ts) (filter (λ (t : ToldSlice). thread_of t == n) ts))
     go true true h r = (a.0, r)
     go true false h r = absurd (cc)
     go false true h r = absurd (cc)
     go false false h r = r
 
-told_put : (e : Entry) (t : ToldSlice) (es : List Entry) (ts : List ToldSlice) → IsEntryOf e t → AreEntriesOf es ts → AreEntriesOf (put entry_begin e es) (put begin_of t ts)
+told_put : (e : StreamSlice) (t : ToldSlice) (es : List StreamSlice) (ts : List ToldSlice) → IsEntryOf e t → AreEntriesOf es ts → AreEntriesOf (put entry_begin e es) (put begin_of t ts)
 told_put e t [] ts is a = subst (λ (us : List ToldSlice). AreEntriesOf (e ∷ []) (put begin_of t us)) (sym a) (is, refl)
 told_put e t (f ∷ es) [] is a = absurd a
 told_put e t (f ∷ es) (u ∷ ts) is a =
@@ -86,13 +86,13 @@ told_put e t (f ∷ es) (u ∷ ts) is a =
     go false true h r = absurd (cc)
     go false false h r = (a.0, r)
 
-pub told_by_time : (es : List Entry) (ts : List ToldSlice) → AreEntriesOf es ts → AreEntriesOf (by_time entry_begin es) (by_time begin_of ts)
+pub told_by_time : (es : List StreamSlice) (ts : List ToldSlice) → AreEntriesOf es ts → AreEntriesOf (by_time entry_begin es) (by_time begin_of ts)
 told_by_time [] ts a = ap (by_time begin_of) a
 told_by_time (e ∷ es) [] a = absurd a
 told_by_time (e ∷ es) (t ∷ ts) a = told_put e t (by_time entry_begin es) (by_time begin_of ts) a.0 (told_by_time es ts a.1)
 
-pub told_slices : (n : ℕ) (es : List Entry) (ts : List ToldSlice) → AreEntriesOf es ts → AreEntriesOf (by_time entry_begin (filter (λ (e : Entry). context_of e.start == n) es)) (slices_of n ts)
-told_slices n es ts a = told_by_time (filter (λ (e : Entry). context_of e.start == n) es) (filter (λ (t : ToldSlice). thread_of t == n) ts) (told_filter n es ts a)
+pub told_slices : (n : ℕ) (es : List StreamSlice) (ts : List ToldSlice) → AreEntriesOf es ts → AreEntriesOf (by_time entry_begin (filter (λ (e : StreamSlice). context_of e.start == n) es)) (slices_of n ts)
+told_slices n es ts a = told_by_time (filter (λ (e : StreamSlice). context_of e.start == n) es) (filter (λ (t : ToldSlice). thread_of t == n) ts) (told_filter n es ts a)
 
 -- None of them is of this number.
 abbrev pub Alone : ℕ → List ToldSlice → Type 0

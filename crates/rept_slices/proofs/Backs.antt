@@ -12,7 +12,8 @@ use Rattle.rept_slices.specs.Checks.{back_from}
 use Rattle.rept_slices.specs.Latest.{latest_by}
 use Rattle.rept_slices.proofs.Going.{Bytes}
 
--- The packets that were read, newest first, and those that are left: whether one of the former is later than a time is asked of the latest time.
+-- The packets that were read, newest first, and those that are left: whether one of the former is
+-- later than a time is asked of the latest time.
 pub record Back (all : Bytes) (number : ℕ) (rest : Bytes) (k latest : ℕ) : Type 0 where
   pub done : List Packet
   pub more : List Packet

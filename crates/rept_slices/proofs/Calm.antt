@@ -99,7 +99,8 @@ pub each_append : {A : Type 0} (P : A → Type 0) (xs ys : List A) → Each P xs
 each_append P [] ys a b = b
 each_append P (x ∷ xs) ys a b = (a.0, each_append P xs ys a.1 b)
 
--- What holds of the packets of each stream, and of those from any place on, holds of those that are left.
+-- What holds of the packets of each stream, and of those from any place on, holds of those that are
+-- left.
 module _ (Q : List Packet → Type 0) (dropped : (k : ℕ) (packets : List Packet) → Q packets → Q (drop k packets)) where
   abbrev pub LeftIs : LeftPackets → Type 0
   LeftIs l = Q l.packets

@@ -17,7 +17,7 @@ use Rattle.rept_slices.specs.Order.{head_of}
 use Rattle.rept_slices.specs.Skipping.{whole, numbered, window_of}
 use Rattle.rept_slices.specs.Checks.{first_fault, startless, all_idle, back_from, time_back}
 use Rattle.rept_slices.specs.Windows.{IsStreamWindow, AreWindows, AreAll}
-use Rattle.rept_slices.specs.declared.reading.Window.{Window}
+use Rattle.rept_slices.specs.declared.reading.StreamWindow.{StreamWindow}
 use Rattle.rept_slices.proofs.Begun.{window_is}
 
 pub fault_on : {A : Type 0} (check : A → Option PathFault) (x : A) (xs : List A) → check x ≡ None → first_fault check (x ∷ xs) ≡ first_fault check xs
@@ -37,7 +37,7 @@ same_window packets from (Some i) None x y = absurd (y i x.may)
 same_window packets from (Some i) (Some j) x y = ap Some (one_window packets from i j x y)
 
 -- one stream
-module _ (s k from : ℕ) (stream : Stream) (w : Window) where
+module _ (s k from : ℕ) (stream : Stream) (w : StreamWindow) where
   pub unique : (packets : List Packet) → IsStreamWindow s k from stream packets w → window_of from packets ≡ number_in w.begin
   unique packets is = same_window packets from (window_of from packets) (number_in w.begin) (window_is from packets) is.surveys.window
 
@@ -59,7 +59,7 @@ module _ (s k from : ℕ) (stream : Stream) (w : Window) where
       rw u (ap (λ (n : ℕ). Some (NoStart n)) e)
 
 -- The streams from a number on, after those that pass a check.
-pub record Rest (check : LeftPackets → Option PathFault) (from : ℕ) (lists : List (List Packet)) (ws : List Window) (s : ℕ) : Type 0 where
+pub record Rest (check : LeftPackets → Option PathFault) (from : ℕ) (lists : List (List Packet)) (ws : List StreamWindow) (s : ℕ) : Type 0 where
   pub k : ℕ
   pub others : List Stream
   pub later : List (List Packet)
@@ -67,11 +67,11 @@ pub record Rest (check : LeftPackets → Option PathFault) (from : ℕ) (lists :
   pub same : first_fault check (whole lists) ≡ first_fault check (numbered s k later)
   pub few : k + sum_by (λ packets. length packets) later < 2 ^ 32
 
-pub all_rest : (check : LeftPackets → Option PathFault) (from : ℕ) (streams : List Stream) (lists : List (List Packet)) (ws : List Window) → AreAll from streams lists ws → Rest check from lists ws 0
+pub all_rest : (check : LeftPackets → Option PathFault) (from : ℕ) (streams : List Stream) (lists : List (List Packet)) (ws : List StreamWindow) → AreAll from streams lists ws → Rest check from lists ws 0
 all_rest check from streams lists ws a = let few = a.few in record { k = 0; others = streams; later = lists; windows = a.windows; same = refl; few = omega arith }
 
 -- the first of the streams that are left
-pub record Opened (check : LeftPackets → Option PathFault) (from : ℕ) (lists : List (List Packet)) (w : Window) (ws : List Window) (s : ℕ) : Type 0 where
+pub record Opened (check : LeftPackets → Option PathFault) (from : ℕ) (lists : List (List Packet)) (w : StreamWindow) (ws : List StreamWindow) (s : ℕ) : Type 0 where
   pub k : ℕ
   pub stream : Stream
   pub packets : List Packet
@@ -82,21 +82,21 @@ pub record Opened (check : LeftPackets → Option PathFault) (from : ℕ) (lists
   pub same : first_fault check (whole lists) ≡ first_fault check (left s k packets ∷ numbered (suc s) (k + length packets) later)
   pub few : k + length packets + sum_by (λ packets. length packets) later < 2 ^ 32
 
-pub opened : (check : LeftPackets → Option PathFault) (from : ℕ) (lists : List (List Packet)) (w : Window) (ws : List Window) (s : ℕ) → Rest check from lists (w ∷ ws) s → Opened check from lists w ws s
+pub opened : (check : LeftPackets → Option PathFault) (from : ℕ) (lists : List (List Packet)) (w : StreamWindow) (ws : List StreamWindow) (s : ℕ) → Rest check from lists (w ∷ ws) s → Opened check from lists w ws s
 opened check from lists w ws s r = go r.others r.later r.windows r.same r.few where
   go : (others : List Stream) (later : List (List Packet)) → AreWindows s r.k from others later (w ∷ ws) → first_fault check (whole lists) ≡ first_fault check (numbered s r.k later) → r.k + sum_by (λ packets. length packets) later < 2 ^ 32 → Opened check from lists w ws s
   go [] later are same few = let e = are.1 in absurd ((cc))
   go (stream ∷ others) [] are same few = absurd are
   go (stream ∷ others) (packets ∷ later) are same few = record { k = r.k; stream = stream; packets = packets; others = others; later = later; first = are.0; windows = are.1; same = same; few = omega (arith, sum_by-cons (λ (ps : List Packet). length ps) packets later, few) }
 
-pub one_passes : (check : LeftPackets → Option PathFault) (from : ℕ) (lists : List (List Packet)) (w : Window) (ws : List Window) (s : ℕ) → Rest check from lists (w ∷ ws) s
+pub one_passes : (check : LeftPackets → Option PathFault) (from : ℕ) (lists : List (List Packet)) (w : StreamWindow) (ws : List StreamWindow) (s : ℕ) → Rest check from lists (w ∷ ws) s
     → ((k : ℕ) (stream : Stream) (packets : List Packet) → IsStreamWindow s k from stream packets w → check (left s k packets) ≡ None) → Rest check from lists ws (s + 1)
 one_passes check from lists w ws s r passes =
     let o = opened check from lists w ws s r in
     let on : first_fault check (whole lists) ≡ first_fault check (numbered (suc s) (o.k + length o.packets) o.later) = o.same ∙ fault_on check (left s o.k o.packets) (numbered (suc s) (o.k + length o.packets) o.later) (passes o.k o.stream o.packets o.first) in
     rw add-one (record { k = o.k + length o.packets; others = o.others; later = o.later; windows = o.windows; same = on; few = o.few })
 
-pub one_fails : (check : LeftPackets → Option PathFault) (from : ℕ) (lists : List (List Packet)) (w : Window) (ws : List Window) (s : ℕ) (e : PathFault) → Rest check from lists (w ∷ ws) s
+pub one_fails : (check : LeftPackets → Option PathFault) (from : ℕ) (lists : List (List Packet)) (w : StreamWindow) (ws : List StreamWindow) (s : ℕ) (e : PathFault) → Rest check from lists (w ∷ ws) s
     → ((k : ℕ) (stream : Stream) (packets : List Packet) → IsStreamWindow s k from stream packets w → Some e ≡ check (left s k packets)) → Some e ≡ first_fault check (whole lists)
 one_fails check from lists w ws s e r fails =
     let o = opened check from lists w ws s r in
@@ -110,7 +110,7 @@ none_fails check from lists s r = go r.others r.later r.windows r.same where
   go (stream ∷ others) (packets ∷ later) are same = absurd are
 
 -- the packets of the first stream that is left
-pub holds_first : (check : LeftPackets → Option PathFault) (from : ℕ) (lists : List (List Packet)) (w : Window) (ws : List Window) (s : ℕ) → Rest check from lists (w ∷ ws) s → (packets : List Packet) × Hold (rest_of w.packets) packets × (w.number + length packets < 2 ^ 32)
+pub holds_first : (check : LeftPackets → Option PathFault) (from : ℕ) (lists : List (List Packet)) (w : StreamWindow) (ws : List StreamWindow) (s : ℕ) → Rest check from lists (w ∷ ws) s → (packets : List Packet) × Hold (rest_of w.packets) packets × (w.number + length packets < 2 ^ 32)
 holds_first check from lists w ws s r =
     let o = opened check from lists w ws s r in
     let number = o.first.number in
@@ -118,17 +118,17 @@ holds_first check from lists w ws s r =
     (o.packets, subst (λ (x : Stream). Hold x o.packets) (sym o.first.rest) o.first.surveys.hold, omega (arith, number, few))
 
 -- The streams from a number on, after those that have no packets.
-pub record Idle (from : ℕ) (lists : List (List Packet)) (ws : List Window) (s : ℕ) : Type 0 where
+pub record Idle (from : ℕ) (lists : List (List Packet)) (ws : List StreamWindow) (s : ℕ) : Type 0 where
   pub k : ℕ
   pub others : List Stream
   pub later : List (List Packet)
   pub windows : AreWindows s k from others later ws
   pub same : all_idle lists ≡ all_idle later
 
-pub none_idle : (from : ℕ) (streams : List Stream) (lists : List (List Packet)) (ws : List Window) → AreAll from streams lists ws → Idle from lists ws 0
+pub none_idle : (from : ℕ) (streams : List Stream) (lists : List (List Packet)) (ws : List StreamWindow) → AreAll from streams lists ws → Idle from lists ws 0
 none_idle from streams lists ws a = record { k = 0; others = streams; later = lists; windows = a.windows; same = refl }
 
-pub idle_on : (from : ℕ) (lists : List (List Packet)) (w : Window) (ws : List Window) (s : ℕ) → Idle from lists (w ∷ ws) s → w.count ≡ 0 → Idle from lists ws (s + 1)
+pub idle_on : (from : ℕ) (lists : List (List Packet)) (w : StreamWindow) (ws : List StreamWindow) (s : ℕ) → Idle from lists (w ∷ ws) s → w.count ≡ 0 → Idle from lists ws (s + 1)
 idle_on from lists w ws s r none = go r.others r.later r.windows r.same where
   go : (others : List Stream) (later : List (List Packet)) → AreWindows s r.k from others later (w ∷ ws) → all_idle lists ≡ all_idle later → Idle from lists ws (s + 1)
   go [] later are same = let e = are.1 in absurd ((cc))
@@ -136,7 +136,7 @@ idle_on from lists w ws s r none = go r.others r.later r.windows r.same where
   go (stream ∷ others) ([] ∷ later) are same = rw add-one (record { k = r.k + 0; others = others; later = later; windows = are.1; same = same })
   go (stream ∷ others) ((p ∷ packets) ∷ later) are same = let e = (are.0).surveys.count in absurd (omega arith)
 
-pub not_idle : (from : ℕ) (lists : List (List Packet)) (w : Window) (ws : List Window) (s : ℕ) → Idle from lists (w ∷ ws) s → 0 < w.count → None ≡ all_idle lists
+pub not_idle : (from : ℕ) (lists : List (List Packet)) (w : StreamWindow) (ws : List StreamWindow) (s : ℕ) → Idle from lists (w ∷ ws) s → 0 < w.count → None ≡ all_idle lists
 not_idle from lists w ws s r some = go r.others r.later r.windows r.same where
   go : (others : List Stream) (later : List (List Packet)) → AreWindows s r.k from others later (w ∷ ws) → all_idle lists ≡ all_idle later → None ≡ all_idle lists
   go [] later are same = let e = are.1 in absurd ((cc))
@@ -155,22 +155,22 @@ pub fault_last : (o : Option PathFault) → o ≡ first_fault (λ found. found) 
 fault_last None = refl
 fault_last (Some e) = refl
 
-pub split : (ws : List Window) (i : ℕ) (w : Window) → i < length ws → w ≡ get_or ws i w → drop i ws ≡ w ∷ drop (i + 1) ws
-split ws i w within at = at_drop_more (λ (vs : List Window). vs) ws i w within ∙ ap (λ (v : Window). v ∷ drop (i + 1) ws) (sym at)
+pub split : (ws : List StreamWindow) (i : ℕ) (w : StreamWindow) → i < length ws → w ≡ get_or ws i w → drop i ws ≡ w ∷ drop (i + 1) ws
+split ws i w within at = at_drop_more (λ (vs : List StreamWindow). vs) ws i w within ∙ ap (λ (v : StreamWindow). v ∷ drop (i + 1) ws) (sym at)
 
 -- the stream of a number is the first of those from it on
-pub rest_at : (check : LeftPackets → Option PathFault) (from : ℕ) (lists : List (List Packet)) (ws : List Window) (i : ℕ) (w : Window) → i < length ws → w ≡ get_or ws i w → Rest check from lists (drop i ws) i → Rest check from lists (w ∷ drop (i + 1) ws) i
-rest_at check from lists ws i w within at r = subst (λ (vs : List Window). Rest check from lists vs i) (split ws i w within at) r
+pub rest_at : (check : LeftPackets → Option PathFault) (from : ℕ) (lists : List (List Packet)) (ws : List StreamWindow) (i : ℕ) (w : StreamWindow) → i < length ws → w ≡ get_or ws i w → Rest check from lists (drop i ws) i → Rest check from lists (w ∷ drop (i + 1) ws) i
+rest_at check from lists ws i w within at r = subst (λ (vs : List StreamWindow). Rest check from lists vs i) (split ws i w within at) r
 
-pub rest_end : (check : LeftPackets → Option PathFault) (from : ℕ) (lists : List (List Packet)) (ws : List Window) (i : ℕ) → length ws ≤ i → Rest check from lists (drop i ws) i → Rest check from lists [] i
-rest_end check from lists ws i past r = subst (λ (vs : List Window). Rest check from lists vs i) (at_drop_all (λ (vs : List Window). vs) ws i past) r
+pub rest_end : (check : LeftPackets → Option PathFault) (from : ℕ) (lists : List (List Packet)) (ws : List StreamWindow) (i : ℕ) → length ws ≤ i → Rest check from lists (drop i ws) i → Rest check from lists [] i
+rest_end check from lists ws i past r = subst (λ (vs : List StreamWindow). Rest check from lists vs i) (at_drop_all (λ (vs : List StreamWindow). vs) ws i past) r
 
-pub idle_at : (from : ℕ) (lists : List (List Packet)) (ws : List Window) (i : ℕ) (w : Window) → i < length ws → w ≡ get_or ws i w → Idle from lists (drop i ws) i → Idle from lists (w ∷ drop (i + 1) ws) i
-idle_at from lists ws i w within at r = subst (λ (vs : List Window). Idle from lists vs i) (split ws i w within at) r
+pub idle_at : (from : ℕ) (lists : List (List Packet)) (ws : List StreamWindow) (i : ℕ) (w : StreamWindow) → i < length ws → w ≡ get_or ws i w → Idle from lists (drop i ws) i → Idle from lists (w ∷ drop (i + 1) ws) i
+idle_at from lists ws i w within at r = subst (λ (vs : List StreamWindow). Idle from lists vs i) (split ws i w within at) r
 
-pub idle_end : (from : ℕ) (lists : List (List Packet)) (ws : List Window) (i : ℕ) → length ws ≤ i → Idle from lists (drop i ws) i → Idle from lists [] i
-idle_end from lists ws i past r = subst (λ (vs : List Window). Idle from lists vs i) (at_drop_all (λ (vs : List Window). vs) ws i past) r
+pub idle_end : (from : ℕ) (lists : List (List Packet)) (ws : List StreamWindow) (i : ℕ) → length ws ≤ i → Idle from lists (drop i ws) i → Idle from lists [] i
+idle_end from lists ws i past r = subst (λ (vs : List StreamWindow). Idle from lists vs i) (at_drop_all (λ (vs : List StreamWindow). vs) ws i past) r
 
 -- what is told of what is read is told of the stream
-pub back_of : (s k from : ℕ) (stream : Stream) (packets : List Packet) (w : Window) (found : Option PathFault) → IsStreamWindow s k from stream packets w → ((list : List Packet) → Hold (rest_of w.packets) list → found ≡ back_from w.number [] list) → found ≡ time_back (left s k packets)
+pub back_of : (s k from : ℕ) (stream : Stream) (packets : List Packet) (w : StreamWindow) (found : Option PathFault) → IsStreamWindow s k from stream packets w → ((list : List Packet) → Hold (rest_of w.packets) list → found ≡ back_from w.number [] list) → found ≡ time_back (left s k packets)
 back_of s k from stream packets w found is told = told packets (subst (λ (x : Stream). Hold x packets) (sym is.rest) is.surveys.hold) ∙ ap (λ (n : ℕ). back_from n [] packets) is.number

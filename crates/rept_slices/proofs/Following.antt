@@ -80,7 +80,8 @@ head_first_told s k (p ∷ later) others h = elim (kind p) [
   passed : is_start p ≡ false → running_after p None ≡ None → HeadFirst (told_from s (suc k) None later ++ others) → HeadFirst (cond (is_start p) (here ∷ rest) rest ++ others)
   passed e runs more = subst (λ (b : Bool). HeadFirst (cond b (here ∷ rest) rest ++ others)) (sym e) (subst (λ (o : Option ℕ). HeadFirst (told_from s (suc k) o later ++ others)) (sym runs) more)
 
--- A slice and those after it are what its stream tells from its start packet on, and slices of later packets than those of the stream.
+-- A slice and those after it are what its stream tells from its start packet on, and slices of
+-- later packets than those of the stream.
 pub record Follows (t : ToldSlice) (later : List ToldSlice) : Type 0 where
   pub others : List ToldSlice
   pub same : t ∷ later ≡ told_from t.stream t.number t.inside (t.start ∷ t.later) ++ others
@@ -118,7 +119,8 @@ follow_told s k inside (p ∷ later) others a b h f = go (is_start p) refl (foll
 abbrev pub Fits : ℕ → ℕ → LeftPackets → Type 0
 Fits k m l = (k ≤ m) × ((l.packets ≡ []) ⊎ ((k ≤ l.number) × (l.number + length l.packets ≤ m)))
 
--- Streams that stand one after the other, from that of this number on, with packets of numbers from the one to the other.
+-- Streams that stand one after the other, from that of this number on, with packets of numbers from
+-- the one to the other.
 abbrev pub Spaced : ℕ → ℕ → ℕ → List LeftPackets → Type 0
 Spaced s k n [] = k ≤ n
 Spaced s k n (l ∷ ls) = (m : ℕ) × (l.stream ≡ s) × Fits k m l × Spaced (suc s) m n ls

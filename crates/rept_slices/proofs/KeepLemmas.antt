@@ -15,7 +15,7 @@ use Rattle.rept_slices.specs.Stamps.{clock_of, is_start}
 use Rattle.rept_slices.specs.Parts.{LeftPackets}
 use Rattle.rept_slices.specs.Skipping.{opening, full_from, greatest, from_time}
 use Rattle.rept_slices.specs.Lefts.{BeginsWith, IsLeftBy, IsLeft, AreLeft, later_of, later_by, before_time, BeginsFrom}
-use Rattle.rept_slices.specs.declared.reading.Window.{Window}
+use Rattle.rept_slices.specs.declared.reading.StreamWindow.{StreamWindow}
 use Rattle.rept_slices.proofs.Checking.{split}
 use Rattle.rept_slices.proofs.Going.{Bytes}
 use Rattle.rept_slices.proofs.WindowLemmas.{split_left}
@@ -37,39 +37,39 @@ later_on a (Some n) l ls e =
     let w : max a (max n (full_from ls)) ≡ max (max a n) (full_from ls) = omega arith in
     x ∙ y ∙ w ∙ sym z
 
-pub opens : (w : Window) (l : LeftPackets) → IsLeft w l → (o : Option Begin) → w.begin ≡ o → IsLeftBy l w.number o
+pub opens : (w : StreamWindow) (l : LeftPackets) → IsLeft w l → (o : Option Begin) → w.begin ≡ o → IsLeftBy l w.number o
 opens w l is o e = subst (λ (b : Option Begin). IsLeftBy l w.number b) e is.begin
 
 first_time_of : (l : LeftPackets) (packets : List Packet) → l.packets ≡ packets → opening l ≡ opening (record { stream = l.stream; number = l.number; packets = packets })
 first_time_of l packets e = ap (λ (ps : List Packet). opening (record { stream = l.stream; number = l.number; packets = ps })) e
 
-pub opens_never : (w : Window) (l : LeftPackets) → IsLeft w l → w.begin ≡ None → None ≡ opening l
+pub opens_never : (w : StreamWindow) (l : LeftPackets) → IsLeft w l → w.begin ≡ None → None ≡ opening l
 opens_never w l is none = sym (first_time_of l [] (opens w l is None none))
 
-pub opens_at : (w : Window) (l : LeftPackets) (b : Begin) → IsLeft w l → w.begin ≡ Some b → Some (clock_of b.first) ≡ opening l
+pub opens_at : (w : StreamWindow) (l : LeftPackets) (b : Begin) → IsLeft w l → w.begin ≡ Some b → Some (clock_of b.first) ≡ opening l
 opens_at w l b is some = let t = opens w l is (Some b) some in sym (first_time_of l (b.first ∷ t.later) t.packets)
 
 -- The greatest so far, and what is left.
-pub record Greatest (lefts : List LeftPackets) (ws : List Window) (now : ℕ) : Type 0 where
+pub record Greatest (lefts : List LeftPackets) (ws : List StreamWindow) (now : ℕ) : Type 0 where
   pub later : List LeftPackets
   pub left : AreLeft ws later
   pub same : full_from lefts ≡ later_of now (full_from later)
 
-pub none_greatest : (lefts : List LeftPackets) (ws : List Window) → AreLeft ws lefts → Greatest lefts ws 0
+pub none_greatest : (lefts : List LeftPackets) (ws : List StreamWindow) → AreLeft ws lefts → Greatest lefts ws 0
 none_greatest lefts ws a = record { later = lefts; left = a; same = let e = later_is 0 (full_from lefts) in omega (arith, e) }
 
-pub one_greatest : (lefts : List LeftPackets) (ws : List Window) (i : ℕ) (w : Window) (now : ℕ) (o : Option ℕ) → i < length ws → w ≡ get_or ws i w → ((l : LeftPackets) → IsLeft w l → o ≡ opening l) → Greatest lefts (drop i ws) now → Greatest lefts (drop (i + 1) ws) (later_by now o)
+pub one_greatest : (lefts : List LeftPackets) (ws : List StreamWindow) (i : ℕ) (w : StreamWindow) (now : ℕ) (o : Option ℕ) → i < length ws → w ≡ get_or ws i w → ((l : LeftPackets) → IsLeft w l → o ≡ opening l) → Greatest lefts (drop i ws) now → Greatest lefts (drop (i + 1) ws) (later_by now o)
 one_greatest lefts ws i w now o within at opened g =
-    let s = split_left w (drop (i + 1) ws) g.later (subst (λ (vs : List Window). AreLeft vs g.later) (split ws i w within at) g.left) in
+    let s = split_left w (drop (i + 1) ws) g.later (subst (λ (vs : List StreamWindow). AreLeft vs g.later) (split ws i w within at) g.left) in
     record {
       later = s.1;
       left = s.4;
       same = g.same ∙ ap (λ (ls : List LeftPackets). later_of now (full_from ls)) s.2 ∙ later_on now o s.0 s.1 (sym (opened s.0 s.3));
     }
 
-pub all_greatest : (lefts : List LeftPackets) (ws : List Window) (i now : ℕ) → length ws ≤ i → Greatest lefts (drop i ws) now → now ≡ full_from lefts
+pub all_greatest : (lefts : List LeftPackets) (ws : List StreamWindow) (i now : ℕ) → length ws ≤ i → Greatest lefts (drop i ws) now → now ≡ full_from lefts
 all_greatest lefts ws i now past g =
-    let none : g.later ≡ [] = subst (λ (vs : List Window). AreLeft vs g.later) (at_drop_all (λ (vs : List Window). vs) ws i past) g.left in
+    let none : g.later ≡ [] = subst (λ (vs : List StreamWindow). AreLeft vs g.later) (at_drop_all (λ (vs : List StreamWindow). vs) ws i past) g.left in
     let e : full_from lefts ≡ later_of now 0 = g.same ∙ ap (λ (ls : List LeftPackets). later_of now (full_from ls)) none in
     let m = later_is now 0 in
     omega (arith, e, m)
@@ -151,7 +151,7 @@ module _ (time number : ℕ) (wanted : List Packet → List Packet) (all : Bytes
       t.same list h ∙ ap (λ (xs : List Packet). drop (before_time time xs) xs) none
 
 -- what is left of one stream
-module _ (time : ℕ) (w : Window) (l : LeftPackets) (is : IsLeft w l) where
+module _ (time : ℕ) (w : StreamWindow) (l : LeftPackets) (is : IsLeft w l) where
   pub none_kept : w.begin ≡ None → IsLeftBy (from_time time l) w.number None
   none_kept none = ap (λ (ps : List Packet). drop (before_time time ps) ps) (opens w l is None none)
 
@@ -179,7 +179,7 @@ module _ (time : ℕ) (w : Window) (l : LeftPackets) (is : IsLeft w l) where
           number = omega (arith, n, m, k);
         }
 
-  pub is_kept : (new : Window) → new.stream ≡ w.stream → new.number ≡ w.number → new.count ≡ w.count → IsLeftBy (from_time time l) w.number new.begin → IsLeft new (from_time time l)
+  pub is_kept : (new : StreamWindow) → new.stream ≡ w.stream → new.number ≡ w.number → new.count ≡ w.count → IsLeftBy (from_time time l) w.number new.begin → IsLeft new (from_time time l)
   is_kept new stream number count begin =
       let few = is.few in
       let ends = is.ends in
@@ -193,29 +193,29 @@ module _ (time : ℕ) (w : Window) (l : LeftPackets) (is : IsLeft w l) where
       }
 
 -- What is left of those that were looked at, and of the others.
-pub record Keeps (time : ℕ) (lefts : List LeftPackets) (ws : List Window) (now : List Window) : Type 0 where
+pub record Keeps (time : ℕ) (lefts : List LeftPackets) (ws : List StreamWindow) (now : List StreamWindow) : Type 0 where
   pub later : List LeftPackets
   pub left : AreLeft ws later
   pub done : List LeftPackets
   pub are : AreLeft now done
   pub same : map (from_time time) lefts ≡ done ++ map (from_time time) later
 
-pub none_keeps : (time : ℕ) (lefts : List LeftPackets) (ws : List Window) → AreLeft ws lefts → Keeps time lefts ws []
+pub none_keeps : (time : ℕ) (lefts : List LeftPackets) (ws : List StreamWindow) → AreLeft ws lefts → Keeps time lefts ws []
 none_keeps time lefts ws a = record { later = lefts; left = a; done = []; are = refl; same = refl }
 
-AreLeft-push : (ws : List Window) (ls : List LeftPackets) (w : Window) (l : LeftPackets) → AreLeft ws ls → IsLeft w l → AreLeft (ws ++ w ∷ []) (ls ++ l ∷ [])
+AreLeft-push : (ws : List StreamWindow) (ls : List LeftPackets) (w : StreamWindow) (l : LeftPackets) → AreLeft ws ls → IsLeft w l → AreLeft (ws ++ w ∷ []) (ls ++ l ∷ [])
 AreLeft-push [] ls w l a h = subst (λ (ks : List LeftPackets). AreLeft (w ∷ []) (ks ++ l ∷ [])) (sym a) (h, refl)
 AreLeft-push (v ∷ ws) [] w l a h = absurd a
 AreLeft-push (v ∷ ws) (k ∷ ls) w l a h = (a.0, AreLeft-push ws ls w l a.1 h)
 
-pub first_kept : (time : ℕ) (lefts : List LeftPackets) (ws : List Window) (i : ℕ) (w : Window) (now : List Window) → i < length ws → w ≡ get_or ws i w → Keeps time lefts (drop i ws) now → (l : LeftPackets) × IsLeft w l
+pub first_kept : (time : ℕ) (lefts : List LeftPackets) (ws : List StreamWindow) (i : ℕ) (w : StreamWindow) (now : List StreamWindow) → i < length ws → w ≡ get_or ws i w → Keeps time lefts (drop i ws) now → (l : LeftPackets) × IsLeft w l
 first_kept time lefts ws i w now within at g =
-    let s = split_left w (drop (i + 1) ws) g.later (subst (λ (vs : List Window). AreLeft vs g.later) (split ws i w within at) g.left) in
+    let s = split_left w (drop (i + 1) ws) g.later (subst (λ (vs : List StreamWindow). AreLeft vs g.later) (split ws i w within at) g.left) in
     (s.0, s.3)
 
-pub one_kept : (time : ℕ) (lefts : List LeftPackets) (ws : List Window) (i : ℕ) (w new : Window) (now : List Window) → i < length ws → w ≡ get_or ws i w → ((l : LeftPackets) → IsLeft w l → IsLeft new (from_time time l)) → Keeps time lefts (drop i ws) now → Keeps time lefts (drop (i + 1) ws) (now ++ new ∷ [])
+pub one_kept : (time : ℕ) (lefts : List LeftPackets) (ws : List StreamWindow) (i : ℕ) (w new : StreamWindow) (now : List StreamWindow) → i < length ws → w ≡ get_or ws i w → ((l : LeftPackets) → IsLeft w l → IsLeft new (from_time time l)) → Keeps time lefts (drop i ws) now → Keeps time lefts (drop (i + 1) ws) (now ++ new ∷ [])
 one_kept time lefts ws i w new now within at kept g =
-    let s = split_left w (drop (i + 1) ws) g.later (subst (λ (vs : List Window). AreLeft vs g.later) (split ws i w within at) g.left) in
+    let s = split_left w (drop (i + 1) ws) g.later (subst (λ (vs : List StreamWindow). AreLeft vs g.later) (split ws i w within at) g.left) in
     record {
       later = s.1;
       left = s.4;
@@ -224,53 +224,53 @@ one_kept time lefts ws i w new now within at kept g =
       same = g.same ∙ ap (λ (ls : List LeftPackets). g.done ++ map (from_time time) ls) s.2 ∙ sym (append_assoc g.done (from_time time s.0 ∷ []) (map (from_time time) s.1));
     }
 
-pub all_kept : (time : ℕ) (lefts : List LeftPackets) (ws : List Window) (i : ℕ) (now : List Window) → length ws ≤ i → Keeps time lefts (drop i ws) now → AreLeft now (map (from_time time) lefts)
+pub all_kept : (time : ℕ) (lefts : List LeftPackets) (ws : List StreamWindow) (i : ℕ) (now : List StreamWindow) → length ws ≤ i → Keeps time lefts (drop i ws) now → AreLeft now (map (from_time time) lefts)
 all_kept time lefts ws i now past g =
-    let none : g.later ≡ [] = subst (λ (vs : List Window). AreLeft vs g.later) (at_drop_all (λ (vs : List Window). vs) ws i past) g.left in
+    let none : g.later ≡ [] = subst (λ (vs : List StreamWindow). AreLeft vs g.later) (at_drop_all (λ (vs : List StreamWindow). vs) ws i past) g.left in
     let e : map (from_time time) lefts ≡ g.done = g.same ∙ ap (λ (ls : List LeftPackets). g.done ++ map (from_time time) ls) none ∙ append-nil g.done in
     subst (λ (ls : List LeftPackets). AreLeft now ls) (sym e) g.are
 
 -- how many packets are counted
-abbrev counted : List Window → ℕ
-counted ws = sum_by (λ (w : Window). w.count) ws
+abbrev counted : List StreamWindow → ℕ
+counted ws = sum_by (λ (w : StreamWindow). w.count) ws
 
-pub one_counted : (ws : List Window) (i : ℕ) (w new : Window) (now : List Window) → i < length ws → w ≡ get_or ws i w → new.count ≡ w.count → counted now + counted (drop i ws) ≡ counted ws → counted (now ++ new ∷ []) + counted (drop (i + 1) ws) ≡ counted ws
+pub one_counted : (ws : List StreamWindow) (i : ℕ) (w new : StreamWindow) (now : List StreamWindow) → i < length ws → w ≡ get_or ws i w → new.count ≡ w.count → counted now + counted (drop i ws) ≡ counted ws → counted (now ++ new ∷ []) + counted (drop (i + 1) ws) ≡ counted ws
 one_counted ws i w new now within at count h =
-    let a = sum_by_push (λ (v : Window). v.count) now new in
+    let a = sum_by_push (λ (v : StreamWindow). v.count) now new in
     let b = ap counted (split ws i w within at) in
-    let c = sum_by-cons (λ (v : Window). v.count) w (drop (i + 1) ws) in
+    let c = sum_by-cons (λ (v : StreamWindow). v.count) w (drop (i + 1) ws) in
     omega (arith, a, b, c, count, h)
 
-pub all_counted : (ws : List Window) (i : ℕ) (now : List Window) → length ws ≤ i → counted now + counted (drop i ws) ≡ counted ws → counted now ≡ counted ws
+pub all_counted : (ws : List StreamWindow) (i : ℕ) (now : List StreamWindow) → length ws ≤ i → counted now + counted (drop i ws) ≡ counted ws → counted now ≡ counted ws
 all_counted ws i now past h =
     let e = at_drop_all counted ws i past in
     omega (arith, e, h)
 
 -- The streams that are left, after so many of those before them of which a packet is left.
-pub record Opens (lefts : List LeftPackets) (ws : List Window) (now : ℕ) : Type 0 where
+pub record Opens (lefts : List LeftPackets) (ws : List StreamWindow) (now : ℕ) : Type 0 where
   pub later : List LeftPackets
   pub left : AreLeft ws later
   pub same : length (filter_map opening lefts) ≡ now + length (filter_map opening later)
 
-pub none_opens : (lefts : List LeftPackets) (ws : List Window) → AreLeft ws lefts → Opens lefts ws 0
+pub none_opens : (lefts : List LeftPackets) (ws : List StreamWindow) → AreLeft ws lefts → Opens lefts ws 0
 none_opens lefts ws a = record { later = lefts; left = a; same = omega arith }
 
 more_opens : (o : Option ℕ) (ns : List ℕ) → length (cons_option o ns) ≡ length (cons_option o []) + length ns
 more_opens None ns = omega arith
 more_opens (Some n) ns = omega arith
 
-pub one_opens : (lefts : List LeftPackets) (ws : List Window) (i : ℕ) (w : Window) (now n : ℕ) → i < length ws → w ≡ get_or ws i w → ((l : LeftPackets) → IsLeft w l → n ≡ length (cons_option (opening l) [])) → Opens lefts (drop i ws) now → Opens lefts (drop (i + 1) ws) (now + n)
+pub one_opens : (lefts : List LeftPackets) (ws : List StreamWindow) (i : ℕ) (w : StreamWindow) (now n : ℕ) → i < length ws → w ≡ get_or ws i w → ((l : LeftPackets) → IsLeft w l → n ≡ length (cons_option (opening l) [])) → Opens lefts (drop i ws) now → Opens lefts (drop (i + 1) ws) (now + n)
 one_opens lefts ws i w now n within at opened g =
-    let s = split_left w (drop (i + 1) ws) g.later (subst (λ (vs : List Window). AreLeft vs g.later) (split ws i w within at) g.left) in
+    let s = split_left w (drop (i + 1) ws) g.later (subst (λ (vs : List StreamWindow). AreLeft vs g.later) (split ws i w within at) g.left) in
     let a = g.same in
     let b = ap (λ (ls : List LeftPackets). length (filter_map opening ls)) s.2 in
     let c = more_opens (opening s.0) (filter_map opening s.1) in
     let d = opened s.0 s.3 in
     record { later = s.1; left = s.4; same = omega (arith, a, b, c, d) }
 
-pub all_opens : (lefts : List LeftPackets) (ws : List Window) (i now : ℕ) → length ws ≤ i → Opens lefts (drop i ws) now → now ≡ length (filter_map opening lefts)
+pub all_opens : (lefts : List LeftPackets) (ws : List StreamWindow) (i now : ℕ) → length ws ≤ i → Opens lefts (drop i ws) now → now ≡ length (filter_map opening lefts)
 all_opens lefts ws i now past g =
-    let none : g.later ≡ [] = subst (λ (vs : List Window). AreLeft vs g.later) (at_drop_all (λ (vs : List Window). vs) ws i past) g.left in
+    let none : g.later ≡ [] = subst (λ (vs : List StreamWindow). AreLeft vs g.later) (at_drop_all (λ (vs : List StreamWindow). vs) ws i past) g.left in
     let a = g.same in
     let b = ap (λ (ls : List LeftPackets). length (filter_map opening ls)) none in
     omega (arith, a, b)

@@ -12,7 +12,7 @@ use Rattle.rept_slices.specs.Skipping.{greatest}
 use Rattle.rept_slices.specs.Lefts.{later_of, later_by}
 use Rattle.rept_slices.specs.Ends.{early, past_of, ends_in}
 use Rattle.rept_slices.specs.Entries.{IsEntryOf, AreEntriesOf}
-use Rattle.rept_slices.specs.declared.telling.Entry.{Entry}
+use Rattle.rept_slices.specs.declared.telling.StreamSlice.{StreamSlice}
 use Rattle.rept_slices.proofs.Early.{greatest_one}
 use Rattle.rept_slices.proofs.KeepLemmas.{later_is}
 use Rattle.rept_slices.proofs.StrangerLemmas.{split_told}
@@ -51,11 +51,11 @@ pub lasts_after : (time : ℕ) (p : Packet) (later : List Packet) → closes p �
 lasts_after time p later h e = lasts_on time p later h ∙ ap (λ (b : Bool). b || lasts time later) e
 
 -- The greatest end of the slices from one on, and the begin past the first one's.
-abbrev pub EndsFrom : ℕ → List Entry → Option ℕ → ℕ → Type 0
+abbrev pub EndsFrom : ℕ → List StreamSlice → Option ℕ → ℕ → Type 0
 EndsFrom time es past last = (ts : List ToldSlice) → AreEntriesOf es ts → (past ≡ past_of ts) × (last ≡ greatest (time ∷ ends_in time ts))
 
-pub none_ended : (time : ℕ) (es : List Entry) (i : ℕ) → length es ≤ i → EndsFrom time (drop i es) None time
-none_ended time es i past = subst (λ (xs : List Entry). EndsFrom time xs None time) (sym (at_drop_all (λ (xs : List Entry). xs) es i past)) (λ ts a. (sym (ap past_of a), sym (ap (λ (us : List ToldSlice). greatest (time ∷ ends_in time us)) a ∙ greatest_one time)))
+pub none_ended : (time : ℕ) (es : List StreamSlice) (i : ℕ) → length es ≤ i → EndsFrom time (drop i es) None time
+none_ended time es i past = subst (λ (xs : List StreamSlice). EndsFrom time xs None time) (sym (at_drop_all (λ (xs : List StreamSlice). xs) es i past)) (λ ts a. (sym (ap past_of a), sym (ap (λ (us : List ToldSlice). greatest (time ∷ ends_in time us)) a ∙ greatest_one time)))
 
 more_later : (time last : ℕ) (o : Option ℕ) (ns : List ℕ) → last ≡ greatest (time ∷ ns) → later_by last o ≡ greatest (time ∷ cons_option o ns)
 more_later time last None ns is = is
@@ -70,12 +70,12 @@ more_later time last (Some n) ns is =
 pub drop_next : {A : Type 0} (i : ℕ) (xs : List A) (x : A) (rest : List A) → drop i xs ≡ x ∷ rest → drop (i + 1) xs ≡ rest
 drop_next i xs x rest h = sym (drop-drop 1 i xs) ∙ ap (drop 1) h
 
-pub one_ended : (time : ℕ) (es : List Entry) (i : ℕ) (e : Entry) (past p o : Option ℕ) (last : ℕ) → drop i es ≡ e ∷ drop (i + 1) es
+pub one_ended : (time : ℕ) (es : List StreamSlice) (i : ℕ) (e : StreamSlice) (past p o : Option ℕ) (last : ℕ) → drop i es ≡ e ∷ drop (i + 1) es
     → ((t : ToldSlice) (ts : List ToldSlice) → AreEntriesOf (drop i es) (t ∷ ts) → past ≡ past_of ts → p ≡ past_of (t ∷ ts))
     → ((t : ToldSlice) → IsEntryOf e t → o ≡ early time t p)
     → EndsFrom time (drop (i + 1) es) past last → EndsFrom time (drop i es) p (later_by last o)
 one_ended time es i e past p o last first begins ends g = λ ts a.
-    let s = split_told e (drop (i + 1) es) ts (subst (λ (xs : List Entry). AreEntriesOf xs ts) first a) in
+    let s = split_told e (drop (i + 1) es) ts (subst (λ (xs : List StreamSlice). AreEntriesOf xs ts) first a) in
     let told : AreEntriesOf (drop i es) (s.0 ∷ s.1) = subst (λ (us : List ToldSlice). AreEntriesOf (drop i es) us) s.2 a in
     let rest = g s.1 s.4 in
     let here = begins s.0 s.1 told rest.0 in
@@ -84,22 +84,22 @@ one_ended time es i e past p o last first begins ends g = λ ts a.
     (here, more_later time last o (ends_in time s.1) rest.1 ∙ ap (λ (x : Option ℕ). greatest (time ∷ cons_option x (ends_in time s.1))) end)
 
 -- the slices from one on, as a range of them to their end
-pub rest_whole : (es : List Entry) (i : ℕ) → take (length es - i) (drop i es) ≡ drop i es
+pub rest_whole : (es : List StreamSlice) (i : ℕ) → take (length es - i) (drop i es) ≡ drop i es
 rest_whole es i = take_all (length es - i) (drop i es) (let d = length-drop i es in omega (arith, d))
 
-entries_drop : (i : ℕ) (es : List Entry) (ts : List ToldSlice) → AreEntriesOf es ts → (later : List ToldSlice) × AreEntriesOf (drop i es) later
+entries_drop : (i : ℕ) (es : List StreamSlice) (ts : List ToldSlice) → AreEntriesOf es ts → (later : List ToldSlice) × AreEntriesOf (drop i es) later
 entries_drop zero es ts a = (ts, a)
 entries_drop (suc i) [] ts a = (ts, a)
 entries_drop (suc i) (e ∷ es) [] a = absurd a
 entries_drop (suc i) (e ∷ es) (t ∷ ts) a = entries_drop i es ts a.1
 
 -- one of them holds its packets
-pub holds_at : (es : List Entry) (ts : List ToldSlice) (i : ℕ) (e : Entry) → AreEntriesOf es ts → drop i es ≡ e ∷ drop (i + 1) es → (list : List Packet) × Hold (rest_of e.later) list
+pub holds_at : (es : List StreamSlice) (ts : List ToldSlice) (i : ℕ) (e : StreamSlice) → AreEntriesOf es ts → drop i es ≡ e ∷ drop (i + 1) es → (list : List Packet) × Hold (rest_of e.later) list
 holds_at es ts i e a first =
     let r = entries_drop i es ts a in
-    let s = split_told e (drop (i + 1) es) r.0 (subst (λ (xs : List Entry). AreEntriesOf xs r.0) first r.1) in
+    let s = split_told e (drop (i + 1) es) r.0 (subst (λ (xs : List StreamSlice). AreEntriesOf xs r.0) first r.1) in
     ((s.0).later, (s.3).later)
 
-pub all_ended : (time : ℕ) (es : List Entry) (i : ℕ) (past : Option ℕ) (last : ℕ) → i ≤ 0 → EndsFrom time (drop i es) past last → (ts : List ToldSlice) → AreEntriesOf es ts → last ≡ greatest (time ∷ ends_in time ts)
+pub all_ended : (time : ℕ) (es : List StreamSlice) (i : ℕ) (past : Option ℕ) (last : ℕ) → i ≤ 0 → EndsFrom time (drop i es) past last → (ts : List ToldSlice) → AreEntriesOf es ts → last ≡ greatest (time ∷ ends_in time ts)
 all_ended time es zero past last le g = λ ts a. (g ts a).1
 all_ended time es (suc i) past last le g = absurd (omega (arith, le))

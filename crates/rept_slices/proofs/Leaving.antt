@@ -8,7 +8,7 @@ use Rattle.rept_slices.specs.Parts.{LeftPackets, ToldSlice, begin_of, told_from,
 use Rattle.rept_slices.specs.Skipping.{from_time}
 use Rattle.rept_slices.specs.Lefts.{before_time}
 use Rattle.rept_slices.specs.Entries.{IsEntryOf, AreEntriesOf, with_head, entries_from}
-use Rattle.rept_slices.specs.declared.telling.Entry.{Entry}
+use Rattle.rept_slices.specs.declared.telling.StreamSlice.{StreamSlice}
 
 abbrev pub told_head : ToldSlice → ToldSlice
 told_head t = record { stream = t.stream; number = t.number; start = t.start; later = t.later; inside = None }
@@ -21,7 +21,7 @@ abbrev pub slices_from : ℕ → List ToldSlice → List ToldSlice
 slices_from time [] = []
 slices_from time (t ∷ ts) = told_by (nat_le time (begin_of t)) t ts (slices_from time ts)
 
-abbrev pub entry_by : Bool → Entry → List Entry → List Entry → List Entry
+abbrev pub entry_by : Bool → StreamSlice → List StreamSlice → List StreamSlice → List StreamSlice
 entry_by b e es others = cond b (with_head (e ∷ es)) others
 
 same_start : (p : Packet) (x y : Option ℕ) → is_start p ≡ true → running_after p x ≡ running_after p y
@@ -32,7 +32,7 @@ same_start (Address report) x y h = absurd ((cc))
 same_start (Map map) x y h = absurd ((cc))
 same_start (MapAddress count map report) x y h = absurd ((cc))
 
-entry_is : (time : ℕ) (e : Entry) (es : List Entry) (t : ToldSlice) (ts : List ToldSlice) → IsEntryOf e t → AreEntriesOf es ts → AreEntriesOf (entries_from time es) (slices_from time ts) → AreEntriesOf (entries_from time (e ∷ es)) (slices_from time (t ∷ ts))
+entry_is : (time : ℕ) (e : StreamSlice) (es : List StreamSlice) (t : ToldSlice) (ts : List ToldSlice) → IsEntryOf e t → AreEntriesOf es ts → AreEntriesOf (entries_from time es) (slices_from time ts) → AreEntriesOf (entries_from time (e ∷ es)) (slices_from time (t ∷ ts))
 entry_is time e es t ts h later others = go (nat_le time (clock_of e.start)) refl where
   by : (b : Bool) → AreEntriesOf (entry_by b e es (entries_from time es)) (told_by b t ts (slices_from time ts))
   by true = (record { stream = h.stream; number = h.number; start = h.start; later = h.later; inside = refl }, later)
@@ -43,7 +43,7 @@ entry_is time e es t ts h later others = go (nat_le time (clock_of e.start)) ref
       let y : nat_le time (begin_of t) ≡ b = ap (λ (p : Packet). nat_le time (clock_of p)) (sym h.start) ∙ x in
       subst (λ (d : Bool). AreEntriesOf (entry_by d e es (entries_from time es)) (slices_from time (t ∷ ts))) (sym x) (subst (λ (d : Bool). AreEntriesOf (entry_by b e es (entries_from time es)) (told_by d t ts (slices_from time ts))) (sym y) (by b))
 
-pub entries_are : (time : ℕ) (es : List Entry) (ts : List ToldSlice) → AreEntriesOf es ts → AreEntriesOf (entries_from time es) (slices_from time ts)
+pub entries_are : (time : ℕ) (es : List StreamSlice) (ts : List ToldSlice) → AreEntriesOf es ts → AreEntriesOf (entries_from time es) (slices_from time ts)
 entries_are time [] ts h = ap (slices_from time) h
 entries_are time (e ∷ es) [] h = absurd h
 entries_are time (e ∷ es) (t ∷ ts) h = entry_is time e es t ts h.0 h.1 (entries_are time es ts h.1)
@@ -94,7 +94,7 @@ left_told time s k inside (p ∷ later) = left_more time s k inside p later (lef
 pub left_in : (time : ℕ) (l : LeftPackets) → told_in (from_time time l) ≡ slices_from time (told_in l)
 left_in time l = left_told time l.stream l.number None l.packets
 
-pub left_are : (time : ℕ) (l : LeftPackets) (es : List Entry) → AreEntriesOf es (told_in l) → AreEntriesOf (entries_from time es) (told_in (from_time time l))
+pub left_are : (time : ℕ) (l : LeftPackets) (es : List StreamSlice) → AreEntriesOf es (told_in l) → AreEntriesOf (entries_from time es) (told_in (from_time time l))
 left_are time l es h = subst (λ (ts : List ToldSlice). AreEntriesOf (entries_from time es) ts) (sym (left_in time l)) (entries_are time es (told_in l) h)
 
 -- of all of them

@@ -1,4 +1,5 @@
--- What packets do to a stretch and to its slices: a start packet, one that ends the trace, and the others.
+-- What packets do to a stretch and to its slices: a start packet, one that ends the trace, and the
+-- others.
 use Rattle.std.proofs.Common.{◌≡◌, ◌⊎◌, inl, inr, ℕ, suc, ◌+◌, List, [], ◌∷◌, ◌++◌, length, reverse, take, Bool, true, false, cond, not, Option, Some, None, refl, sym, ◌∙◌, ap, subst, arith, length-append}
 use Rattle.std.specs.List.{flat_map, prefix_len}
 use Rattle.std.proofs.lemmas.List.{length-reverse}
@@ -97,7 +98,8 @@ nothing_more n (p ∷ later) ls c = elim (kind p) [
 abbrev Ends : ℕ → Packet → List Packet → List Packet → List (List StepRow) → Type 0
 Ends n p later ps ls = first_or (n + length (rows_by ls)) (counts_from n ps ls) ≡ n + length (first_rows (p ∷ later) ls)
 
--- where the rows of the running slice end: after the start packet that is next, or after all rows of the stretch
+-- where the rows of the running slice end: after the start packet that is next, or after all rows
+-- of the stretch
 pub ends_at : (n : ℕ) (later : List Packet) (ls : List (List StepRow)) → Cut false (same_stretch false later) ls → first_or (n + length (rows_by ls)) (counts_from n (same_stretch false later) ls) ≡ n + length (first_rows later ls)
 ends_at n [] ls c = subst (λ (xs : List (List StepRow)). n + length (rows_by xs) ≡ n + length (rows_by (take 1 xs))) (sym c) refl
 ends_at n (p ∷ later) ls c = elim (kind p) [

@@ -1,4 +1,5 @@
--- The least begin of a thread's slice that is greater than that of another one, by slices that stand in order.
+-- The least begin of a thread's slice that is greater than that of another one, by slices that
+-- stand in order.
 use Rattle.std.proofs.Common.{◌≡◌, inl, inr, map, ℕ, suc, ◌+◌, ◌<◌, ◌≤◌, ◌==◌, nat_le, nat_lt, List, [], ◌∷◌, ◌++◌, Bool, true, false, cond, Option, Some, None, refl, sym, ◌∙◌, ap, subst, arith}
 use Rattle.std.specs.List.{filter}
 use Rattle.std.proofs.lemmas.Bool.Decides.{leb_tells, eqb_tells}

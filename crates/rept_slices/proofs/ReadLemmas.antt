@@ -16,7 +16,7 @@ use Rattle.rept_trace.specs.Streams.{StreamFile}
 use Rattle.rept_trace.proofs.Frames.{shorter}
 use Rattle.rept_slices.specs.Raw.{streams_of, FailsIn}
 use Rattle.rept_slices.specs.Windows.{IsStreamWindow, AreWindows, number_told, numbered_after}
-use Rattle.rept_slices.specs.declared.reading.Window.{Window}
+use Rattle.rept_slices.specs.declared.reading.StreamWindow.{StreamWindow}
 
 -- the stream of a number is that of its bytes
 pub sent_there : (file : StreamFile) (s : ℕ) (stream : Stream) → slice_get file.streams s ≡ Some stream.bytes → stream.widths ≡ timed file.halves → slice_get (streams_of file) s ≡ Some stream
@@ -80,17 +80,18 @@ numbered before n stream packets f zero h =
     let e : before + n ≡ before = omega arith in
     subst (λ (m : ℕ). FailsAfter m stream packets (numbered_after before f)) e (later_after before n stream packets f h)
 
--- The streams before a number were read, and those from it on are left: what is so of the latter is so of all.
-pub record Read (from : ℕ) (streams : List Stream) (i k : ℕ) (ws : List Window) : Type 0 where
+-- The streams before a number were read, and those from it on are left: what is so of the latter is
+-- so of all.
+pub record Read (from : ℕ) (streams : List Stream) (i k : ℕ) (ws : List StreamWindow) : Type 0 where
   pub lists : List (List Packet)
-  pub goes : (later : List (List Packet)) (more : List Window) → AreWindows i k from (drop i streams) later more → AreWindows 0 0 from streams (lists ++ later) (ws ++ more)
+  pub goes : (later : List (List Packet)) (more : List StreamWindow) → AreWindows i k from (drop i streams) later more → AreWindows 0 0 from streams (lists ++ later) (ws ++ more)
   pub fails : (f : TraceFault) → FailsIn k (drop i streams) f → FailsIn 0 streams f
   pub few : k + sum_by (λ stream. length stream.bytes) (drop i streams) ≤ sum_by (λ stream. length stream.bytes) streams
 
 pub none_read : (from : ℕ) (streams : List Stream) → Read from streams 0 0 []
 none_read from streams = record { lists = []; goes = λ later more h. h; fails = λ f h. h; few = omega arith }
 
-module _ (from : ℕ) (streams : List Stream) (i k : ℕ) (ws : List Window) (r : Read from streams i k ws) (stream : Stream) (at : slice_get streams i ≡ Some stream) where
+module _ (from : ℕ) (streams : List Stream) (i k : ℕ) (ws : List StreamWindow) (r : Read from streams i k ws) (stream : Stream) (at : slice_get streams i ≡ Some stream) where
   split : drop i streams ≡ stream ∷ drop (i + 1) streams
   split = drop-slice_get streams i stream at
 
@@ -101,7 +102,7 @@ module _ (from : ℕ) (streams : List Stream) (i k : ℕ) (ws : List Window) (r 
       omega (arith, few, e, sum_by-cons (λ (s : Stream). length s.bytes) stream (drop (i + 1) streams))
 
   module _ (packets : List Packet) where
-    pub one_read : (w : Window) → IsStreamWindow i k from stream packets w → length packets ≤ length stream.bytes → Read from streams (i + 1) (k + length packets) (ws ++ w ∷ [])
+    pub one_read : (w : StreamWindow) → IsStreamWindow i k from stream packets w → length packets ≤ length stream.bytes → Read from streams (i + 1) (k + length packets) (ws ++ w ∷ [])
     one_read w is short = record {
       lists = r.lists ++ packets ∷ [];
       goes = λ later more h.
@@ -118,11 +119,11 @@ module _ (from : ℕ) (streams : List Stream) (i k : ℕ) (ws : List Window) (r 
     pub one_refused : (f : TraceFault) → FailsAfter k stream packets f → FailsIn 0 streams f
     one_refused f h = r.fails f (subst (λ (ss : List Stream). FailsIn k ss f) (sym split) (inl (packets, h)))
 
-pub all_read : (from : ℕ) (streams : List Stream) (i k : ℕ) (ws : List Window) → Read from streams i k ws → length streams ≤ i → (lists : List (List Packet)) × AreWindows 0 0 from streams lists ws
+pub all_read : (from : ℕ) (streams : List Stream) (i k : ℕ) (ws : List StreamWindow) → Read from streams i k ws → length streams ≤ i → (lists : List (List Packet)) × AreWindows 0 0 from streams lists ws
 all_read from streams i k ws r past =
     let none : AreWindows i k from (drop i streams) [] [] = subst (λ (ss : List Stream). AreWindows i k from ss [] []) (sym (at_drop_all (λ (ss : List Stream). ss) streams i past)) (refl, refl) in
     let all = r.goes [] [] none in
-    (r.lists, subst (λ (xs : List (List Packet)). AreWindows 0 0 from streams xs ws) (append-nil r.lists) (subst (λ (vs : List Window). AreWindows 0 0 from streams (r.lists ++ []) vs) (append-nil ws) all))
+    (r.lists, subst (λ (xs : List (List Packet)). AreWindows 0 0 from streams xs ws) (append-nil r.lists) (subst (λ (vs : List StreamWindow). AreWindows 0 0 from streams (r.lists ++ []) vs) (append-nil ws) all))
 
 -- no more packets than bytes
 pub held_few : (stream : Stream) (packets : List Packet) → Hold stream packets → length packets ≤ length stream.bytes

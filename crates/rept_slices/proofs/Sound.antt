@@ -120,7 +120,8 @@ bridge_bridged e count r (Some next) rows h = go (is_none next.told.inside) h wh
   go true h = gap_bridged e.code s (record { address = a; otherwise = Gap s.packet s.place.at a }) rows h
   go false h = let is : [] ≡ rows = cc in subst Bridged is tt
 
--- The slices of a thread as they were joined: each is one that was walked, with rows that only end with a call.
+-- The slices of a thread as they were joined: each is one that was walked, with rows that only end
+-- with a call.
 abbrev Same : List RanSlice → List JoinedSlice → Type 0
 Same [] [] = Unit {0}
 Same [] (j ∷ js) = ⊥
@@ -297,7 +298,7 @@ in_time [] a b = tt
 in_time (t ∷ ts) a b = ((a.0, b.0), in_time ts a.1 b.1)
 
 -- The run of streams, each time of which has 64 bits, is sound.
-pub is_sound : (t : Traces) (run : Run) → All (All (λ p. clock_of p < 2 ^ 64)) t.streams → IsRunOfStreams t run → IsSoundCourse (record { threads = run.threads; dark = run.dark })
+pub is_sound : (t : Traces) (run : Run) → All (All (λ p. clock_of p < 2 ^ 64)) t.streams → IsRunOfStreams t run → IsSoundCourse (record { threads = run.threads; untraced = run.untraced })
 is_sound t run fits x =
     let ts = left t in
     let rs = ran t.code ts x.walked in
@@ -308,7 +309,7 @@ is_sound t run fits x =
     let timed = in_time ts (left_on_time t.from (processes t) t.streams x.passed) (left_can t.from t.streams (all_can_be t.streams fits)) in
     let started = each_filter Started (λ u. is_none u.inside) ts (starts_told (kept t.from t.streams)) in
     let good = good_threads (ground t) rs (ran_plain t.code ts 0 (heads ts) x.walked started x.walks) (ran_in_time t.code ts timed x.walked) (ran_rows rs) t.notes c.0 c.1 in
-    subst (λ (r : Run). IsSoundCourse (record { threads = r.threads; dark = r.dark })) is (record {
+    subst (λ (r : Run). IsSoundCourse (record { threads = r.threads; untraced = r.untraced })) is (record {
       taken = λ n. let g = good_at c.0 good n in g.taken;
       in_time = λ n. let g = good_at c.0 good n in g.in_time;
       calls = inr (λ r s call there. let g = good_at c.0 good r.thread in g.calls r.step s call there);

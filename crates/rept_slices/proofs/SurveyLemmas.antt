@@ -11,10 +11,10 @@ use Rattle.rept_slices.specs.Skipping.{whole, kept}
 use Rattle.rept_slices.specs.Checks.{first_fault, time_back, startless, all_idle, stranger, check}
 use Rattle.rept_slices.specs.Raw.{streams_of, HoldEach}
 use Rattle.rept_slices.specs.Windows.{AreWindows, AreAll}
-use Rattle.rept_slices.specs.declared.reading.Window.{Window}
+use Rattle.rept_slices.specs.declared.reading.StreamWindow.{StreamWindow}
 use Rattle.rept_slices.proofs.ReadLemmas.{sizes, held_few}
 
-pub hold_each : (s k from : ℕ) (streams : List Stream) (lists : List (List Packet)) (ws : List Window) → AreWindows s k from streams lists ws → HoldEach streams lists
+pub hold_each : (s k from : ℕ) (streams : List Stream) (lists : List (List Packet)) (ws : List StreamWindow) → AreWindows s k from streams lists ws → HoldEach streams lists
 hold_each s k from [] lists ws a = a.0
 hold_each s k from (stream ∷ streams) [] ws a = absurd a
 hold_each s k from (stream ∷ streams) (packets ∷ lists) [] a = absurd a
@@ -28,7 +28,7 @@ few_packets (stream ∷ streams) (packets ∷ lists) h =
     let n = held_few stream packets h.0 in
     omega (arith, i, n, sum_by-cons (λ (s : Stream). length s.bytes) stream streams, sum_by-cons (λ (ps : List Packet). length ps) packets lists)
 
-pub are_all : (from : ℕ) (file : StreamFile) (lists : List (List Packet)) (ws : List Window) → AreWindows 0 0 from (streams_of file) lists ws → sum_by (λ bytes. length bytes) file.streams < 2 ^ 32 → AreAll from (streams_of file) lists ws
+pub are_all : (from : ℕ) (file : StreamFile) (lists : List (List Packet)) (ws : List StreamWindow) → AreWindows 0 0 from (streams_of file) lists ws → sum_by (λ bytes. length bytes) file.streams < 2 ^ 32 → AreAll from (streams_of file) lists ws
 are_all from file lists ws a few =
     let n = few_packets (streams_of file) lists (hold_each 0 0 from (streams_of file) lists ws a) in
     record { windows = a; few = omega (arith, n, few, sizes file) }

@@ -11,7 +11,7 @@ use Rattle.rept_slices.specs.Order.{by_time, head_of, slices_of}
 use Rattle.rept_slices.specs.Skipping.{windows, greatest, ends_of}
 use Rattle.rept_slices.specs.Ends.{ends_in}
 use Rattle.rept_slices.specs.Entries.{AreEntriesOf}
-use Rattle.rept_slices.specs.declared.telling.Entry.{Entry}
+use Rattle.rept_slices.specs.declared.telling.StreamSlice.{StreamSlice}
 use Rattle.rept_slices.proofs.InTime.{Each, Ascend, FromTime}
 use Rattle.rept_slices.proofs.Sorting.{ascends_by}
 use Rattle.rept_slices.proofs.Apart.{HasTold, each_told, told_by_each, same_all_told, told_filter, told_slices, last_ends}
@@ -26,14 +26,14 @@ module _ {A : Type 0} (P : A → Type 0) where
   each_all (x ∷ xs) h = (All-head P x xs h, each_all xs (All-tail P x xs h))
 
 -- entries in another order stand for slices too
-pub told_permuted : (es fs : List Entry) (ts : List ToldSlice) → IsPermutation es fs → AreEntriesOf es ts → (us : List ToldSlice) × AreEntriesOf fs us
+pub told_permuted : (es fs : List StreamSlice) (ts : List ToldSlice) → IsPermutation es fs → AreEntriesOf es ts → (us : List ToldSlice) × AreEntriesOf fs us
 told_permuted es fs ts p a = told_by_each fs (each_all HasTold fs (All-permutation HasTold es fs p (all_each HasTold es (each_told es ts a))))
 
-told_ascend : (es : List Entry) (ts : List ToldSlice) → AreEntriesOf es ts → Ascend (λ (e : Entry). context_of e.start) es → Ascend thread_of ts
+told_ascend : (es : List StreamSlice) (ts : List ToldSlice) → AreEntriesOf es ts → Ascend (λ (e : StreamSlice). context_of e.start) es → Ascend thread_of ts
 told_ascend [] ts a h = subst (Ascend thread_of) (sym a) tt
 told_ascend (e ∷ es) [] a h = absurd a
 told_ascend (e ∷ es) (t ∷ ts) a h = (next es ts a.1 h.0, told_ascend es ts a.1 h.1) where
-  next : (es : List Entry) (ts : List ToldSlice) → AreEntriesOf es ts → FromTime (λ (e : Entry). context_of e.start) (context_of e.start) (head_of es) → FromTime thread_of (thread_of t) (head_of ts)
+  next : (es : List StreamSlice) (ts : List ToldSlice) → AreEntriesOf es ts → FromTime (λ (e : StreamSlice). context_of e.start) (context_of e.start) (head_of es) → FromTime thread_of (thread_of t) (head_of ts)
   next [] ts b k = subst (λ (us : List ToldSlice). FromTime thread_of (thread_of t) (head_of us)) (sym b) tt
   next (f ∷ fs) [] b k = absurd b
   next (f ∷ fs) (u ∷ us) b k =
@@ -42,23 +42,23 @@ told_ascend (e ∷ es) (t ∷ ts) a h = (next es ts a.1 h.0, told_ascend es ts a
       omega (arith, k, one, two)
 
 -- those of each thread in order
-pub same_threads : (es fs : List Entry) (ts us : List ToldSlice) → AreEntriesOf es ts → AreEntriesOf fs us
-    → ((n : ℕ) → filter (λ (e : Entry). context_of e.start == n) fs ≡ by_time (λ (e : Entry). clock_of e.start) (filter (λ (e : Entry). context_of e.start == n) es))
+pub same_threads : (es fs : List StreamSlice) (ts us : List ToldSlice) → AreEntriesOf es ts → AreEntriesOf fs us
+    → ((n : ℕ) → filter (λ (e : StreamSlice). context_of e.start == n) fs ≡ by_time (λ (e : StreamSlice). clock_of e.start) (filter (λ (e : StreamSlice). context_of e.start == n) es))
     → (n : ℕ) → filter (λ (t : ToldSlice). thread_of t == n) us ≡ slices_of n ts
 same_threads es fs ts us a b times n =
-    let own : AreEntriesOf (filter (λ (e : Entry). context_of e.start == n) fs) (slices_of n ts) = subst (λ (xs : List Entry). AreEntriesOf xs (slices_of n ts)) (sym (times n)) (told_slices n es ts a) in
-    same_all_told (filter (λ (e : Entry). context_of e.start == n) fs) (filter (λ (t : ToldSlice). thread_of t == n) us) (slices_of n ts) (told_filter n fs us b) own
+    let own : AreEntriesOf (filter (λ (e : StreamSlice). context_of e.start == n) fs) (slices_of n ts) = subst (λ (xs : List StreamSlice). AreEntriesOf xs (slices_of n ts)) (sym (times n)) (told_slices n es ts a) in
+    same_all_told (filter (λ (e : StreamSlice). context_of e.start == n) fs) (filter (λ (t : ToldSlice). thread_of t == n) us) (slices_of n ts) (told_filter n fs us b) own
 
-pub until : (from : ℕ) (lists : List (List Packet)) (es fs : List Entry) (time last : ℕ) → AreEntriesOf es (slices_told (windows from lists)) → IsPermutation es fs → IsNonDecreasingBy (λ (e : Entry). context_of e.start) fs
-    → ((n : ℕ) → filter (λ (e : Entry). context_of e.start == n) fs ≡ by_time (λ (e : Entry). clock_of e.start) (filter (λ (e : Entry). context_of e.start == n) es))
+pub until : (from : ℕ) (lists : List (List Packet)) (es fs : List StreamSlice) (time last : ℕ) → AreEntriesOf es (slices_told (windows from lists)) → IsPermutation es fs → IsNonDecreasingBy (λ (e : StreamSlice). context_of e.start) fs
+    → ((n : ℕ) → filter (λ (e : StreamSlice). context_of e.start == n) fs ≡ by_time (λ (e : StreamSlice). clock_of e.start) (filter (λ (e : StreamSlice). context_of e.start == n) es))
     → ((us : List ToldSlice) → AreEntriesOf fs us → last ≡ greatest (time ∷ ends_in time us))
     → last ≡ greatest (time ∷ ends_of time (slices_told (windows from lists)))
 until from lists es fs time last a p up times is =
     let ts = slices_told (windows from lists) in
     let b = told_permuted es fs ts p a in
-    let rises = told_ascend fs b.0 b.1 (ascends_by (λ (e : Entry). context_of e.start) fs up) in
+    let rises = told_ascend fs b.0 b.1 (ascends_by (λ (e : StreamSlice). context_of e.start) fs up) in
     is b.0 b.1 ∙ last_ends ts b.0 rises (same_threads es fs ts b.0 a b.1 times) time
 
-pub told_dark : (several : Bool) (last greatest : ℕ) → several ≡ true → last ≡ greatest → Some last ≡ cond several (Some greatest) None
-told_dark true last greatest h is = ap Some is
-told_dark false last greatest h is = absurd (cc)
+pub told_untraced : (several : Bool) (last greatest : ℕ) → several ≡ true → last ≡ greatest → Some last ≡ cond several (Some greatest) None
+told_untraced true last greatest h is = ap Some is
+told_untraced false last greatest h is = absurd (cc)

@@ -13,8 +13,8 @@ use Rattle.rept_slices.specs.Skipping.{whole, window_of, kept}
 abbrev pub first_fault : {A : Type 0} → (A → Option PathFault) → List A → Option PathFault
 first_fault check xs = head_of (filter_map check xs)
 
--- A packet is of an earlier time than one before it in its stream. The arguments are the number of the next packet, the packets before
--- it, newest first, and those from it on.
+-- A packet is of an earlier time than one before it in its stream. The arguments are the number of
+-- the next packet, the packets before it, newest first, and those from it on.
 abbrev pub back_from : ℕ → List Packet → List Packet → Option PathFault
 back_from k earlier [] = None
 back_from k earlier (p ∷ later) = if list_any (λ q. is_before (stamp_of p) (stamp_of q)) earlier then Some (TimeBack k) else back_from (suc k) (p ∷ earlier) later
@@ -44,7 +44,8 @@ while_other t (Some thread) = if thread == thread_of t then None else Some (Othe
 abbrev pub stranger : List ℕ → ToldSlice → Option PathFault
 stranger threads t = if list_any (λ thread. thread == thread_of t) threads then while_other t t.inside else Some (UnknownThread t.number (thread_of t))
 
--- The checks in their order: times that go back, windows, and then the threads of the slices that are left.
+-- The checks in their order: times that go back, windows, and then the threads of the slices that
+-- are left.
 abbrev pub checks : ℕ → List ℕ → List (List Packet) → List (Option PathFault)
 checks from threads streams =
     first_fault time_back (whole streams)

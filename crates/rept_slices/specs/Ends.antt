@@ -5,13 +5,14 @@ use Rattle.rept_slices.specs.Parts.{ToldSlice, thread_of, begin_of, end_before}
 use Rattle.std.specs.Option.{option_or}
 use Rattle.rept_slices.specs.Order.{head_of, meets, slices_of, overlap}
 
--- the begin of the next slice in order, if it is of the same thread and begins later; that past it, if it is of the same thread and
--- begins at the same time
+-- the begin of the next slice in order, if it is of the same thread and begins later; that past it,
+-- if it is of the same thread and begins at the same time
 abbrev pub past_by : ToldSlice → Option ToldSlice → Option ℕ → Option ℕ
 past_by t None past = None
 past_by t (Some u) past = if thread_of u == thread_of t then (if nat_lt (begin_of t) (begin_of u) then Some (begin_of u) else past) else None
 
--- the least begin of a slice of the thread of the first one that is greater than its own, of slices that stand in order
+-- the least begin of a slice of the thread of the first one that is greater than its own, of slices
+-- that stand in order
 abbrev pub past_of : List ToldSlice → Option ℕ
 past_of [] = None
 past_of (t ∷ ts) = past_by t (head_of ts) (past_of ts)
@@ -44,8 +45,9 @@ abbrev pub InTurn : List ToldSlice → Type 0
 InTurn [] = ⊤
 InTurn (t ∷ ts) = IsInTurn t (head_of ts) × InTurn ts
 
--- What streams whose times don't go back tell: where no slice of a thread meets the one right after it, none meets another one, and the
--- first one that is met so has the least begin of all that are met.
+-- What streams whose times don't go back tell: where no slice of a thread meets the one right after
+-- it, none meets another one, and the first one that is met so has the least begin of all that are
+-- met.
 abbrev pub KeepTurn : List ToldSlice → Type 0
 KeepTurn ts = (process : ℕ) → first_met (slices_of process ts) ≡ overlap ts process
 

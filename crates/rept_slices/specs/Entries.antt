@@ -7,21 +7,22 @@ use Rattle.rept_trace.specs.Packets.{rest_of}
 use Rattle.rept_trace.specs.Stream.{Hold}
 use Rattle.rept_slices.specs.Stamps.{clock_of}
 use Rattle.rept_slices.specs.Parts.{ToldSlice}
-use Rattle.rept_slices.specs.declared.telling.Entry.{Entry}
+use Rattle.rept_slices.specs.declared.telling.StreamSlice.{StreamSlice}
 
-pub record IsEntryOf (e : Entry) (t : ToldSlice) : Type 0 where
+pub record IsEntryOf (e : StreamSlice) (t : ToldSlice) : Type 0 where
   pub stream : e.stream ≡ t.stream
   pub number : e.number ≡ t.number
   pub start : e.start ≡ t.start
   pub later : Hold (rest_of e.later) t.later
   pub inside : e.inside ≡ t.inside
 
-abbrev pub AreEntriesOf : List Entry → List ToldSlice → Type 0
+abbrev pub AreEntriesOf : List StreamSlice → List ToldSlice → Type 0
 AreEntriesOf [] ts = ts ≡ []
 AreEntriesOf (e ∷ es) [] = ⊥
 AreEntriesOf (e ∷ es) (t ∷ ts) = IsEntryOf e t × AreEntriesOf es ts
 
--- why a slice is refused for its thread: by the number of its start packet, its thread, and the thread that runs as it begins
+-- why a slice is refused for its thread: by the number of its start packet, its thread, and the
+-- thread that runs as it begins
 abbrev pub judged_inside : ℕ → ℕ → Option ℕ → Option PathFault
 judged_inside number thread None = None
 judged_inside number thread (Some inside) = if inside == thread then None else Some (OtherThread number thread)
@@ -30,11 +31,11 @@ abbrev pub judged : List ℕ → ℕ → ℕ → Option ℕ → Option PathFault
 judged threads number thread inside = if list_any (λ known. known == thread) threads then judged_inside number thread inside else Some (UnknownThread number thread)
 
 -- slices of a stream, the first one as it is where nothing before it is known
-abbrev pub with_head : List Entry → List Entry
+abbrev pub with_head : List StreamSlice → List StreamSlice
 with_head [] = []
 with_head (e ∷ es) = record { stream = e.stream; number = e.number; start = e.start; later = e.later; inside = None } ∷ es
 
 -- those from the first one on that begins at a time or later
-abbrev pub entries_from : ℕ → List Entry → List Entry
+abbrev pub entries_from : ℕ → List StreamSlice → List StreamSlice
 entries_from time [] = []
 entries_from time (e ∷ es) = if nat_le time (clock_of e.start) then with_head (e ∷ es) else entries_from time es

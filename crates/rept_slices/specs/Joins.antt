@@ -1,5 +1,5 @@
--- The slices of a thread joined one to the next, and the last one to the end. The rows of a join are the last ones of the former slice.
--- This project's own.
+-- The slices of a thread joined one to the next, and the last one to the end. The rows of a join
+-- are the last ones of the former slice. This project's own.
 use Rattle.std.specs.Prelude.{ℕ, ◌+◌, ◌-◌, ◌==◌, List, [], ◌∷◌, ◌++◌, length, reverse, Option, Some, None, option_map, Result, Ok, is_none, if◌then◌else◌}
 use Rattle.std.specs.List.{filter, flat_map, sum_by}
 use Rattle.rept_isa.specs.declared.row.StepRow.{StepRow}
@@ -14,12 +14,14 @@ use Rattle.rept_slices.specs.Parts.{ToldSlice, thread_of, begin_of, end_before}
 use Rattle.rept_slices.specs.Order.{by_time, head_of}
 use Rattle.rept_slices.specs.Stretches.{RanSlice}
 
--- a thread's note: its process (`pr_pid`, the thread's own number), and its program counter at the end
+-- a thread's note: its process (`pr_pid`, the thread's own number), and its program counter at the
+-- end
 pub record ThreadNote : Type 0 where
   pub process : ℕ
   pub pc : ℕ
 
--- what joins are made over: the program, the count of all packets, and the thread's program counter at the end
+-- what joins are made over: the program, the count of all packets, and the thread's program counter
+-- at the end
 pub record ThreadGround : Type 0 where
   pub code : Code
   pub packets : ℕ
@@ -29,8 +31,8 @@ pub record ThreadGround : Type 0 where
 abbrev pub stand_at : ℕ → RanSlice → ℕ → Stand
 stand_at k r count = record { packet = k; bits = r.bits; place = record { at = r.last.at; rows = []; branches = r.last.branches }; room = 65536 - count }
 
--- The rows, newest first, that lead from a slice to the next one of its thread, or to the end. A slice that begins while the trace runs
--- stands where the former one ended.
+-- The rows, newest first, that lead from a slice to the next one of its thread, or to the end. A
+-- slice that begins while the trace runs stands where the former one ended.
 abbrev pub bridge : ThreadGround → ℕ → RanSlice → Option RanSlice → Result (List StepRow) PathFault
 bridge e count r None = gap_to_end e.code (stand_at e.packets r count) e.pc
 bridge e count r (Some next) =
@@ -83,7 +85,8 @@ pub record JoinGround : Type 0 where
   pub code : Code
   pub packets : ℕ
 
--- all threads, in the order of their notes, where so many rows stand in all threads; the rows of joins are counted as they are made
+-- all threads, in the order of their notes, where so many rows stand in all threads; the rows of
+-- joins are counted as they are made
 abbrev pub threads : JoinGround → ℕ → List ThreadNote → List RanSlice → Result (List ThreadRows) PathFault
 threads g count [] rs = Ok []
 threads g count (note ∷ notes) rs = do

@@ -1,4 +1,5 @@
--- The run that several streams of packets tell of a program with several threads, and why there is none. This project's own.
+-- The run that several streams of packets tell of a program with several threads, and why there is
+-- none. This project's own.
 use Rattle.std.specs.Prelude.{map, ◌≡◌, ◌⊎◌, ℕ, List, length, Option, Some, None, Result, Ok, Err, option_map}
 use Rattle.std.specs.List.{sum_by}
 use Rattle.rept_steps.specs.declared.run.Run.{Run}
@@ -9,13 +10,14 @@ use Rattle.rept_path.specs.declared.fault.PathFault.{PathFault}
 use Rattle.rept_path.specs.declared.fault.PathFault.TheVariants.{SliceOverlap}
 use Rattle.rept_path.specs.Moves.{◌>>=◌}
 use Rattle.rept_slices.specs.Parts.{ToldSlice, slices_told}
-use Rattle.rept_slices.specs.Skipping.{kept, skipped, dark}
+use Rattle.rept_slices.specs.Skipping.{kept, skipped, untraced}
 use Rattle.rept_slices.specs.Order.{overlap}
 use Rattle.rept_slices.specs.Checks.{first_fault, check}
 use Rattle.rept_slices.specs.Stretches.{heads, StretchLegs, Walks, WalksFault, ran}
 use Rattle.rept_slices.specs.Joins.{ThreadNote, JoinGround, ran_rows, threads}
 
--- a program, the packets of each stream, the notes of the threads, and the number from which on a window may begin
+-- a program, the packets of each stream, the notes of the threads, and the number from which on a
+-- window may begin
 pub record Traces : Type 0 where
   pub code : Code
   pub streams : List (List Packet)
@@ -41,9 +43,10 @@ unmet None = Ok 0
 unmet (Some e) = Err e
 
 abbrev pub run_by : Traces → List ThreadRows → Run
-run_by t all = record { threads = all; dark = dark t.from t.streams; skipped = skipped t.from t.streams }
+run_by t all = record { threads = all; untraced = untraced t.from t.streams; skipped = skipped t.from t.streams }
 
--- The run of stretches that were walked: no two streams tell of one thread at a time, and each thread's slices are joined.
+-- The run of stretches that were walked: no two streams tell of one thread at a time, and each
+-- thread's slices are joined.
 abbrev pub joined : Traces → List StretchLegs → Result Run PathFault
 joined t ws =
     let rs = ran t.code (left t) ws in do
@@ -58,8 +61,9 @@ pub record IsRunOfStreams (t : Traces) (run : Run) : Type 0 where
   pub walks : Walks t.code 0 (heads (left t)) walked
   pub result : joined t walked ≡ Ok run
 
--- The first of these that fails is why there is none: the checks, in their order; the walks, stream by stream; then, thread by thread in
--- the order of the notes, whether two streams tell of it at a time (`overlap_fault`, the first part of `joined`); and then the joins.
+-- The first of these that fails is why there is none: the checks, in their order; the walks, stream
+-- by stream; then, thread by thread in the order of the notes, whether two streams tell of it at a
+-- time (`overlap_fault`, the first part of `joined`); and then the joins.
 abbrev pub HasNoRunOfStreams : Traces → PathFault → Type 0
 HasNoRunOfStreams t e =
     (check t.from (processes t) t.streams ≡ Some e)

@@ -15,7 +15,8 @@ abbrev pub by_time : {A : Type 0} → (A → ℕ) → List A → List A
 by_time time [] = []
 by_time time (x ∷ xs) = put time x (by_time time xs)
 
--- the slices of a thread in order: by their begins, of one begin that of the lower stream first, and as the stream has them
+-- the slices of a thread in order: by their begins, of one begin that of the lower stream first,
+-- and as the stream has them
 abbrev pub slices_of : ℕ → List ToldSlice → List ToldSlice
 slices_of thread ts = by_time begin_of (filter (λ t. thread_of t == thread) ts)
 
@@ -39,12 +40,13 @@ end_of ts t = end_before t (option_map begin_of (next_slice ts t))
 abbrev pub starts_past : ℕ → Packet → Bool
 starts_past time p = is_start p && is_past time (stamp_of p)
 
--- Whether a slice lasts past a time: a packet of it is of a later time, or the start packet that ends it is.
+-- Whether a slice lasts past a time: a packet of it is of a later time, or the start packet that
+-- ends it is.
 abbrev pub lasts_past : ℕ → ToldSlice → Bool
 lasts_past time t = list_any (λ p. is_past time (stamp_of p)) (take (inner t) t.later) || list_any (starts_past time) (take 1 (beyond t))
 
--- whether the former slice meets the latter: both are of one thread and of different streams, and they begin at one time, or the
--- former begins earlier and lasts past the begin of the latter
+-- whether the former slice meets the latter: both are of one thread and of different streams, and
+-- they begin at one time, or the former begins earlier and lasts past the begin of the latter
 abbrev pub meets : ToldSlice → ToldSlice → Bool
 meets t u =
     not (t.stream == u.stream) && thread_of t == thread_of u

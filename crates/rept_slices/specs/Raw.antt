@@ -28,14 +28,16 @@ HoldEach [] lists = lists ≡ []
 HoldEach (stream ∷ others) [] = ⊥
 HoldEach (stream ∷ others) (packets ∷ lists) = Hold stream packets × HoldEach others lists
 
--- A packet is refused, in the first stream that has such a one. The first packet of the first stream has this number.
+-- A packet is refused, in the first stream that has such a one. The first packet of the first
+-- stream has this number.
 abbrev pub FailsIn : ℕ → List Stream → TraceFault → Type 0
 FailsIn k [] refused = ⊥
 FailsIn k (stream ∷ others) refused =
     ((packets : List Packet) × FailsAfter k stream packets refused)
     ⊎ ((packets : List Packet) × Hold stream packets × FailsIn (k + length packets) others refused)
 
--- what the files of a program hold, the file of its traces, the notes of the threads, and the number from which on a window may begin
+-- what the files of a program hold, the file of its traces, the notes of the threads, and the
+-- number from which on a window may begin
 pub record RawFiles : Type 0 where
   pub contents : Contents
   pub file : StreamFile
@@ -58,13 +60,15 @@ HasNoRun f e =
     ((refused : TraceFault) × FailsIn 0 (streams_of f.file) refused × (e ≡ fault.Packet refused))
     ⊎ ((packets : List (List Packet)) × HoldEach (streams_of f.file) packets × HasNoRunOfStreams (traces f packets) e)
 
--- what is looked at before a row is walked: the file of the traces, the processes of the threads, and the number from which on a window may begin
+-- what is looked at before a row is walked: the file of the traces, the processes of the threads,
+-- and the number from which on a window may begin
 pub record Looked : Type 0 where
   pub file : StreamFile
   pub processes : List ℕ
   pub from : ℕ
 
--- Why the streams are refused before a row is walked: a packet is refused, before all else; or all are whole, and a check fails.
+-- Why the streams are refused before a row is walked: a packet is refused, before all else; or all
+-- are whole, and a check fails.
 abbrev pub IsRefusedBefore : Looked → PathFault → Type 0
 IsRefusedBefore l e =
     ((refused : TraceFault) × FailsIn 0 (streams_of l.file) refused × (e ≡ fault.Packet refused))
@@ -74,7 +78,8 @@ IsRefusedBefore l e =
 abbrev pub PassBefore : Looked → List (List Packet) → Type 0
 PassBefore l lists = HoldEach (streams_of l.file) lists × (check l.from l.processes lists ≡ None)
 
--- the note of a thread by its descriptor: `pr_pid`, the thread's own number, at 24, the program counter at 72
+-- the note of a thread by its descriptor: `pr_pid`, the thread's own number, at 24, the program
+-- counter at 72
 abbrev pub note_in : List ℕ → ThreadNote
 note_in desc = record { process = word_at desc 24; pc = word_at desc 72 }
 

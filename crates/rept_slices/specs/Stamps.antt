@@ -1,5 +1,6 @@
--- What a packet says of time and of threads (Efficient Trace for RISC-V 2.0: the fields time and context), and what it does to a
--- slice. Times are of one clock; a context is the thread's own number, as `pr_pid` of its note. This project's own, but for the fields.
+-- What a packet says of time and of threads (Efficient Trace for RISC-V 2.0: the fields time and
+-- context), and what it does to a slice. Times are of one clock; a context is the thread's own
+-- number, as `pr_pid` of its note. This project's own, but for the fields.
 use Rattle.std.specs.Prelude.{ℕ, nat_lt, Bool, true, false, Option, Some, None, unwrap_or, ◌||◌}
 use Rattle.rept_trace.specs.declared.packet.Qual.TheVariants.{EndedRep, EndedNtr}
 use Rattle.rept_trace.specs.declared.packet.Packet.{Packet}

@@ -5,9 +5,9 @@ use Rattle.rept_trace.specs.declared.packet.Packet.{Packet}
 use Rattle.rept_slices.specs.Parts.{slices_told}
 use Rattle.rept_slices.specs.Skipping.{windows as all_windows, opening, full_from, kept, skipped}
 use Rattle.rept_slices.specs.Entries.{AreEntriesOf}
-use Rattle.rept_slices.specs.declared.survey.Survey.{Survey}
+use Rattle.rept_slices.specs.declared.survey.StreamSurvey.{StreamSurvey}
 
-pub record IsSurvey (from : ℕ) (lists : List (List Packet)) (s : Survey) : Type 0 where
+pub record IsSurvey (from : ℕ) (lists : List (List Packet)) (s : StreamSurvey) : Type 0 where
   pub windows : AreEntriesOf s.windows.items (slices_told (all_windows from lists))
   pub time : s.time ≡ full_from (all_windows from lists)
   pub several : s.several ≡ nat_lt 1 (length (filter_map opening (all_windows from lists)))

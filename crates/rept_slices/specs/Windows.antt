@@ -8,19 +8,20 @@ use Rattle.rept_trace.specs.Packets.{rest_of}
 use Rattle.rept_trace.specs.Stream.{Stream}
 use Rattle.rept_path.specs.Survey.{Surveys}
 use Rattle.rept_path.specs.declared.window.Begin.{Begin}
-use Rattle.rept_slices.specs.declared.reading.Window.{Window}
+use Rattle.rept_slices.specs.declared.reading.StreamWindow.{StreamWindow}
 use Rattle.rept_slices.specs.Parts.{LeftPackets}
 use Rattle.rept_slices.specs.Skipping.{skip, window_of}
 
--- the stream of this number, the first packet of which has that number, which was sent so, with these packets
-pub record IsStreamWindow (s k from : ℕ) (sent : Stream) (packets : List Packet) (w : Window) : Type 0 where
+-- the stream of this number, the first packet of which has that number, which was sent so, with
+-- these packets
+pub record IsStreamWindow (s k from : ℕ) (sent : Stream) (packets : List Packet) (w : StreamWindow) : Type 0 where
   pub stream : w.stream ≡ s
   pub number : w.number ≡ k
   pub rest : rest_of w.packets ≡ sent
   pub surveys : Surveys sent packets from (record { count = w.count; begin = w.begin })
 
 -- the streams from that of this number on, the first packet of which has that number
-abbrev pub AreWindows : ℕ → ℕ → ℕ → List Stream → List (List Packet) → List Window → Type 0
+abbrev pub AreWindows : ℕ → ℕ → ℕ → List Stream → List (List Packet) → List StreamWindow → Type 0
 AreWindows s k from [] lists ws = (lists ≡ []) × (ws ≡ [])
 AreWindows s k from (stream ∷ others) [] ws = ⊥
 AreWindows s k from (stream ∷ others) (packets ∷ lists) [] = ⊥
@@ -53,7 +54,7 @@ numbered_after before (StreamPastEnd s) = StreamPastEnd s
 numbered_after before (Rest offset) = Rest offset
 
 -- all streams, which have fewer than 2^32 packets
-pub record AreAll (from : ℕ) (streams : List Stream) (lists : List (List Packet)) (ws : List Window) : Type 0 where
+pub record AreAll (from : ℕ) (streams : List Stream) (lists : List (List Packet)) (ws : List StreamWindow) : Type 0 where
   pub windows : AreWindows 0 0 from streams lists ws
   pub few : sum_by (λ packets. length packets) lists < 2 ^ 32
 
@@ -62,5 +63,5 @@ abbrev pub skipped_by : ℕ → Option Begin → ℕ
 skipped_by count None = count
 skipped_by count (Some b) = b.number
 
-abbrev pub skipped_of : Window → ℕ
+abbrev pub skipped_of : StreamWindow → ℕ
 skipped_of w = skipped_by w.count w.begin

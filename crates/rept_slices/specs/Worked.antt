@@ -1,4 +1,5 @@
--- Examples: streams of packets of two threads, which run as the processes 1 and 2, and what the definitions say of them.
+-- Examples: streams of packets of two threads, which run as the processes 1 and 2, and what the
+-- definitions say of them.
 use Rattle.std.specs.Prelude.{ℕ, List, [], ◌∷◌, map, true, false, Option}
 use Rattle.rept_trace.specs.declared.packet.Qual.TheVariants.{EndedRep, TraceLost}
 use Rattle.rept_trace.specs.declared.packet.Packet.{Packet}
@@ -6,11 +7,12 @@ use Rattle.rept_trace.specs.declared.packet.Packet.TheVariants.{Start, Context, 
 use Rattle.rept_path.specs.declared.fault.PathFault.{PathFault}
 use Rattle.rept_slices.specs.Parts.{thread_of, begin_of, slices_told}
 use Rattle.rept_slices.specs.Order.{end_of}
-use Rattle.rept_slices.specs.Skipping.{kept, skipped, dark}
+use Rattle.rept_slices.specs.Skipping.{kept, skipped, untraced}
 use Rattle.rept_slices.specs.Checks.{first_fault, check}
 use Rattle.rept_slices.specs.Many.{overlap_fault}
 
--- a start packet of a time and a thread, a context packet of a time, and the packets that say that the trace ended, or lost packets
+-- a start packet of a time and a thread, a context packet of a time, and the packets that say that
+-- the trace ended, or lost packets
 abbrev pub start : ℕ → ℕ → Packet
 start time thread = Start true 0 65536 time thread
 
@@ -36,16 +38,18 @@ times stream thread begin end = record { stream = stream; thread = thread; begin
 abbrev pub slices : ℕ → List (List Packet) → List Times
 slices from streams = map (λ t. times t.stream (thread_of t) (begin_of t) (end_of (slices_told (kept from streams)) t)) (slices_told (kept from streams))
 
--- what streams tell: their slices, until when anything may have happened, and how many packets are skipped
+-- what streams tell: their slices, until when anything may have happened, and how many packets are
+-- skipped
 pub record SaidOfStreams : Type 0 where
   pub slices : List Times
-  pub dark : Option ℕ
+  pub untraced : Option ℕ
   pub skipped : ℕ
 
 abbrev pub says : ℕ → List (List Packet) → SaidOfStreams
-says from streams = record { slices = slices from streams; dark = dark from streams; skipped = skipped from streams }
+says from streams = record { slices = slices from streams; untraced = untraced from streams; skipped = skipped from streams }
 
--- the first fault before the walks, and that of two streams that tell of one thread at a time, for the threads 1 and 2
+-- the first fault before the walks, and that of two streams that tell of one thread at a time, for
+-- the threads 1 and 2
 abbrev pub fault : List (List Packet) → Option PathFault
 fault streams = check 0 (1 ∷ 2 ∷ []) streams
 
@@ -64,11 +68,11 @@ moved = (start 1 1 ∷ ended ∷ context 5 ∷ start 9 2 ∷ []) ∷ (start 2 2 
 abbrev pub next_elsewhere : List (List Packet)
 next_elsewhere = (start 1 1 ∷ ended ∷ []) ∷ (start 1 2 ∷ ended ∷ start 6 1 ∷ []) ∷ []
 
--- one stream has no dark
+-- one stream has no untraced prefix
 abbrev pub one_hart : List (List Packet)
 one_hart = (start 5 1 ∷ ended ∷ []) ∷ [] ∷ []
 
--- the dark lasts as long as what is skipped may
+-- the untraced prefix lasts as long as what is skipped may
 abbrev pub whole_stream_skipped : List (List Packet)
 whole_stream_skipped = (start 1 1 ∷ ended ∷ []) ∷ (start 5 2 ∷ []) ∷ []
 

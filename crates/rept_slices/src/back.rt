@@ -13,7 +13,8 @@ use rept_path::PathFault;
 use rept_path::window::next_packet;
 use rept_trace::{Packet, Packets};
 
-/// The latest time after a packet, where it was this one before it. None where the packet is of an earlier time.
+/// The latest time after a packet, where it was this one before it. None where the packet is of an
+/// earlier time.
 fn latest_after(packet: Packet, latest: u64) -> Option<u64>
     ensures { result ≡ latest_by (stamp_of packet) latest }
 {
@@ -23,7 +24,8 @@ fn latest_after(packet: Packet, latest: u64) -> Option<u64>
     }
 }
 
-/// Why the packets of a stream, the first of which has this number, aren't in the order of time, if they aren't.
+/// Why the packets of a stream, the first of which has this number, aren't in the order of time, if
+/// they aren't.
 pub fn time_back(packets: Packets<'_>, number: u32) -> Option<PathFault>
     requires { (list : List Packet) × Hold (rest_of packets) list × (number + length list < 2 ^ 32) }
     ensures { (list : List Packet) → Hold (rest_of packets.entry) list → result ≡ back_from number [] list }

@@ -9,11 +9,11 @@ ghost use Rattle.rept_slices.specs.Skipping.{whole, windows as all_windows};
 ghost use Rattle.rept_slices.specs.Windows.{IsStreamWindow, AreAll};
 
 use crate::back::time_back;
-use crate::reading::Window;
+use crate::reading::StreamWindow;
 use rept_path::PathFault;
 
 /// Why a stream has packets and no window, if it is so.
-fn startless(window: &Window<'_>) -> Option<PathFault>
+fn startless(window: &StreamWindow<'_>) -> Option<PathFault>
     ensures { (s k from : ℕ) (stream : Stream) (packets : List Packet) → IsStreamWindow s k from stream packets window.now → result ≡ startless from (record { stream = s; number = k; packets = packets }) }
 {
     if window.count == 0 {
@@ -26,7 +26,7 @@ fn startless(window: &Window<'_>) -> Option<PathFault>
 }
 
 /// The first packet of a stream that is of an earlier time than one before it.
-fn first_back(windows: &[Window<'_>]) -> Option<PathFault>
+fn first_back(windows: &[StreamWindow<'_>]) -> Option<PathFault>
     requires { (from : ℕ) × (streams : List Stream) × (lists : List (List Packet)) × AreAll from streams lists windows.now }
     ensures { (from : ℕ) (streams : List Stream) (lists : List (List Packet)) → AreAll from streams lists windows.now → result ≡ first_fault time_back (whole lists) }
 {
@@ -39,7 +39,7 @@ fn first_back(windows: &[Window<'_>]) -> Option<PathFault>
 }
 
 /// The first stream that has packets and no window.
-fn first_startless(windows: &[Window<'_>]) -> Option<PathFault>
+fn first_startless(windows: &[StreamWindow<'_>]) -> Option<PathFault>
     ensures { (from : ℕ) (streams : List Stream) (lists : List (List Packet)) → AreAll from streams lists windows.now → result ≡ first_fault (startless from) (whole lists) }
 {
     for window in windows {
@@ -51,7 +51,7 @@ fn first_startless(windows: &[Window<'_>]) -> Option<PathFault>
 }
 
 /// Whether no stream has a packet.
-fn all_idle(windows: &[Window<'_>]) -> Option<PathFault>
+fn all_idle(windows: &[StreamWindow<'_>]) -> Option<PathFault>
     ensures { (from : ℕ) (streams : List Stream) (lists : List (List Packet)) → AreAll from streams lists windows.now → result ≡ all_idle lists }
 {
     for window in windows {
@@ -62,9 +62,10 @@ fn all_idle(windows: &[Window<'_>]) -> Option<PathFault>
     Some(PathFault::NoStart(0))
 }
 
-/// Why the packets of several streams are refused before their slices are looked at, if they are: a packet is of an earlier time than one before it in
-/// its stream, a stream has packets and no window, or no stream has packets. The first of these, and of each the first stream.
-pub fn refused_before(windows: &[Window<'_>]) -> Option<PathFault>
+/// Why the packets of several streams are refused before their slices are looked at, if they are: a
+/// packet is of an earlier time than one before it in its stream, a stream has packets and no
+/// window, or no stream has packets. The first of these, and of each the first stream.
+pub fn refused_before(windows: &[StreamWindow<'_>]) -> Option<PathFault>
     requires { (from : ℕ) × (streams : List Stream) × (lists : List (List Packet)) × AreAll from streams lists windows.now }
     ensures refusal { (from : ℕ) (streams : List Stream) (lists : List (List Packet)) → AreAll from streams lists windows.now →
         result ≡ first_fault (λ found. found) (first_fault time_back (whole lists) ∷ first_fault (startless from) (whole lists) ∷ all_idle lists ∷ []) }

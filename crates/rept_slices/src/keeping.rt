@@ -10,9 +10,9 @@ ghost use Rattle.rept_slices.specs.Stamps.{clock_of, is_start};
 ghost use Rattle.rept_slices.specs.Parts.{LeftPackets};
 ghost use Rattle.rept_slices.specs.Skipping.{opening, full_from, from_time};
 ghost use Rattle.rept_slices.specs.Lefts.{IsLeftBy, IsLeft, AreLeft, BeginsFrom, later_by};
-ghost use Rattle.rept_slices.specs.declared.reading.Window.{Window};
+ghost use Rattle.rept_slices.specs.declared.reading.StreamWindow.{StreamWindow};
 
-use crate::reading::Window;
+use crate::reading::StreamWindow;
 use crate::scan::time_of;
 use rept_path::PathFault;
 use rept_path::window::{Begin, next_packet};
@@ -40,7 +40,7 @@ pub fn later_by(time: u64, other: Option<u64>) -> u64
 }
 
 /// The time of the first packet that is left of a stream.
-pub fn opening(window: &Window<'_>) -> Option<u64>
+pub fn opening(window: &StreamWindow<'_>) -> Option<u64>
     ensures { (l : LeftPackets) → IsLeft window.now l → result ≡ opening l }
 {
     match window.begin {
@@ -49,8 +49,9 @@ pub fn opening(window: &Window<'_>) -> Option<u64>
     }
 }
 
-/// The time from which on all streams tell: the greatest of those of the first packets that are left of them.
-pub fn full_from(windows: &[Window<'_>]) -> u64
+/// The time from which on all streams tell: the greatest of those of the first packets that are
+/// left of them.
+pub fn full_from(windows: &[StreamWindow<'_>]) -> u64
     ensures { (lefts : List LeftPackets) → AreLeft windows.now lefts → result ≡ full_from lefts }
 {
     let mut greatest = 0;
@@ -94,7 +95,7 @@ fn begin_from<'a>(begin: Begin<'a>, time: u64) -> Option<Begin<'a>>
 }
 
 /// The packet with which what is left of a stream from this time on begins.
-fn kept_begin<'a>(window: &Window<'a>, time: u64) -> Option<Begin<'a>>
+fn kept_begin<'a>(window: &StreamWindow<'a>, time: u64) -> Option<Begin<'a>>
     requires { (l : LeftPackets) × IsLeft window.now l }
     ensures { (l : LeftPackets) → IsLeft window.now l → IsLeftBy (from_time time l) window.now.number result }
 {
@@ -105,13 +106,13 @@ fn kept_begin<'a>(window: &Window<'a>, time: u64) -> Option<Begin<'a>>
 }
 
 /// What is left of a stream from this time on.
-fn kept<'a>(window: &Window<'a>, time: u64) -> Window<'a>
+fn kept<'a>(window: &StreamWindow<'a>, time: u64) -> StreamWindow<'a>
     requires { (l : LeftPackets) × IsLeft window.now l }
     ensures left { (l : LeftPackets) → IsLeft window.now l → IsLeft result (from_time time l) }
     ensures count { result.count ≡ window.now.count }
 {
     let begin = kept_begin(window, time);
-    Window {
+    StreamWindow {
         stream: window.stream,
         number: window.number,
         packets: window.packets,
@@ -123,14 +124,14 @@ fn kept<'a>(window: &Window<'a>, time: u64) -> Window<'a>
 /// What is left of several streams from this time on.
 pub fn keep_from<'a>(
     alloc: Global,
-    windows: &[Window<'a>],
+    windows: &[StreamWindow<'a>],
     time: u64,
-) -> Result<Vec<Window<'a>>, PathFault>
+) -> Result<Vec<StreamWindow<'a>>, PathFault>
     requires { (lefts : List LeftPackets) × AreLeft windows.now lefts }
     ensures ok { (lefts : List LeftPackets) → AreLeft windows.now lefts → IfOk result (λ left. AreLeft left.items (map (from_time time) lefts)) }
 
     // What is left is of as many packets as before.
-    ensures counts { IfOk result (λ left. sum_by (λ (w : Window). w.count) left.items ≡ sum_by (λ (w : Window). w.count) windows.now) }
+    ensures counts { IfOk result (λ left. sum_by (λ (w : StreamWindow). w.count) left.items ≡ sum_by (λ (w : StreamWindow). w.count) windows.now) }
     ensures err { IfErr result (λ e. e ≡ OutOfMemory) }
 {
     let mut left = Vec::new(alloc);

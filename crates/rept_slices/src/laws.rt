@@ -28,19 +28,19 @@ pub fn windows_agree()
 
 /// The run of packets whose times have 64 bits is sound.
 pub fn runs_are_sound()
-    ensures { (t : Traces) (run : Run) → All (All (λ p. clock_of p < 2 ^ 64)) t.streams → IsRunOfStreams t run → IsSoundCourse (record { threads = run.threads; dark = run.dark }) }
+    ensures { (t : Traces) (run : Run) → All (All (λ p. clock_of p < 2 ^ 64)) t.streams → IsRunOfStreams t run → IsSoundCourse (record { threads = run.threads; untraced = run.untraced }) }
 {}
 
 /// Examples worked out by hand: what streams tell of the threads that run as the processes 1 and 2.
 pub fn worked_examples()
-    ensures two_harts { says 0 two_harts ≡ record { slices = times 0 1 1 3 ∷ times 0 1 3 9 ∷ times 0 1 9 18446744073709551615 ∷ times 1 2 1 4 ∷ times 1 2 4 8 ∷ []; dark = Some 1; skipped = 0 } }
-    ensures two_harts_later { says 1 two_harts ≡ record { slices = times 0 1 9 18446744073709551615 ∷ times 1 2 4 8 ∷ []; dark = Some 9; skipped = 3 } }
-    ensures moved { says 0 moved ≡ record { slices = times 0 2 9 18446744073709551615 ∷ times 1 2 2 7 ∷ times 1 1 7 18446744073709551615 ∷ []; dark = Some 5; skipped = 3 } }
-    ensures next_elsewhere { says 0 next_elsewhere ≡ record { slices = times 0 1 1 6 ∷ times 1 2 1 6 ∷ times 1 1 6 18446744073709551615 ∷ []; dark = Some 1; skipped = 0 } }
-    ensures one_hart { says 0 one_hart ≡ record { slices = times 0 1 5 18446744073709551615 ∷ []; dark = None; skipped = 0 } }
-    ensures whole_stream_skipped { says 0 whole_stream_skipped ≡ record { slices = times 1 2 5 18446744073709551615 ∷ []; dark = Some 18446744073709551615; skipped = 2 } }
-    ensures tied_while_skipped { says 0 tied_while_skipped ≡ record { slices = times 2 2 5 18446744073709551615 ∷ []; dark = Some 9; skipped = 6 } }
-    ensures start_at_the_time { says 0 start_at_the_time ≡ record { slices = times 0 1 5 18446744073709551615 ∷ times 1 2 5 18446744073709551615 ∷ []; dark = Some 5; skipped = 1 } }
+    ensures two_harts { says 0 two_harts ≡ record { slices = times 0 1 1 3 ∷ times 0 1 3 9 ∷ times 0 1 9 18446744073709551615 ∷ times 1 2 1 4 ∷ times 1 2 4 8 ∷ []; untraced = Some 1; skipped = 0 } }
+    ensures two_harts_later { says 1 two_harts ≡ record { slices = times 0 1 9 18446744073709551615 ∷ times 1 2 4 8 ∷ []; untraced = Some 9; skipped = 3 } }
+    ensures moved { says 0 moved ≡ record { slices = times 0 2 9 18446744073709551615 ∷ times 1 2 2 7 ∷ times 1 1 7 18446744073709551615 ∷ []; untraced = Some 5; skipped = 3 } }
+    ensures next_elsewhere { says 0 next_elsewhere ≡ record { slices = times 0 1 1 6 ∷ times 1 2 1 6 ∷ times 1 1 6 18446744073709551615 ∷ []; untraced = Some 1; skipped = 0 } }
+    ensures one_hart { says 0 one_hart ≡ record { slices = times 0 1 5 18446744073709551615 ∷ []; untraced = None; skipped = 0 } }
+    ensures whole_stream_skipped { says 0 whole_stream_skipped ≡ record { slices = times 1 2 5 18446744073709551615 ∷ []; untraced = Some 18446744073709551615; skipped = 2 } }
+    ensures tied_while_skipped { says 0 tied_while_skipped ≡ record { slices = times 2 2 5 18446744073709551615 ∷ []; untraced = Some 9; skipped = 6 } }
+    ensures start_at_the_time { says 0 start_at_the_time ≡ record { slices = times 0 1 5 18446744073709551615 ∷ times 1 2 5 18446744073709551615 ∷ []; untraced = Some 5; skipped = 1 } }
     ensures time_goes_back { fault time_goes_back ≡ Some (TimeBack 1) }
     ensures time_goes_back_after_a_slice { fault time_goes_back_after_a_slice ≡ Some (TimeBack 3) }
     ensures no_packets { fault no_packets ≡ Some (NoStart 0) }

@@ -1,9 +1,9 @@
-//! What the instruction traces of several harts tell of the threads of a program: the definition of its run, its laws, and the slices that the traces tell.
+//! What the instruction traces of several harts tell of the threads of a program: the definition of
+//! its run, its laws, and the slices that the traces tell.
 #![tactic(auto)]
 
 pub mod back;
 pub mod checks;
-pub mod dark;
 pub mod keeping;
 pub mod laws;
 pub mod order;
@@ -12,3 +12,4 @@ pub mod scan;
 pub mod strangers;
 pub mod survey;
 pub mod telling;
+pub mod untraced;

@@ -16,7 +16,7 @@ use std::alloc::Global;
 
 /// A stream of packets, all of which are whole.
 #[derive(Clone, Copy)]
-pub struct Window<'a> {
+pub struct StreamWindow<'a> {
     /// The number of the stream.
     pub stream: u32,
     /// The number of its first packet among those of all streams.
@@ -53,7 +53,7 @@ fn read_stream<'a>(
     s: u32,
     number: u32,
     from: u32,
-) -> Result<Window<'a>, TraceFault>
+) -> Result<StreamWindow<'a>, TraceFault>
     requires there { s < length streams.now.streams }
     requires few { (stream : Stream) → slice_get (streams_of streams.now) s ≡ Some stream → number + length stream.bytes < 2 ^ 32 }
     ensures ok { IfOk result (λ w. (stream : Stream) × (packets : List Packet) × (slice_get (streams_of streams.now) s ≡ Some stream) × IsStreamWindow s number from stream packets w) }
@@ -62,7 +62,7 @@ fn read_stream<'a>(
     let packets = streams.packets(s);
     match go_through(packets, from) {
         Err(fault) => Err(numbered_after(fault, number)),
-        Ok(survey) => Ok(Window {
+        Ok(survey) => Ok(StreamWindow {
             stream: s,
             number,
             packets,
@@ -72,12 +72,13 @@ fn read_stream<'a>(
     }
 }
 
-/// All streams, in their order. A packet that is refused is told by its number among those of all streams.
+/// All streams, in their order. A packet that is refused is told by its number among those of all
+/// streams.
 pub fn read_all<'a>(
     alloc: Global,
     streams: &Streams<'a>,
     from: u32,
-) -> Result<Vec<Window<'a>>, PathFault>
+) -> Result<Vec<StreamWindow<'a>>, PathFault>
     requires { sum_by (λ bytes. length bytes) streams.now.streams < 2 ^ 32 }
     ensures ok { IfOk result (λ ws. (lists : List (List Packet)) × AreWindows 0 0 from (streams_of streams.now) lists ws.items) }
     ensures err { IfErr result (λ e. (e ≡ OutOfMemory) ⊎ ((refused : TraceFault) × FailsIn 0 (streams_of streams.now) refused × (e ≡ PacketFault refused))) }

@@ -58,7 +58,8 @@ fn time_from(packet: Packet, later: Packets<'_>) -> Option<u64>
     }
 }
 
-/// The first time that a stream tells from the packet on that ends a slice, from those after the slice's start packet.
+/// The first time that a stream tells from the packet on that ends a slice, from those after the
+/// slice's start packet.
 pub fn time_beyond(later: Packets<'_>) -> Option<u64>
     requires { (list : List Packet) × Hold (rest_of later) list }
     ensures { (list : List Packet) → Hold (rest_of later.entry) list → result ≡ first_time (drop (prefix_len (λ p. not (closes p)) list) list) }

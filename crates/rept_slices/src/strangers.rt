@@ -7,7 +7,7 @@ ghost use Rattle.rept_slices.specs.Parts.{ToldSlice};
 ghost use Rattle.rept_slices.specs.Checks.{first_fault, stranger};
 ghost use Rattle.rept_slices.specs.Entries.{AreEntriesOf, judged, judged_inside};
 
-use crate::telling::Entry;
+use crate::telling::StreamSlice;
 use rept_path::PathFault;
 use rept_trace::Packet;
 
@@ -49,7 +49,7 @@ fn other_thread(number: u32, process: u32, inside: Option<u32>) -> Option<PathFa
 }
 
 /// Why a slice is refused for its thread, if it is.
-fn stranger(slice: &Entry<'_>, processes: &[u32]) -> Option<PathFault>
+fn stranger(slice: &StreamSlice<'_>, processes: &[u32]) -> Option<PathFault>
     ensures { result ≡ judged processes.now slice.now.number (context_of slice.now.start) slice.now.inside }
 {
     let process = context_of(slice.start);
@@ -59,8 +59,9 @@ fn stranger(slice: &Entry<'_>, processes: &[u32]) -> Option<PathFault>
     other_thread(slice.number, process, slice.inside)
 }
 
-/// The first slice of a thread that isn't one of these processes, or that begins while another thread runs: the refusal, if there is one.
-pub fn refused_by_threads(slices: &[Entry<'_>], processes: &[u32]) -> Option<PathFault>
+/// The first slice of a thread that isn't one of these processes, or that begins while another
+/// thread runs: the refusal, if there is one.
+pub fn refused_by_threads(slices: &[StreamSlice<'_>], processes: &[u32]) -> Option<PathFault>
     ensures { (ts : List ToldSlice) → AreEntriesOf slices.now ts → result ≡ first_fault (stranger processes.now) ts }
 {
     for slice in slices {

@@ -10,10 +10,10 @@ ghost use Rattle.rept_slices.specs.Lefts.{IsLeft, AreLeft};
 ghost use Rattle.rept_slices.specs.Parts.{LeftPackets, told_from, told_in, slices_told};
 ghost use Rattle.rept_slices.specs.Entries.{AreEntriesOf, with_head, entries_from};
 ghost use Rattle.rept_slices.specs.Skipping.{from_time};
-ghost use Rattle.rept_slices.specs.declared.telling.Entry.{Entry};
+ghost use Rattle.rept_slices.specs.declared.telling.StreamSlice.{StreamSlice};
 
 use crate::keeping::clock_of;
-use crate::reading::Window;
+use crate::reading::StreamWindow;
 use rept_path::PathFault;
 use rept_path::window::next_packet;
 use rept_trace::{Packet, Packets, Qual};
@@ -21,7 +21,7 @@ use std::alloc::Global;
 
 /// A slice as its stream tells it.
 #[derive(Clone, Copy)]
-pub struct Entry<'a> {
+pub struct StreamSlice<'a> {
     /// The number of its stream.
     pub stream: u32,
     /// The number of its start packet among the packets of all streams.
@@ -59,7 +59,10 @@ fn running_after(packet: Packet, before: Option<u32>) -> Option<u32>
 }
 
 /// Adds a slice, if the packet that it begins with is a start packet.
-fn add_start<'a>(entries: &mut Vec<Entry<'a>>, slice: Entry<'a>) -> Result<(), PathFault>
+fn add_start<'a>(
+    entries: &mut Vec<StreamSlice<'a>>,
+    slice: StreamSlice<'a>,
+) -> Result<(), PathFault>
     ensures ok { OnOk result (entries.new.items ≡ entries.old.items ++ (if is_start slice.entry.start then slice.entry ∷ [] else [])) }
     ensures err { IfErr result (λ e. e ≡ OutOfMemory) }
 {
@@ -72,19 +75,20 @@ fn add_start<'a>(entries: &mut Vec<Entry<'a>>, slice: Entry<'a>) -> Result<(), P
     Ok(())
 }
 
-/// Adds the slices of a stream from this packet on, which has this number among the packets of all streams and before which the trace doesn't run.
+/// Adds the slices of a stream from this packet on, which has this number among the packets of all
+/// streams and before which the trace doesn't run.
 pub fn tell<'a>(
-    entries: &mut Vec<Entry<'a>>,
+    entries: &mut Vec<StreamSlice<'a>>,
     stream: u32,
     number: u32,
     start: Packet,
     later: Packets<'a>,
 ) -> Result<(), PathFault>
     requires { (list : List Packet) × Hold (rest_of later) list × (number + 1 + length list < 2 ^ 32) }
-    ensures ok { (list : List Packet) → Hold (rest_of later.entry) list → OnOk result ((more : List Entry) × (entries.new.items ≡ entries.old.items ++ more) × AreEntriesOf more (told_from stream number None (start ∷ list))) }
+    ensures ok { (list : List Packet) → Hold (rest_of later.entry) list → OnOk result ((more : List StreamSlice) × (entries.new.items ≡ entries.old.items ++ more) × AreEntriesOf more (told_from stream number None (start ∷ list))) }
     ensures err { IfErr result (λ e. e ≡ OutOfMemory) }
 {
-    let first = Entry {
+    let first = StreamSlice {
         stream,
         number,
         start,
@@ -96,7 +100,7 @@ pub fn tell<'a>(
     let mut rest = later;
     let mut k = number + 1;
     while let Some(packet) = next_packet(&mut rest) {
-        let entry = Entry {
+        let entry = StreamSlice {
             stream,
             number: k,
             start: packet,
@@ -111,9 +115,12 @@ pub fn tell<'a>(
 }
 
 /// Adds the slices of what is left of a stream.
-fn tell_window<'a>(entries: &mut Vec<Entry<'a>>, window: &Window<'a>) -> Result<(), PathFault>
+fn tell_window<'a>(
+    entries: &mut Vec<StreamSlice<'a>>,
+    window: &StreamWindow<'a>,
+) -> Result<(), PathFault>
     requires { (l : LeftPackets) × IsLeft window.now l }
-    ensures ok { (l : LeftPackets) → IsLeft window.now l → OnOk result ((more : List Entry) × (entries.new.items ≡ entries.old.items ++ more) × AreEntriesOf more (told_in l)) }
+    ensures ok { (l : LeftPackets) → IsLeft window.now l → OnOk result ((more : List StreamSlice) × (entries.new.items ≡ entries.old.items ++ more) × AreEntriesOf more (told_in l)) }
     ensures err { IfErr result (λ e. e ≡ OutOfMemory) }
 {
     match window.begin {
@@ -126,14 +133,17 @@ fn tell_window<'a>(entries: &mut Vec<Entry<'a>>, window: &Window<'a>) -> Result<
 }
 
 /// Adds slices of a stream, the first one as it is where nothing before it is known.
-fn add_left<'a>(entries: &mut Vec<Entry<'a>>, slices: &[Entry<'a>]) -> Result<(), PathFault>
+fn add_left<'a>(
+    entries: &mut Vec<StreamSlice<'a>>,
+    slices: &[StreamSlice<'a>],
+) -> Result<(), PathFault>
     ensures ok { OnOk result (entries.new.items ≡ entries.old.items ++ with_head slices.now) }
     ensures err { IfErr result (λ e. e ≡ OutOfMemory) }
 {
     let Some((first, later)) = slices.split_first() else {
         return Ok(());
     };
-    let first = Entry {
+    let first = StreamSlice {
         stream: first.stream,
         number: first.number,
         start: first.start,
@@ -151,8 +161,8 @@ fn add_left<'a>(entries: &mut Vec<Entry<'a>>, slices: &[Entry<'a>]) -> Result<()
 
 /// Adds the slices of a stream from the first one on that begins at this time or a later one.
 fn add_from<'a>(
-    entries: &mut Vec<Entry<'a>>,
-    slices: &[Entry<'a>],
+    entries: &mut Vec<StreamSlice<'a>>,
+    slices: &[StreamSlice<'a>],
     time: u64,
 ) -> Result<(), PathFault>
     ensures ok { OnOk result (entries.new.items ≡ entries.old.items ++ entries_from time slices.now) }
@@ -170,20 +180,20 @@ fn add_from<'a>(
 #[derive(Drop)]
 pub struct Tellings<'a> {
     /// Those of the windows of all streams.
-    pub windows: Vec<Entry<'a>>,
+    pub windows: Vec<StreamSlice<'a>>,
     /// Those that are left from a time on.
-    pub slices: Vec<Entry<'a>>,
+    pub slices: Vec<StreamSlice<'a>>,
 }
 
 /// Adds the slices of what is left of a stream, and those that are left of them from this time on.
 fn tell_both<'a>(
     both: &mut Tellings<'a>,
     alloc: Global,
-    window: &Window<'a>,
+    window: &StreamWindow<'a>,
     time: u64,
 ) -> Result<(), PathFault>
     requires { (l : LeftPackets) × IsLeft window.now l }
-    ensures ok { (l : LeftPackets) → IsLeft window.now l → OnOk result ((more : List Entry) × (both.new.windows.items ≡ both.old.windows.items ++ more) × (both.new.slices.items ≡ both.old.slices.items ++ entries_from time more) × AreEntriesOf more (told_in l)) }
+    ensures ok { (l : LeftPackets) → IsLeft window.now l → OnOk result ((more : List StreamSlice) × (both.new.windows.items ≡ both.old.windows.items ++ more) × (both.new.slices.items ≡ both.old.slices.items ++ entries_from time more) × AreEntriesOf more (told_in l)) }
     ensures err { IfErr result (λ e. e ≡ OutOfMemory) }
 {
     let mut own = Vec::new(alloc);
@@ -195,10 +205,11 @@ fn tell_both<'a>(
     Ok(())
 }
 
-/// The slices of what is left of several streams, and those that are left of them from this time on: stream by stream, in the order of their start packets. Each packet is read once.
+/// The slices of what is left of several streams, and those that are left of them from this time
+/// on: stream by stream, in the order of their start packets. Each packet is read once.
 pub fn tell_all<'a>(
     alloc: Global,
-    windows: &[Window<'a>],
+    windows: &[StreamWindow<'a>],
     time: u64,
 ) -> Result<Tellings<'a>, PathFault>
     requires { (lefts : List LeftPackets) × AreLeft windows.now lefts }

@@ -1,5 +1,5 @@
--- One kind of sets beside another that is never narrower: the sets that are followed by the one lie in those that are followed by the
--- other. This project's own.
+-- One kind of sets beside another that is never narrower: the sets that are followed by the one lie
+-- in those that are followed by the other. This project's own.
 use Rattle.std.specs.Prelude.{◌≡◌, ◌≤◌, ℕ, true, Some}
 use Rattle.rept_isa.specs.declared.instr.Instr.{Instr}
 use Rattle.rept_isa.specs.declared.row.StepRow.{StepRow}

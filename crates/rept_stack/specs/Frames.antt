@@ -1,5 +1,6 @@
--- The calls that a thread is in, told by how a return address is kept (RISC-V unprivileged manual, chapter 2.5, "Unconditional
--- Jumps", with x1 alone as the link register; how calls and returns are matched is the project's own).
+-- The calls that a thread is in, told by how a return address is kept (RISC-V unprivileged manual,
+-- chapter 2.5, "Unconditional Jumps", with x1 alone as the link register; how calls and returns are
+-- matched is the project's own).
 use Rattle.std.specs.Prelude.{ℕ, List, [], ◌∷◌, ◌++◌, Bool, false, ◌==◌, ◌&&◌, if◌then◌else◌}
 use Rattle.std.specs.List.{before_last, fold}
 use Rattle.rept_isa.specs.declared.instr.Instr.{Instr}
@@ -24,7 +25,8 @@ returns_by _ = false
 abbrev pub frame_of : StepRow → Frame
 frame_of row = record { at = row.at; back = following (from_of row) }
 
--- the calls that are left after a return to an address: those before the last that is to go on there; none without such a call
+-- the calls that are left after a return to an address: those before the last that is to go on
+-- there; none without such a call
 abbrev pub unwound : ℕ → List Frame → List Frame
 unwound next frames = before_last (λ f. f.back == next) frames
 

@@ -35,9 +35,10 @@ fn follow(frames: &mut Vec<Frame>, row: &StepRow) -> Result<(), AllocError>
     Ok(())
 }
 
-/// The calls that a thread is in after these rows of its path, oldest first. JAL and JALR with rd x1 call; JALR with rd x0 and
-/// rs1 x1 returns from the last call that is to go on where it leads, and from all after that; from all calls where none is
-/// to go on there. Calls that were entered before the first row aren't told. Its only refusal is of memory.
+/// The calls that a thread is in after these rows of its path, oldest first. JAL and JALR with rd
+/// x1 call; JALR with rd x0 and rs1 x1 returns from the last call that is to go on where it leads,
+/// and from all after that; from all calls where none is to go on there. Calls that were entered
+/// before the first row aren't told. Its only refusal is of memory.
 pub fn frames_of(alloc: Global, rows: &[StepRow]) -> Result<Vec<Frame>, AllocError>
     ensures { IfOk result (λ frames. frames.items ≡ frames_of rows.now) }
 {

@@ -12,7 +12,8 @@ fn goes_on_at(frame: &Frame, next: u32) -> bool
     frame.back == next
 }
 
-/// Takes off the last call that is to go on at this address, and all after it; all calls where none is.
+/// Takes off the last call that is to go on at this address, and all after it; all calls where none
+/// is.
 pub fn unwind(frames: &mut Vec<Frame>, next: u32)
     ensures { frames.new.items ≡ unwound next frames.old.items }
 {

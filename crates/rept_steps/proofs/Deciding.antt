@@ -171,17 +171,17 @@ one_true (x ∷ y ∷ xs) e = absurd (false≢true e)
 
 alone_true : (C : Course) → is_alone C ≡ true → IsAlone C
 alone_true C e =
-    let parts = and_parts (is_told C.dark) (is_one C.threads && is_one (thread_at C 0).slices) e in
+    let parts = and_parts (is_told C.untraced) (is_one C.threads && is_one (thread_at C 0).slices) e in
     let ones = and_parts (is_one C.threads) (is_one (thread_at C 0).slices) parts.1 in
     let thread = one_true C.threads ones.0 in
     let same : thread_at C 0 ≡ thread.0 = ap (λ (ts : List ThreadRows). unwrap_or (slice_get ts 0) no_thread) thread.1 in
     let slice = one_true thread.0.slices (sym (ap (λ (x : ThreadRows). is_one x.slices) same) ∙ ones.1) in
-    record { thread = thread.0; slice = slice.0; only = thread.1; whole = slice.1; told = told_true C.dark parts.0 }
+    record { thread = thread.0; slice = slice.0; only = thread.1; whole = slice.1; told = told_true C.untraced parts.0 }
 
 alone_back : (C : Course) → IsAlone C → is_alone C ≡ true
 alone_back C its =
     let same : thread_at C 0 ≡ its.thread = ap (λ (ts : List ThreadRows). unwrap_or (slice_get ts 0) no_thread) its.only in
-    and_from (is_told C.dark) (is_one C.threads && is_one (thread_at C 0).slices) (ap is_told its.told)
+    and_from (is_told C.untraced) (is_one C.threads && is_one (thread_at C 0).slices) (ap is_told its.told)
     (and_from (is_one C.threads) (is_one (thread_at C 0).slices) (ap (λ (ts : List ThreadRows). is_one ts) its.only) (ap (λ (x : ThreadRows). is_one x.slices) same ∙ ap (λ (ss : List Slice). is_one ss) its.whole))
 
 sound_true : (C : Course) → is_sound C ≡ true → IsSoundCourse C

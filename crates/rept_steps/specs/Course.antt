@@ -1,5 +1,5 @@
--- The course of a run of several threads: the steps of each thread, and the slices in which harts ran them. All times are of one
--- clock. This project's own.
+-- The course of a run of several threads: the steps of each thread, and the slices in which harts
+-- ran them. All times are of one clock. This project's own.
 use Rattle.std.specs.Prelude.{◌≡◌, ℕ, suc, ◌+◌, ◌<◌, ◌≤◌, ◌⊎◌, nat_lt, if◌then◌else◌, Bool, true, false, List, [], ◌∷◌, length, Option, Some, None, slice_get, unwrap_or}
 use Rattle.rept_isa.specs.declared.row.StepRow.{StepRow}
 use Rattle.rept_isa.specs.Operands.{is_call}
@@ -9,8 +9,9 @@ use Rattle.rept_steps.specs.declared.threads.ThreadRows.{ThreadRows}
 pub record Course : Type 0 where
   -- what each thread executed, in its order, and the slices in which it ran, in the order of time
   pub threads : List ThreadRows
-  -- where something of the begin isn't told: a time after which all is. Until then any byte may change.
-  pub dark : Option ℕ
+  -- where something of the begin isn't told: a time after which all is. Until then any byte may
+  -- change.
+  pub untraced : Option ℕ
 
 -- a row by its thread and its number in it
 pub record Row : Type 0 where
@@ -48,7 +49,8 @@ is_call_row (Some row) = is_call row.instr
 abbrev pub calls : Course → Row → Bool
 calls C r = is_call_row (row_at C r)
 
--- the slice that a row is in: slices take the rows one after the other, so it is the first one that reaches past the row
+-- the slice that a row is in: slices take the rows one after the other, so it is the first one that
+-- reaches past the row
 abbrev pub slice_of : List Slice → ℕ → Option Slice
 slice_of [] i = None
 slice_of (s ∷ slices) i = if nat_lt i (s.first + s.count) then Some s else slice_of slices i
@@ -87,10 +89,10 @@ pub record IsAlone (C : Course) : Type 0 where
   pub slice : Slice
   pub only : C.threads ≡ thread ∷ []
   pub whole : thread.slices ≡ slice ∷ []
-  pub told : C.dark ≡ None
+  pub told : C.untraced ≡ None
 
--- A course is sound where the slices of each thread take its rows in order and keep time, and each call is the last row of its slice; of one
--- thread alone, in one slice, calls may stand anywhere.
+-- A course is sound where the slices of each thread take its rows in order and keep time, and each
+-- call is the last row of its slice; of one thread alone, in one slice, calls may stand anywhere.
 pub record IsSoundCourse (C : Course) : Type 0 where
   pub taken : (t : ℕ) → TakeRows 0 (slices_of C t) (length (rows_of C t))
   pub in_time : (t : ℕ) → KeepTime (slices_of C t)

@@ -1,5 +1,6 @@
--- Steps that a hart executes one after another: the next one stands at the address that its pc has after the step before
--- (RISC-V unprivileged manual 20191213, chapter 2.1: the pc holds the address of the current instruction).
+-- Steps that a hart executes one after another: the next one stands at the address that its pc has
+-- after the step before (RISC-V unprivileged manual 20191213, chapter 2.1: the pc holds the address
+-- of the current instruction).
 use Rattle.std.specs.Prelude.{◌≡◌, ℕ, List, [], ◌∷◌}
 use Rattle.rept_isa.specs.declared.row.StepRow.{StepRow}
 

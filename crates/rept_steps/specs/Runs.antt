@@ -8,7 +8,7 @@ use Rattle.rept_steps.specs.Course.{Course}
 
 -- a run without its count of skipped packets
 abbrev pub course_of : Run → Course
-course_of run = record { threads = run.threads; dark = run.dark }
+course_of run = record { threads = run.threads; untraced = run.untraced }
 
 -- one slice of so many rows, at no known time
 abbrev pub whole_slice : ℕ → Slice
@@ -19,4 +19,4 @@ thread_of_one rows = record { steps = rows; slices = whole_slice (length rows) �
 
 -- the run of one thread
 abbrev pub run_of_one : List StepRow → ℕ → Run
-run_of_one rows skipped = record { threads = thread_of_one rows ∷ []; dark = None; skipped = skipped }
+run_of_one rows skipped = record { threads = thread_of_one rows ∷ []; untraced = None; skipped = skipped }

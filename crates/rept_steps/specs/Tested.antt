@@ -62,7 +62,7 @@ is_told None = true
 is_told (Some d) = false
 
 abbrev pub is_alone : Course → Bool
-is_alone C = is_told C.dark && (is_one C.threads && is_one (thread_at C 0).slices)
+is_alone C = is_told C.untraced && (is_one C.threads && is_one (thread_at C 0).slices)
 
 abbrev pub is_sound : Course → Bool
 is_sound C = fit_to C (length C.threads) && (is_alone C || end_to C (length C.threads))

@@ -15,13 +15,14 @@ pub struct Run {
     /// What each thread executed, in the order of the core file's notes.
     pub threads: Threads,
     /// Where something of the begin isn't told: the time until which anything may have happened.
-    pub dark: Option<u64>,
+    pub untraced: Option<u64>,
     /// How many packets of the trace tell of what was before the run.
     pub skipped: u32,
 }
 
 impl Run {
-    /// The run of one thread: one slice of all steps, at no known time, without dark. It is sound. It takes memory for two lists of one entry.
+    /// The run of one thread: one slice of all steps, at no known time, without an untraced prefix.
+    /// It is sound. It takes memory for two lists of one entry.
     pub fn one(alloc: Global, steps: Steps, skipped: u32) -> Result<Run, OutOfMemory>
         ensures ok { IfOk result (λ run. run ≡ run_of_one steps skipped) }
         ensures sound { IfOk result (λ run. IsSoundCourse (course_of run)) }
@@ -38,7 +39,7 @@ impl Run {
         threads.push(ThreadRows { steps, slices })?;
         Ok(Run {
             threads,
-            dark: None,
+            untraced: None,
             skipped,
         })
     }

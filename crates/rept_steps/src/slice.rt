@@ -5,8 +5,9 @@ ghost use Rattle.std.specs.Prelude.{◌≡◌, ◌++◌, ◌∷◌, [], OnOk, On
 use std::alloc::{AllocError as OutOfMemory, Global};
 use std::marker::Model;
 
-/// Steps of one thread that one hart ran one after the other, and the times between which they happened. All times of a run are of one clock. A call is the last
-/// step of its slice: it is entered there, and returns as the thread's next slice begins.
+/// Steps of one thread that one hart ran one after the other, and the times between which they
+/// happened. All times of a run are of one clock. A call is the last step of its slice: it is
+/// entered there, and returns as the thread's next slice begins.
 #[derive(Clone, Copy, Debug, PartialEq)]
 pub struct Slice {
     /// The stream of packets that told of it, counted from 0; each hart has its own.
@@ -46,7 +47,8 @@ impl Slices {
         }
     }
 
-    /// Adds a slice after the others. A refusal, which comes only where memory runs out, leaves the list as it was.
+    /// Adds a slice after the others. A refusal, which comes only where memory runs out, leaves the
+    /// list as it was.
     pub fn push(&mut self, slice: Slice) -> Result<(), OutOfMemory>
         ensures ok { OnOk result (self.new ≡ self.old ++ slice ∷ []) }
         ensures err { OnErr result (self.new ≡ self.old) }

@@ -73,13 +73,14 @@ fn is_alone(run: &Run) -> bool
     ensures { result ≡ is_alone (course_of run.now) }
 {
     let threads = run.threads.all();
-    if run.dark.is_some() || threads.len() != 1 {
+    if run.untraced.is_some() || threads.len() != 1 {
         return false;
     }
     threads[0].slices.all().len() == 1
 }
 
-/// Whether those of each thread fit, and each call is the last row of its slice or it is one thread alone.
+/// Whether those of each thread fit, and each call is the last row of its slice or it is one thread
+/// alone.
 fn keeps_all(run: &Run) -> bool
     ensures { result ≡ is_sound (course_of run.now) }
 {

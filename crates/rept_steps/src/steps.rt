@@ -11,8 +11,8 @@ use std::marker::Model;
 /// The most steps of a path.
 pub const LIMIT: usize = 65536;
 
-/// Steps that were executed one after another, at most 65,536: each leads to the address of the one after it. Contracts see
-/// the list of the rows, the first one first.
+/// Steps that were executed one after another, at most 65,536: each leads to the address of the one
+/// after it. Contracts see the list of the rows, the first one first.
 #[derive(Drop)]
 pub struct Steps {
     rows: Vec<StepRow>,
@@ -40,8 +40,8 @@ impl Steps {
         }
     }
 
-    /// Adds a step, which must stand where the last one led. `Full` comes exactly at 65,536 steps. A refusal leaves the steps
-    /// as they were.
+    /// Adds a step, which must stand where the last one led. `Full` comes exactly at 65,536 steps.
+    /// A refusal leaves the steps as they were.
     pub fn push(&mut self, row: StepRow) -> Result<(), PushFault>
         requires { EndBefore self.old row.at }
         ensures ok { OnOk result (self.new ≡ self.old ++ row ∷ []) }

@@ -55,7 +55,8 @@ impl Threads {
         }
     }
 
-    /// Adds a thread after the others. A refusal, which comes only where memory runs out, leaves the list as it was and lets go of the thread.
+    /// Adds a thread after the others. A refusal, which comes only where memory runs out, leaves
+    /// the list as it was and lets go of the thread.
     pub fn push(&mut self, rows: ThreadRows) -> Result<(), OutOfMemory>
         ensures ok { OnOk result (self.new ≡ self.old ++ rows ∷ []) }
         ensures err { OnErr result (self.new ≡ self.old) }

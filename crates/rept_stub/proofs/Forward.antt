@@ -1,4 +1,5 @@
--- Forward to the first stop: where the last writer of a byte is another one than before, and which of two stops comes first.
+-- Forward to the first stop: where the last writer of a byte is another one than before, and which
+-- of two stops comes first.
 use Rattle.std.proofs.Common.{◌≡◌, ℕ, suc, zero, ◌+◌, ◌-◌, ◌<◌, ◌≤◌, inl, inr, List, [], ◌∷◌, ◌++◌, length, take, get_or, Bool, true, false, not, cond, arith, refl, sym, ◌∙◌, ap, subst}
 use Rattle.std.specs.Prelude.{Option, Some, None, ◌||◌, ◌==◌}
 use Rattle.std.specs.List.{find, list_any, range_with_len}
@@ -238,7 +239,8 @@ found_within f a (suc n) b e = by_test (λ later. found_within f (a + 1) n b lat
     by_test rest true passes = let same : b ≡ a = same_some (e ∙ ap (λ t. cond t (Some a) (find f (range_with_len (a + 1) n))) passes) in omega arith
     by_test rest false fails = let later = rest (e ∙ ap (λ t. cond t (Some a) (find f (range_with_len (a + 1) n))) fails) in omega arith
 
--- one test or another, where a number passes the one: of those that pass the other only the ones before it count
+-- one test or another, where a number passes the one: of those that pass the other only the ones
+-- before it count
 either_some : (f g : ℕ → Bool) (a n b m : ℕ) → Some b ≡ find f (range_with_len a n) → m + a ≡ b → option_or (find g (range_with_len a m)) (Some b) ≡ find (λ p. f p || g p) (range_with_len a n)
 either_some f g a zero b m e width = some_none e
 either_some f g a (suc n) b zero e width = by_test (f a) refl

@@ -4,7 +4,7 @@ use Rattle.std.proofs.lemmas.Bool.{cases_eq}
 use Rattle.std.proofs.lemmas.List.{get_or-set_other, get_or-set_same, length-set}
 use Rattle.std.proofs.lemmas.List.FromFn.{get_or-map-range_with_len, length-map-range_with_len}
 use Rattle.std.specs.Prelude.{None, Some, MatchBool}
-use Rattle.rept_request.specs.declared.request.Request.{Request}
+use Rattle.rept_request.specs.declared.request.GdbRequest.{GdbRequest}
 use Rattle.rept_session.specs.Shown.{Shown}
 use Rattle.rept_stub.specs.Answers.{changed, selected_by, spots_after}
 use Rattle.rept_stub.specs.Spots.{Spots}
@@ -38,7 +38,7 @@ module _ (s : Shown) (cursors : List ℕ) (h : AreCursors s cursors) where
           ]
 
 -- a packet that changes no spots leaves all but the threads that it selects
-pub selects : (s : Shown) (old last : Stand) (spots : Spots) (request : Request) (is_changed : Bool) → MatchBool is_changed (spots_after old.spots request ≡ Some spots) ((spots_after old.spots request ≡ None) × (spots ≡ old.spots)) → is_changed ≡ false
+pub selects : (s : Shown) (old last : Stand) (spots : Spots) (request : GdbRequest) (is_changed : Bool) → MatchBool is_changed (spots_after old.spots request ≡ Some spots) ((spots_after old.spots request ≡ None) × (spots ≡ old.spots)) → is_changed ≡ false
     → last ≡ selected_by s (record old { spots = spots }) request → last ≡ changed s old request (spots_after old.spots request)
 selects s old last spots request is_changed h e is =
     let kept : (spots_after old.spots request ≡ None) × (spots ≡ old.spots) = subst (λ b. MatchBool b (spots_after old.spots request ≡ Some spots) ((spots_after old.spots request ≡ None) × (spots ≡ old.spots))) e h in

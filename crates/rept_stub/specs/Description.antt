@@ -1,6 +1,8 @@
--- The description of the registers (GDB manual, appendix Target Descriptions, sections Target Description Format and RISC-V Features): x0 to x31 by
--- the names of the psABI, and the address of the instruction. No OS ABI is named: for one that gdb knows, as GNU/Linux, it makes a step forward by a
--- breakpoint at the address that it works out itself, and takes a register that isn't known for 0.
+-- The description of the registers (GDB manual, appendix Target Descriptions, sections Target
+-- Description Format and RISC-V Features): x0 to x31 by the names of the psABI, and the address of
+-- the instruction. No OS ABI is named: for one that gdb knows, as GNU/Linux, it makes a step
+-- forward by a breakpoint at the address that it works out itself, and takes a register that isn't
+-- known for 0.
 use Rattle.std.specs.Prelude.{ℕ, List, codes}
 
 unfoldable pub description_text : List ℕ

@@ -1,6 +1,7 @@
--- Where a thread is led to by a move, and why it stops there. The point p of a thread lies before its row p, and after its row p - 1. A move leads along
--- the rows of one thread, and the cursors of the others stay. This project's own; the reasons are those of GDB's manual, appendix Remote Serial
--- Protocol, section Stop Reply Packets.
+-- Where a thread is led to by a move, and why it stops there. The point p of a thread lies before
+-- its row p, and after its row p - 1. A move leads along the rows of one thread, and the cursors of
+-- the others stay. This project's own; the reasons are those of GDB's manual, appendix Remote
+-- Serial Protocol, section Stop Reply Packets.
 use Rattle.std.specs.Prelude.{◌≡◌, ℕ, zero, suc, ◌+◌, ◌-◌, List, length, Bool, true, false, not, ◌||◌, ◌==◌, nat_lt, Option, None, Some, is_some, fold, ◌&&◌, nat_le, if◌then◌else◌}
 use Rattle.std.specs.List.{find, list_all, list_any, range_with_len}
 use Rattle.rept_report.specs.declared.writer.Writer.{Writer}
@@ -11,12 +12,12 @@ use Rattle.rept_session.specs.Texts.{at, pc_at}
 use Rattle.rept_session.specs.declared.place.ThreadPoint.{ThreadPoint}
 use Rattle.rept_request.specs.declared.request.CodeRange.{CodeRange}
 use Rattle.rept_stub.specs.Spots.{Watch}
-use Rattle.rept_stub.specs.declared.halt.Stop.{Stop}
-use Rattle.rept_stub.specs.declared.halt.Stop.TheVariants as stop
-use Rattle.rept_stub.specs.declared.halt.Halt.{Halt}
+use Rattle.rept_stub.specs.declared.halt.StopReason.{StopReason}
+use Rattle.rept_stub.specs.declared.halt.StopReason.TheVariants as stop
+use Rattle.rept_stub.specs.declared.halt.MoveEnd.{MoveEnd}
 use Rattle.rept_stub.specs.declared.halt.Written.{Written}
 
-abbrev pub halt : ℕ → Stop → Halt
+abbrev pub halt : ℕ → StopReason → MoveEnd
 halt point why = record { point = point; stop = why }
 
 abbrev pub is_row : Option ℕ → ℕ → Bool
@@ -30,8 +31,8 @@ names s c address row = is_row (named_row (writer_at s c address)) row
 abbrev pub back_one : ThreadPoint → ThreadPoint
 back_one c = at c.thread (c.point - 1)
 
--- The row that is named at a point came since the point before it: it is the thread's own row between the two, or a row of another thread that isn't
--- named at the point before.
+-- The row that is named at a point came since the point before it: it is the thread's own row
+-- between the two, or a row of another thread that isn't named at the point before.
 abbrev pub came : Shown → ThreadPoint → ℕ → Option ℕ → Bool
 came s c address None = false
 came s c address (Some row) =
@@ -62,42 +63,45 @@ are_known s c addresses = list_all (is_known s c) addresses
 abbrev pub is_compared : Shown → ThreadPoint → List ℕ → Bool
 is_compared s c addresses = are_known s c addresses || are_known s (back_one c) addresses
 
--- What is told of a row by which a byte was written since the point before, or may have been. gdb compares the watched bytes before and after it, and goes on
--- where they are the same, or can be read at neither: so it is told of a watchpoint only where the row surely wrote, and they can be read at one of the
--- two. Of a watchpoint that is to stop at each access it goes on at none.
-abbrev pub write_stop : Shown → Watch → ThreadPoint → ℕ → Stop
+-- What is told of a row by which a byte was written since the point before, or may have been. gdb
+-- compares the watched bytes before and after it, and goes on where they are the same, or can be
+-- read at neither: so it is told of a watchpoint only where the row surely wrote, and they can be
+-- read at one of the two. Of a watchpoint that is to stop at each access it goes on at none.
+abbrev pub write_stop : Shown → Watch → ThreadPoint → ℕ → StopReason
 write_stop s w c address =
     if list_any (λ a. a == address) w.accesses then stop.Access address
     else if is_sure (writer_at s c address) && is_compared s c w.addresses then stop.Write address
     else stop.Step
 
-abbrev pub stop_by : Shown → Watch → ThreadPoint → Option ℕ → Stop
+abbrev pub stop_by : Shown → Watch → ThreadPoint → Option ℕ → StopReason
 stop_by s w c None = stop.Step
 stop_by s w c (Some address) = write_stop s w c address
 
 -- what is told of the rows since the point before
-abbrev pub stop_at : Shown → Watch → ThreadPoint → Stop
+abbrev pub stop_at : Shown → Watch → ThreadPoint → StopReason
 stop_at s w c = stop_by s w c (written s c w.addresses)
 
--- gdb takes a watchpoint for one that is told before the row runs, and makes one step over the row by itself, in the direction of the move
-abbrev pub is_stepped_over : Stop → Bool
+-- gdb takes a watchpoint for one that is told before the row runs, and makes one step over the row
+-- by itself, in the direction of the move
+abbrev pub is_stepped_over : StopReason → Bool
 is_stepped_over (stop.Write address) = true
 is_stepped_over (stop.Access address) = true
 is_stepped_over _ = false
 
--- a stop of a move over the row before a point: forward to the point, and back to the point before it; short of the row where gdb steps over it
-abbrev pub forward : ThreadPoint → Stop → Halt
+-- a stop of a move over the row before a point: forward to the point, and back to the point before
+-- it; short of the row where gdb steps over it
+abbrev pub forward : ThreadPoint → StopReason → MoveEnd
 forward c why = halt (if is_stepped_over why then c.point - 1 else c.point) why
 
-abbrev pub backward : ThreadPoint → Stop → Halt
+abbrev pub backward : ThreadPoint → StopReason → MoveEnd
 backward c why = halt (if is_stepped_over why then c.point else c.point - 1) why
 
 -- one step forward, and one back
-abbrev pub stepped : Shown → Watch → ThreadPoint → Halt
+abbrev pub stepped : Shown → Watch → ThreadPoint → MoveEnd
 stepped s w c =
     if nat_lt c.point (length (s.rows c.thread)) then forward (at c.thread (c.point + 1)) (stop_at s w (at c.thread (c.point + 1))) else halt c.point stop.End
 
-abbrev pub stepped_back : Shown → Watch → ThreadPoint → Halt
+abbrev pub stepped_back : Shown → Watch → ThreadPoint → MoveEnd
 stepped_back s w c = if nat_lt 0 c.point then backward c (stop_at s w c) else halt c.point stop.Begin
 
 -- the addresses of breakpoints, and the bytes that are watched
@@ -123,7 +127,8 @@ has_open s c addresses = list_any (λ address. is_open (writer_at s c address)) 
 abbrev pub is_touched : Shown → ThreadPoint → ℕ → Bool
 is_touched s c address = is_written s c address || is_open (writer_at s c address)
 
--- a breakpoint stands at the point; or since the point before, a watched byte was written, or may have been
+-- a breakpoint stands at the point; or since the point before, a watched byte was written, or may
+-- have been
 abbrev pub is_stop : Shown → List ℕ → List ℕ → ThreadPoint → Bool
 is_stop s breaks addresses c = is_break s breaks c || list_any (is_touched s c) addresses
 
@@ -132,7 +137,8 @@ abbrev pub is_new : Shown → ThreadPoint → ℕ → Option ℕ → Bool
 is_new s c address None = false
 is_new s c address (Some row) = not (names s c address row)
 
--- at a later point of the thread a row is named that isn't named at this one, or none of several is known to be the last
+-- at a later point of the thread a row is named that isn't named at this one, or none of several is
+-- known to be the last
 abbrev pub has_changed : Shown → ThreadPoint → ℕ → Writer → Bool
 has_changed s c address later = is_new s c address (named_row later) || is_open later
 
@@ -140,7 +146,7 @@ has_changed s c address later = is_new s c address (named_row later) || is_open 
 abbrev pub NamesNoOther : Shown → ThreadPoint → ℕ → ℕ → Type 0
 NamesNoOther s c point address = (row : ℕ) → names s (at c.thread point) address row ≡ true → names s c address row ≡ true
 
-abbrev pub halt_at : Shown → Watch → ℕ → Option ℕ → Halt
+abbrev pub halt_at : Shown → Watch → ℕ → Option ℕ → MoveEnd
 halt_at s w thread None = halt (length (s.rows thread)) stop.End
 halt_at s w thread (Some point) = forward (at thread point) (stop_at s w (at thread point))
 
@@ -150,7 +156,7 @@ first_stop s breaks addresses c =
     find (λ point. is_stop s breaks addresses (at c.thread point)) (range_with_len (c.point + 1) (length (s.rows c.thread) - c.point))
 
 -- forward to it, or to the last point
-abbrev pub continued : Shown → Wanted → ThreadPoint → Halt
+abbrev pub continued : Shown → Wanted → ThreadPoint → MoveEnd
 continued s w c = halt_at s w.watch c.thread (first_stop s w.breaks w.watch.addresses c)
 
 -- the address at a point is none of a range
@@ -168,8 +174,9 @@ sooner_of None other = other
 sooner_of (Some point) None = Some point
 sooner_of (Some point) (Some other) = Some (if nat_lt point other then point else other)
 
--- forward to the first point outside of a range, or to the first stop where that comes before; or to the last point
-abbrev pub stepped_within : Shown → Wanted → CodeRange → ThreadPoint → Halt
+-- forward to the first point outside of a range, or to the first stop where that comes before; or
+-- to the last point
+abbrev pub stepped_within : Shown → Wanted → CodeRange → ThreadPoint → MoveEnd
 stepped_within s w range c = halt_at s w.watch c.thread (sooner_of (first_outside s range c) (first_stop s w.breaks w.watch.addresses c))
 
 -- the last number below n that passes
@@ -190,8 +197,8 @@ later (Some best) (Some point) address = if nat_lt best.point point then Some (r
 abbrev pub before : ℕ → ℕ → Option ℕ
 before point row = if nat_lt row point then Some row else None
 
--- The last point before which the row that is named came: that before it, where it is the thread's own; and where it is another thread's, the last point at
--- which it isn't named yet.
+-- The last point before which the row that is named came: that before it, where it is the thread's
+-- own; and where it is another thread's, the last point at which it isn't named yet.
 abbrev pub point_before : Shown → ThreadPoint → ℕ → Option ℕ → Option ℕ
 point_before s c address None = None
 point_before s c address (Some row) =
@@ -210,21 +217,22 @@ abbrev pub is_later : Written → Option ℕ → Bool
 is_later write None = true
 is_later write (Some point) = nat_le point write.point
 
-abbrev pub break_halt : Option ℕ → Halt
+abbrev pub break_halt : Option ℕ → MoveEnd
 break_halt None = halt 0 stop.Begin
 break_halt (Some point) = halt point stop.Step
 
 -- back over the row of a write
-abbrev pub back_over : Shown → Watch → ℕ → Written → Halt
+abbrev pub back_over : Shown → Watch → ℕ → Written → MoveEnd
 back_over s w thread write = backward (at thread (write.point + 1)) (write_stop s w (at thread (write.point + 1)) write.address)
 
-abbrev pub latest : Shown → Watch → ℕ → Option ℕ → Option Written → Halt
+abbrev pub latest : Shown → Watch → ℕ → Option ℕ → Option Written → MoveEnd
 latest s w thread found None = break_halt found
 latest s w thread found (Some write) = if is_later write found then back_over s w thread write else break_halt found
 
--- Back to before the last write that the report names of a watched byte, or to the last breakpoint, whichever is later; to point 0 where there
--- is none. Where rows may write a watched byte and none is named, one step is made, since more could pass one of them over.
-abbrev pub continued_back : Shown → Wanted → ThreadPoint → Halt
+-- Back to before the last write that the report names of a watched byte, or to the last breakpoint,
+-- whichever is later; to point 0 where there is none. Where rows may write a watched byte and none
+-- is named, one step is made, since more could pass one of them over.
+abbrev pub continued_back : Shown → Wanted → ThreadPoint → MoveEnd
 continued_back s w c =
     if has_open s c w.watch.addresses then stepped_back s w.watch c
     else latest s w.watch c.thread (break_before s w.breaks c) (last_write s c w.watch.addresses)

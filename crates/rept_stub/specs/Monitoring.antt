@@ -10,10 +10,10 @@ use Rattle.rept_session.specs.Texts.{at, writer_line}
 use Rattle.rept_session.specs.declared.place.ThreadPoint.{ThreadPoint}
 use Rattle.rept_session.specs.LastWriters.{named_row, writer_at}
 use Rattle.rept_stub.specs.Halts.{before}
-use Rattle.rept_stub.specs.declared.monitoring.Asked.{Asked}
-use Rattle.rept_stub.specs.declared.monitoring.Asked.TheVariants as asked
+use Rattle.rept_stub.specs.declared.monitoring.MonitorRequest.{MonitorRequest}
+use Rattle.rept_stub.specs.declared.monitoring.MonitorRequest.TheVariants as asked
 
-abbrev pub writers_asked : Option ℕ → Asked
+abbrev pub writers_asked : Option ℕ → MonitorRequest
 writers_asked None = asked.Session
 writers_asked (Some address) = asked.Writers address
 
@@ -21,7 +21,7 @@ unfoldable pub is_writers : List ℕ → Bool
 is_writers line = starts_with nat_eq line (codes "writers ")
 
 -- `signal`, `help`, `writers ADDRESS`; any other line is one of a session
-abbrev pub asked_of : List ℕ → Asked
+abbrev pub asked_of : List ℕ → MonitorRequest
 asked_of line =
     if bytes_eq line (codes "signal") then asked.Signal
     else if bytes_eq line (codes "help") then asked.Help
@@ -52,8 +52,9 @@ abbrev pub listed : Writer → Option ℕ → (ℕ → List Writer) → List Wri
 listed named None before = named ∷ []
 listed named (Some row) before = named ∷ before row
 
--- The rows that write a byte before a point, or may, from the newest one on: what the report names at the point, then what it names at the point
--- before that row, and so on, up to where it names no row of this thread, so many at most.
+-- The rows that write a byte before a point, or may, from the newest one on: what the report names
+-- at the point, then what it names at the point before that row, and so on, up to where it names no
+-- row of this thread, so many at most.
 abbrev pub writers_from : Shown → ℕ → ℕ → ThreadPoint → List Writer
 writers_from s address zero c = []
 writers_from s address (suc most) c = listed (writer_at s c address) (row_before s c address) (λ row. writers_from s address most (at c.thread row))

@@ -1,4 +1,5 @@
--- What is answered to a request (GDB manual, appendix Remote Serial Protocol, sections Packets, Stop Reply Packets and General Query Packets).
+-- What is answered to a request (GDB manual, appendix Remote Serial Protocol, sections Packets,
+-- StopReason Reply Packets and General Query Packets).
 use Rattle.std.specs.Prelude.{ℕ, ◌+◌, ◌/◌, ◌%◌, ◌^◌, min, List, [], ◌∷◌, ◌++◌, map, length, drop, take, ◌==◌, nat_lt, nat_le, Option, None, Some, codes, if◌then◌else◌}
 use Rattle.std.specs.List.{flat_map, range_with_len}
 use Rattle.rept_word.specs.Hex.{hex_byte}
@@ -6,9 +7,9 @@ use Rattle.rept_remote.specs.Escapes.{digits_value}
 use Rattle.rept_session.specs.Shown.{Shown, moment_at, number}
 use Rattle.rept_session.specs.declared.place.ThreadPoint.{ThreadPoint}
 use Rattle.rept_session.specs.Texts.{pc_at, wrapped}
-use Rattle.rept_stub.specs.declared.halt.Stop.{Stop}
+use Rattle.rept_stub.specs.declared.halt.StopReason.{StopReason}
 use Rattle.rept_stub.specs.Signals.{debugger_signal}
-use Rattle.rept_stub.specs.declared.halt.Stop.TheVariants as stop
+use Rattle.rept_stub.specs.declared.halt.StopReason.TheVariants as stop
 
 -- bytes as pairs of digits
 abbrev pub digits_of : List ℕ → List ℕ
@@ -44,7 +45,8 @@ known_run [] = []
 known_run (None ∷ more) = []
 known_run (Some byte ∷ more) = byte ∷ known_run more
 
--- at most so many bytes from an address on at a moment, up to the first one that isn't known, and at most 2000
+-- at most so many bytes from an address on at a moment, up to the first one that isn't known, and
+-- at most 2000
 abbrev pub known_bytes : Shown → ℕ → ℕ → ℕ → List ℕ
 known_bytes s moment address count = known_run (map (λ i. s.byte moment (wrapped (address + i))) (range_with_len 0 (min count 2000)))
 
@@ -61,7 +63,7 @@ memory_bytes [] = error
 memory_bytes bytes = codes "b" ++ bytes
 
 -- why a thread stopped
-abbrev pub stop_part : Stop → List ℕ
+abbrev pub stop_part : StopReason → List ℕ
 stop_part stop.Step = []
 stop_part (stop.Write address) = codes "watch:" ++ big_word address ++ codes ";"
 stop_part (stop.Access address) = codes "awatch:" ++ big_word address ++ codes ";"

@@ -1,5 +1,6 @@
--- The signals of a stop reply by GDB's own numbers (GDB manual, appendix Remote Serial Protocol, section Stop Reply Packets; the numbers are
--- those of GDB's `include/gdb/signals.def`), and the numbers that Linux gives to the same signals on RISC-V (`asm-generic/signal.h`).
+-- The signals of a stop reply by GDB's own numbers (GDB manual, appendix Remote Serial Protocol,
+-- section Stop Reply Packets; the numbers are those of GDB's `include/gdb/signals.def`), and the
+-- numbers that Linux gives to the same signals on RISC-V (`asm-generic/signal.h`).
 use Rattle.std.specs.Prelude.{ℕ, List, [], ◌∷◌, ◌==◌, if◌then◌else◌}
 
 -- one signal
@@ -10,8 +11,8 @@ pub record Signal : Type 0 where
 abbrev pub signal : ℕ → ℕ → Signal
 signal linux debugger = record { linux = linux; debugger = debugger }
 
--- HUP, INT, QUIT, ILL, TRAP, ABRT, BUS, FPE, KILL, USR1, SEGV, USR2, PIPE, ALRM, TERM, CHLD, CONT, STOP, TSTP, TTIN, TTOU, URG, XCPU, XFSZ,
--- VTALRM, PROF, WINCH, IO, PWR, SYS; and no signal
+-- HUP, INT, QUIT, ILL, TRAP, ABRT, BUS, FPE, KILL, USR1, SEGV, USR2, PIPE, ALRM, TERM, CHLD, CONT,
+-- STOP, TSTP, TTIN, TTOU, URG, XCPU, XFSZ, VTALRM, PROF, WINCH, IO, PWR, SYS; and no signal
 abbrev pub signals : List Signal
 signals =
     signal 0 0 ∷ signal 1 1 ∷ signal 2 2 ∷ signal 3 3 ∷ signal 4 4 ∷ signal 5 5 ∷ signal 6 6 ∷ signal 7 10 ∷ signal 8 8 ∷ signal 9 9 ∷ signal 10 30

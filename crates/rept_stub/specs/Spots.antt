@@ -1,4 +1,5 @@
--- Where a debugger wants to be stopped: at addresses of instructions, and where bytes are written. This project's own.
+-- Where a debugger wants to be stopped: at addresses of instructions, and where bytes are written.
+-- This project's own.
 use Rattle.std.specs.Prelude.{ℕ, ◌+◌, ◌%◌, ◌^◌, List, [], ◌∷◌, ◌++◌, map, Bool, true, false, ◌&&◌, ◌==◌, nat_lt, nat_le, Option, None, Some, if◌then◌else◌}
 use Rattle.std.specs.List.{flat_map, list_any, position, range_with_len, remove}
 use Rattle.rept_request.specs.declared.request.WatchKind.{WatchKind}

@@ -1,5 +1,6 @@
--- Where a debugger stands in a run of threads: each thread has a cursor of its own, and one thread is selected. This project's own; the packets that select
--- threads are those of GDB's manual, appendix Remote Serial Protocol, section Packets (`H`).
+-- Where a debugger stands in a run of threads: each thread has a cursor of its own, and one thread
+-- is selected. This project's own; the packets that select threads are those of GDB's manual,
+-- appendix Remote Serial Protocol, section Packets (`H`).
 use Rattle.std.specs.Prelude.{◌≡◌, ℕ, ◌<◌, ◌≤◌, List, length, map, Bool, nat_le, ◌==◌, Option, None, Some, get_or, set, IfSome, if◌then◌else◌}
 use Rattle.std.specs.List.{find, range_with_len}
 use Rattle.std.specs.Option.{unwrap_or}
@@ -15,7 +16,8 @@ use Rattle.rept_stub.specs.declared.answers.Stand.{Stand}
 abbrev pub last_points : Shown → List ℕ
 last_points s = map (λ t. length (s.rows t)) (range_with_len 0 s.threads)
 
--- a debugger that begins: each cursor is at the last point of its thread, and thread 0 is selected, and is the one that stopped
+-- a debugger that begins: each cursor is at the last point of its thread, and thread 0 is selected,
+-- and is the one that stopped
 abbrev pub start_of : Shown → Spots → Stand
 start_of s spots = record { cursors = last_points s; thread = 0; stopped = 0; moving = None; spots = spots }
 
@@ -55,8 +57,9 @@ named_of_several s stand name.Unreadable = None
 abbrev pub named_thread : Shown → Stand → ThreadName → Option ℕ
 named_thread s stand name = if is_alone s then Some stand.thread else named_of_several s stand name
 
--- Of several threads, the one that a move names: the one that was selected for moves, or else the one that stopped last; any one is the one that
--- stopped last. A thread that is selected for all else moves only by its name: gdb selects one to look at it.
+-- Of several threads, the one that a move names: the one that was selected for moves, or else the
+-- one that stopped last; any one is the one that stopped last. A thread that is selected for all
+-- else moves only by its name: gdb selects one to look at it.
 abbrev pub moving_of_several : Shown → Stand → ThreadName → Option ℕ
 moving_of_several s stand name.Selected = Some (unwrap_or stand.moving stand.stopped)
 moving_of_several s stand name.Any = Some stand.stopped
@@ -78,6 +81,7 @@ selected_moving stand name.Any named = record stand { moving = None }
 selected_moving stand name None = stand
 selected_moving stand name (Some thread) = record stand { moving = Some thread }
 
--- the cursor of a thread is put to one of its points, and the thread is the one that stopped, and the selected one
+-- the cursor of a thread is put to one of its points, and the thread is the one that stopped, and
+-- the selected one
 abbrev pub put : Stand → ThreadPoint → Stand
 put stand c = record stand { cursors = set stand.cursors c.thread c.point; thread = c.thread; stopped = c.thread }

@@ -1,11 +1,13 @@
--- What is answered about threads (GDB manual, appendix Remote Serial Protocol, sections Packets, Stop Reply Packets and General Query Packets). A run of one
--- thread has the number 1 for it, and isn't asked which of its threads stopped; of several, the number of a thread is that of its process.
+-- What is answered about threads (GDB manual, appendix Remote Serial Protocol, sections Packets,
+-- StopReason Reply Packets and General Query Packets). A run of one thread has the number 1 for it,
+-- and isn't asked which of its threads stopped; of several, the number of a thread is that of its
+-- process.
 use Rattle.std.specs.Prelude.{ℕ, ◌-◌, List, [], ◌∷◌, ◌++◌, length, Option, None, Some, codes, if◌then◌else◌}
 use Rattle.std.specs.Fmt.{decimal}
 use Rattle.std.specs.List.{flat_map, range_with_len}
 use Rattle.rept_session.specs.Shown.{Shown}
 use Rattle.rept_session.specs.declared.place.ThreadPoint.{ThreadPoint}
-use Rattle.rept_stub.specs.declared.halt.Stop.{Stop}
+use Rattle.rept_stub.specs.declared.halt.StopReason.{StopReason}
 use Rattle.rept_stub.specs.Replies.{big_word, digits_of, error, signal_reply, stop_part}
 use Rattle.rept_stub.specs.Standing.{is_alone}
 
@@ -24,7 +26,8 @@ thread_reply s thread = codes "QC" ++ number_text s thread
 abbrev pub threads_reply : Shown → List ℕ
 threads_reply s = codes "m" ++ number_text s 0 ++ flat_map (λ t. 44 ∷ number_text s t) (range_with_len 1 (s.threads - 1))
 
--- a text about a thread, as pairs of digits: which one it is in a session, and how many steps of it there are; of one thread, `crashed`
+-- a text about a thread, as pairs of digits: which one it is in a session, and how many steps of it
+-- there are; of one thread, `crashed`
 abbrev pub about : Shown → ℕ → List ℕ
 about s thread = if is_alone s then codes "crashed" else codes "thread " ++ decimal thread ++ codes ", " ++ decimal (length (s.rows thread)) ++ codes " steps"
 
@@ -37,12 +40,13 @@ abbrev pub there_reply : Option ℕ → List ℕ
 there_reply None = error
 there_reply (Some thread) = codes "OK"
 
--- `thread T point P`, before an answer to a line of the debugger's user in a run of several: where that is asked
+-- `thread T point P`, before an answer to a line of the debugger's user in a run of several: where
+-- that is asked
 abbrev pub cursor_words : Shown → ThreadPoint → List ℕ
 cursor_words s c = if is_alone s then [] else codes "thread " ++ decimal c.thread ++ codes " point " ++ decimal c.point ++ 10 ∷ []
 
 -- why a move stopped, and of which thread
-abbrev pub stop_reply : Shown → ℕ → Stop → List ℕ
+abbrev pub stop_reply : Shown → ℕ → StopReason → List ℕ
 stop_reply s thread stop = codes "T05" ++ thread_part s thread ++ stop_part stop
 
 -- why a thread stands where it does

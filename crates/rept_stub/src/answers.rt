@@ -11,8 +11,8 @@ ghost use Rattle.rept_stub.specs.Standing.{AreCursors, IsStandLawful, cursor_of,
 
 use crate::cursors::Cursors;
 use crate::description::description;
-use crate::halt::Halt;
-use crate::monitoring::{Asked, asked_of, help_text, signal_text, writers_text};
+use crate::halt::MoveEnd;
+use crate::monitoring::{MonitorRequest, asked_of, help_text, signal_text, writers_text};
 use crate::moves::{continued, continued_back, stepped, stepped_back, stepped_within};
 use crate::pieces::{
     decoded, known_bytes, memory_bytes, memory_digits, part, register, registers, text_reply, whole,
@@ -22,7 +22,7 @@ use crate::threads::{
     about_text, cursor_words, moving_thread, named_thread, reason, stop_text, there_text,
     thread_text, threads_text,
 };
-use rept_request::{Request, ThreadName, WatchKind, Way, parse};
+use rept_request::{GdbRequest, Movement, ThreadName, WatchKind, parse};
 use rept_session::findings::moment_of;
 use rept_session::{Findings, ThreadPoint, answer_line};
 use rept_word::{OutOfMemory, Text};
@@ -43,8 +43,8 @@ pub struct Stand {
     pub spots: Spots,
 }
 
-/// A debugger that begins: each thread's cursor is at its last point, thread 0 is selected, and there are no breakpoints. The only refusal is out of
-/// memory.
+/// A debugger that begins: each thread's cursor is at its last point, thread 0 is selected, and
+/// there are no breakpoints. The only refusal is out of memory.
 pub fn start<F: Findings>(alloc: Global, findings: &F) -> Result<Stand, OutOfMemory>
     ensures stand { IfOk result (λ stand. stand ≡ start_of (F.shown findings.now) (record { breaks = []; regions = [] })) }
     ensures within { IfOk result (IsStandLawful (F.shown findings.now)) }
@@ -69,8 +69,8 @@ pub struct Setting {
     pub signal: u16,
 }
 
-/// The answer to a packet, and where the debugger stands then. The only refusal is out of memory. In each case the findings stay as
-/// they were.
+/// The answer to a packet, and where the debugger stands then. The only refusal is out of memory.
+/// In each case the findings stay as they were.
 pub fn answer_packet<F: Findings>(
     alloc: Global,
     findings: &mut F,
@@ -87,7 +87,7 @@ pub fn answer_packet<F: Findings>(
 {
     let request = parse(packet);
     match request {
-        Request::Move(way, name) => answer_move(alloc, findings, stand, way, name),
+        GdbRequest::Move(way, name) => answer_move(alloc, findings, stand, way, name),
         _ => answer_other(alloc, findings, setting, stand, packet),
     }
 }
@@ -132,7 +132,7 @@ fn unchanged<F: Findings>(
 {
     let request = parse(packet);
     match request {
-        Request::Monitor => {
+        GdbRequest::Monitor => {
             let at = here(findings, stand);
             monitor(alloc, findings, setting, at, packet)
         }
@@ -168,7 +168,7 @@ fn answer_move<F: Findings>(
     alloc: Global,
     findings: &F,
     stand: &mut Stand,
-    way: Way,
+    way: Movement,
     name: ThreadName,
 ) -> Result<Text, OutOfMemory>
     requires { IsStandLawful (F.shown findings.now) stand.old }
@@ -187,7 +187,7 @@ fn move_thread<F: Findings>(
     alloc: Global,
     findings: &F,
     stand: &mut Stand,
-    way: Way,
+    way: Movement,
     thread: u32,
 ) -> Result<Text, OutOfMemory>
     requires standing { IsStandLawful (F.shown findings.now) stand.old }
@@ -206,19 +206,19 @@ fn move_thread<F: Findings>(
 }
 
 /// Selects the thread that a packet names.
-fn select<F: Findings>(findings: &F, stand: &mut Stand, request: Request)
+fn select<F: Findings>(findings: &F, stand: &mut Stand, request: GdbRequest)
     requires { IsStandLawful (F.shown findings.now) stand.old }
     ensures stand { stand.new ≡ selected_by (F.shown findings.now) stand.old request }
     ensures within { IsStandLawful (F.shown findings.now) stand.new }
 {
     match request {
-        Request::SelectThread(name) => {
+        GdbRequest::SelectThread(name) => {
             if let Some(thread) = named_thread(findings, stand, name) {
                 stand.thread = thread;
             }
         }
-        Request::SelectMoving(ThreadName::Any) => stand.moving = None,
-        Request::SelectMoving(name) => {
+        GdbRequest::SelectMoving(ThreadName::Any) => stand.moving = None,
+        GdbRequest::SelectMoving(name) => {
             if let Some(thread) = named_thread(findings, stand, name) {
                 stand.moving = Some(thread);
             }
@@ -271,10 +271,10 @@ fn line_answer<F: Findings>(
     ensures same_reasons { SameReasons (F.reasons findings.old) (F.reasons findings.new) }
 {
     match asked_of(line) {
-        Asked::Signal => signal_text(alloc, setting.signal),
-        Asked::Help => whole(alloc, help_text()),
-        Asked::Writers(address) => writers_text(alloc, findings, at, address),
-        Asked::Session => {
+        MonitorRequest::Signal => signal_text(alloc, setting.signal),
+        MonitorRequest::Help => whole(alloc, help_text()),
+        MonitorRequest::Writers(address) => writers_text(alloc, findings, at, address),
+        MonitorRequest::Session => {
             let answer = answer_line(alloc, findings, setting.skipped, at, line)?;
             Ok(answer.text)
         }
@@ -286,36 +286,36 @@ fn halt_by<F: Findings>(
     alloc: Global,
     findings: &F,
     spots: &Spots,
-    way: Way,
+    way: Movement,
     at: ThreadPoint,
-) -> Result<Halt, OutOfMemory>
+) -> Result<MoveEnd, OutOfMemory>
     requires { IsThreadPoint (F.shown findings.now) at }
     ensures value { IfOk result (λ halt. halt ≡ halt_by (F.shown findings.now) spots.now way at) }
     ensures within { IfOk result (λ halt. halt.point ≤ length ((F.shown findings.now).rows at.thread)) }
 {
     let watch = spots.watch(alloc)?;
     Ok(match way {
-        Way::Step => stepped(findings, &watch, at),
-        Way::StepWithin(range) => stepped_within(findings, spots.breaks(), &watch, range, at),
-        Way::StepBack => stepped_back(findings, &watch, at),
-        Way::Continue => continued(findings, spots.breaks(), &watch, at),
-        Way::ContinueBack => continued_back(findings, spots.breaks(), &watch, at),
+        Movement::Step => stepped(findings, &watch, at),
+        Movement::StepWithin(range) => stepped_within(findings, spots.breaks(), &watch, range, at),
+        Movement::StepBack => stepped_back(findings, &watch, at),
+        Movement::Continue => continued(findings, spots.breaks(), &watch, at),
+        Movement::ContinueBack => continued_back(findings, spots.breaks(), &watch, at),
     })
 }
 
 /// Sets or takes away a breakpoint or a watchpoint, and answers whether it did.
-fn change(spots: &mut Spots, request: Request) -> Result<bool, OutOfMemory>
+fn change(spots: &mut Spots, request: GdbRequest) -> Result<bool, OutOfMemory>
     ensures ok { IfOk result (λ changed. MatchBool changed (spots_after spots.old request ≡ Some spots.new) ((spots_after spots.old request ≡ None) × (spots.new ≡ spots.old))) }
     ensures err { OnErr result (spots.new ≡ spots.old) }
 {
     match request {
-        Request::Break(address) => spots.set_break(address)?,
-        Request::Unbreak(address) => spots.drop_break(address),
-        Request::Watch(kind, address, length) => return watch(
+        GdbRequest::Break(address) => spots.set_break(address)?,
+        GdbRequest::Unbreak(address) => spots.drop_break(address),
+        GdbRequest::Watch(kind, address, length) => return watch(
             spots,
             region_of(kind, address, length),
         ),
-        Request::Unwatch(kind, address, length) => {
+        GdbRequest::Unwatch(kind, address, length) => {
             spots.drop_region(region_of(kind, address, length))
         }
         _ => return Ok(false),
@@ -325,7 +325,7 @@ fn change(spots: &mut Spots, request: Request) -> Result<bool, OutOfMemory>
 
 /// Watches a region of 1 to 1024 bytes.
 fn watch(spots: &mut Spots, region: Region) -> Result<bool, OutOfMemory>
-    ensures ok { IfOk result (λ changed. MatchBool changed (spots_after spots.old (Request.Watch region.kind region.address region.length) ≡ Some spots.new) ((spots_after spots.old (Request.Watch region.kind region.address region.length) ≡ None) × (spots.new ≡ spots.old))) }
+    ensures ok { IfOk result (λ changed. MatchBool changed (spots_after spots.old (GdbRequest.Watch region.kind region.address region.length) ≡ Some spots.new) ((spots_after spots.old (GdbRequest.Watch region.kind region.address region.length) ≡ None) × (spots.new ≡ spots.old))) }
     ensures err { OnErr result (spots.new ≡ spots.old) }
 {
     if region.length == 0 || region.length > 1024 {
@@ -347,17 +347,17 @@ fn region_of(kind: WatchKind, address: u32, length: u32) -> Region
 }
 
 /// Answers that are always the same.
-fn fixed(request: Request) -> &'static [u8]
+fn fixed(request: GdbRequest) -> &'static [u8]
     ensures { result.now ≡ fixed_reply request }
 {
     match request {
-        Request::Features =>
+        GdbRequest::Features =>
             b"PacketSize=1000;ReverseStep+;ReverseContinue+;qXfer:features:read+;QStartNoAckMode+;vContSupported+",
-        Request::NoAcknowledgments | Request::Detach => b"OK",
-        Request::Moves => b"vCont;c;C;s;S;r",
-        Request::MoreThreads => b"l",
-        Request::Attached => b"1",
-        Request::Change | Request::Watch(..) => b"E01",
+        GdbRequest::NoAcknowledgments | GdbRequest::Detach => b"OK",
+        GdbRequest::Moves => b"vCont;c;C;s;S;r",
+        GdbRequest::MoreThreads => b"l",
+        GdbRequest::Attached => b"1",
+        GdbRequest::Change | GdbRequest::Watch(..) => b"E01",
         _ => b"",
     }
 }
@@ -367,20 +367,20 @@ fn threads_still<F: Findings>(
     alloc: Global,
     findings: &F,
     stand: &Stand,
-    request: Request,
+    request: GdbRequest,
 ) -> Result<Text, OutOfMemory>
     requires { IsStandLawful (F.shown findings.now) stand.now }
     ensures { IfOk result (λ text. text ≡ threads_still (F.shown findings.now) stand.now request) }
 {
     match request {
-        Request::SelectThread(name) | Request::SelectMoving(name) | Request::IsAlive(name) => {
-            there_text(alloc, named_thread(findings, stand, name))
-        }
-        Request::ThreadText(name) => {
+        GdbRequest::SelectThread(name)
+        | GdbRequest::SelectMoving(name)
+        | GdbRequest::IsAlive(name) => { there_text(alloc, named_thread(findings, stand, name)) }
+        GdbRequest::ThreadText(name) => {
             about_text(alloc, findings, named_thread(findings, stand, name))
         }
-        Request::Thread => thread_text(alloc, findings, stand.thread),
-        Request::Threads => threads_text(alloc, findings),
+        GdbRequest::Thread => thread_text(alloc, findings, stand.thread),
+        GdbRequest::Threads => threads_text(alloc, findings),
         _ => whole(alloc, fixed(request)),
     }
 }
@@ -391,33 +391,33 @@ fn still<F: Findings>(
     findings: &F,
     signal: u16,
     stand: &Stand,
-    request: Request,
+    request: GdbRequest,
 ) -> Result<Text, OutOfMemory>
     requires { IsStandLawful (F.shown findings.now) stand.now }
     ensures { IfOk result (λ text. text ≡ still_reply (F.shown findings.now) signal stand.now request) }
 {
     match request {
-        Request::Reason => {
+        GdbRequest::Reason => {
             let stopped = cursor_of(findings, stand, stand.stopped);
             reason(alloc, findings, signal, stopped)
         }
-        Request::Registers => registers(alloc, findings, here(findings, stand)),
-        Request::Register(number) => register(alloc, findings, here(findings, stand), number),
-        Request::Memory(address, count) => memory(
+        GdbRequest::Registers => registers(alloc, findings, here(findings, stand)),
+        GdbRequest::Register(number) => register(alloc, findings, here(findings, stand), number),
+        GdbRequest::Memory(address, count) => memory(
             alloc,
             findings,
             here(findings, stand),
             address,
             count,
         ),
-        Request::Bytes(address, count) => bytes(
+        GdbRequest::Bytes(address, count) => bytes(
             alloc,
             findings,
             here(findings, stand),
             address,
             count,
         ),
-        Request::Description(offset, count) => part(alloc, description(), offset, count),
+        GdbRequest::Description(offset, count) => part(alloc, description(), offset, count),
         _ => threads_still(alloc, findings, stand, request),
     }
 }

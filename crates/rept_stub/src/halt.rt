@@ -2,13 +2,16 @@
 
 /// Why a move stops.
 #[derive(Clone, Copy)]
-pub enum Stop {
-    /// After the step, or at a breakpoint, or where rows of several threads may have written a watched byte and none is named, or past
-    /// a row by which a watched byte may have changed and gdb couldn't see it.
+pub enum StopReason {
+    /// After the step, or at a breakpoint, or where rows of several threads may have written a
+    /// watched byte and none is named, or past a row by which a watched byte may have changed and
+    /// gdb couldn't see it.
     Step,
-    /// Short of a row that writes the byte at this address, or of such a row of another thread: gdb makes the step over it by itself.
+    /// Short of a row that writes the byte at this address, or of such a row of another thread: gdb
+    /// makes the step over it by itself.
     Write(u32),
-    /// Short of a row that writes the byte at this address, or may, each of which is to be told: gdb makes the step over it by itself.
+    /// Short of a row that writes the byte at this address, or may, each of which is to be told:
+    /// gdb makes the step over it by itself.
     Access(u32),
     /// Nothing is known of what came before.
     Begin,
@@ -18,11 +21,11 @@ pub enum Stop {
 
 /// The point of its thread at which a move stops, and why.
 #[derive(Clone, Copy)]
-pub struct Halt {
+pub struct MoveEnd {
     /// the point, 0 to n
     pub point: u32,
     /// why it stops there
-    pub stop: Stop,
+    pub stop: StopReason,
 }
 
 /// A write of a byte, or one that may be.

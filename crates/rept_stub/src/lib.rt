@@ -1,4 +1,5 @@
-//! The answers to a debugger that speaks GDB's remote serial protocol, over what an analysis found out.
+//! The answers to a debugger that speaks GDB's remote serial protocol, over what an analysis found
+//! out.
 #![tactic(auto)]
 
 pub mod answers;
@@ -14,7 +15,7 @@ mod threads;
 
 pub use answers::{Setting, Stand, answer_packet, start};
 pub use cursors::Cursors;
-pub use halt::{Halt, Stop, Written};
+pub use halt::{MoveEnd, StopReason, Written};
 pub use moves::{continued, continued_back, stepped, stepped_back, stepped_within};
 pub use signal::debugger_signal;
 pub use spots::{Region, Spots, Watch};

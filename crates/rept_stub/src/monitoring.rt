@@ -18,7 +18,7 @@ const MOST_ROWS: u32 = 256;
 
 /// What a line asks for.
 #[derive(Clone, Copy)]
-pub enum Asked {
+pub enum MonitorRequest {
     /// `signal`: the signal that ended the process.
     Signal,
     /// `help`: the lines that are answered.
@@ -30,17 +30,17 @@ pub enum Asked {
 }
 
 /// What a line asks for.
-pub fn asked_of(line: &[u8]) -> Asked
+pub fn asked_of(line: &[u8]) -> MonitorRequest
     ensures { result ≡ asked_of line.now }
 {
     if line == b"signal".as_slice() {
-        Asked::Signal
+        MonitorRequest::Signal
     } else if line == b"help".as_slice() {
-        Asked::Help
+        MonitorRequest::Help
     } else if is_writers(line) {
         writers_asked(&line[8..])
     } else {
-        Asked::Session
+        MonitorRequest::Session
     }
 }
 
@@ -53,12 +53,12 @@ fn is_writers(line: &[u8]) -> bool
     line.starts_with(b"writers ")
 }
 
-fn writers_asked(word: &[u8]) -> Asked
+fn writers_asked(word: &[u8]) -> MonitorRequest
     ensures { result ≡ writers_asked (number_of_word word.now) }
 {
     match number_in(word) {
-        Some(address) => Asked::Writers(address),
-        None => Asked::Session,
+        Some(address) => MonitorRequest::Writers(address),
+        None => MonitorRequest::Session,
     }
 }
 
@@ -141,8 +141,8 @@ fn row_before<F: Findings>(findings: &F, at: ThreadPoint, address: u32) -> Optio
     }
 }
 
-/// The rows that write a byte before a point of a thread, or may, from the newest one on, 256 at most: a line of each, as a session tells it, and one
-/// where no row of this thread is named.
+/// The rows that write a byte before a point of a thread, or may, from the newest one on, 256 at
+/// most: a line of each, as a session tells it, and one where no row of this thread is named.
 pub fn writers_text<F: Findings>(
     alloc: Global,
     findings: &F,

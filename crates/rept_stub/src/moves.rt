@@ -8,7 +8,7 @@ ghost use Rattle.rept_session.specs.Shown.{IsThreadPoint, Shown};
 ghost use Rattle.rept_session.specs.Texts.{at};
 ghost use Rattle.rept_stub.specs.Halts.{NamesNoOther, are_known, back_over, backward, before, break_before, break_halt, came, continued, continued_back, first_outside, first_stop, forward, halt_at, has_changed, has_open, is_break, is_compared, is_known, is_later, is_open, is_outside, is_row, is_stepped_over, is_sure, is_touched, is_written, last_below, last_write, later, names, point_before, sooner_of, stepped, stepped_back, stepped_within, stop_at, wanted, write_before, write_stop, written};
 
-use crate::halt::{Halt, Stop, Written};
+use crate::halt::{MoveEnd, StopReason, Written};
 use crate::spots::Watch;
 use rept_report::Writer;
 use rept_request::CodeRange;
@@ -149,43 +149,43 @@ fn is_sure(writer: Writer) -> bool
 }
 
 /// What is told of the row before a point by which a byte was written, or may have been.
-fn write_stop<F: Findings>(findings: &F, watch: &Watch, at: ThreadPoint, address: u32) -> Stop
+fn write_stop<F: Findings>(findings: &F, watch: &Watch, at: ThreadPoint, address: u32) -> StopReason
     requires some { 0 < at.point }
     requires at { IsThreadPoint (F.shown findings.now) at }
     ensures { result ≡ write_stop (F.shown findings.now) watch.now at address }
 {
     if has_address(watch.accesses(), address) {
-        Stop::Access(address)
+        StopReason::Access(address)
     } else if is_sure(writer_at(findings, at, address))
         && is_compared(findings, at, watch.addresses())
     {
-        Stop::Write(address)
+        StopReason::Write(address)
     } else {
-        Stop::Step
+        StopReason::Step
     }
 }
 
 /// What is told of the rows since the point before.
-fn stop_at<F: Findings>(findings: &F, watch: &Watch, at: ThreadPoint) -> Stop
+fn stop_at<F: Findings>(findings: &F, watch: &Watch, at: ThreadPoint) -> StopReason
     requires some { 0 < at.point }
     requires at { IsThreadPoint (F.shown findings.now) at }
     ensures { result ≡ stop_at (F.shown findings.now) watch.now at }
 {
     match written(findings, at, watch.addresses()) {
         Some(address) => write_stop(findings, watch, at, address),
-        None => Stop::Step,
+        None => StopReason::Step,
     }
 }
 
 /// Whether gdb makes a step over the row by itself.
-fn is_stepped_over(stop: Stop) -> bool
+fn is_stepped_over(stop: StopReason) -> bool
     ensures { result ≡ is_stepped_over stop }
 {
-    matches!(stop, Stop::Write(_) | Stop::Access(_))
+    matches!(stop, StopReason::Write(_) | StopReason::Access(_))
 }
 
 /// A stop of a move forward over the row before a point.
-fn forward(at: ThreadPoint, stop: Stop) -> Halt
+fn forward(at: ThreadPoint, stop: StopReason) -> MoveEnd
     requires { 0 < at.point }
     ensures value { result ≡ forward at stop }
     ensures within { result.point ≤ at.point }
@@ -195,11 +195,11 @@ fn forward(at: ThreadPoint, stop: Stop) -> Halt
     } else {
         at.point
     };
-    Halt { point, stop }
+    MoveEnd { point, stop }
 }
 
 /// A stop of a move back over the row before a point.
-fn backward(at: ThreadPoint, stop: Stop) -> Halt
+fn backward(at: ThreadPoint, stop: StopReason) -> MoveEnd
     requires { 0 < at.point }
     ensures value { result ≡ backward at stop }
     ensures within { result.point ≤ at.point }
@@ -209,20 +209,20 @@ fn backward(at: ThreadPoint, stop: Stop) -> Halt
     } else {
         at.point - 1
     };
-    Halt { point, stop }
+    MoveEnd { point, stop }
 }
 
 /// One step forward.
-pub fn stepped<F: Findings>(findings: &F, watch: &Watch, at: ThreadPoint) -> Halt
+pub fn stepped<F: Findings>(findings: &F, watch: &Watch, at: ThreadPoint) -> MoveEnd
     requires { IsThreadPoint (F.shown findings.now) at }
     ensures value { result ≡ stepped (F.shown findings.now) watch.now at }
     ensures within { result.point ≤ length ((F.shown findings.now).rows at.thread) }
 {
     let point = at.point;
     if point >= last_point(findings, at.thread) {
-        return Halt {
+        return MoveEnd {
             point,
-            stop: Stop::End,
+            stop: StopReason::End,
         };
     }
     let after = point_at(at, point + 1);
@@ -230,16 +230,16 @@ pub fn stepped<F: Findings>(findings: &F, watch: &Watch, at: ThreadPoint) -> Hal
 }
 
 /// One step back.
-pub fn stepped_back<F: Findings>(findings: &F, watch: &Watch, at: ThreadPoint) -> Halt
+pub fn stepped_back<F: Findings>(findings: &F, watch: &Watch, at: ThreadPoint) -> MoveEnd
     requires { IsThreadPoint (F.shown findings.now) at }
     ensures value { result ≡ stepped_back (F.shown findings.now) watch.now at }
     ensures within { result.point ≤ at.point }
 {
     let point = at.point;
     if point == 0 {
-        return Halt {
+        return MoveEnd {
             point,
-            stop: Stop::Begin,
+            stop: StopReason::Begin,
         };
     }
     backward(at, stop_at(findings, watch, at))
@@ -295,7 +295,8 @@ fn break_after<F: Findings>(findings: &F, breaks: &[u32], here: ThreadPoint) -> 
     None
 }
 
-/// Whether the last writer of a byte at a later point of the thread isn't the row that is named at an earlier one.
+/// Whether the last writer of a byte at a later point of the thread isn't the row that is named at
+/// an earlier one.
 fn has_changed(known: Option<u32>, later: Writer) -> bool
     ensures { (s : Shown) (c : ThreadPoint) (address : ℕ) → known ≡ named_row (writer_at s c address) → result ≡ has_changed s c address later }
 {
@@ -306,7 +307,8 @@ fn has_changed(known: Option<u32>, later: Writer) -> bool
     }
 }
 
-/// The point after a row that is named, where that is a row of the thread itself: it is named from there on. Else the point at which it is named.
+/// The point after a row that is named, where that is a row of the thread itself: it is named from
+/// there on. Else the point at which it is named.
 fn since<F: Findings>(findings: &F, here: ThreadPoint, address: u32, row: u32) -> u32
     requires here { IsThreadPoint (F.shown findings.now) here }
     requires last { AreLastWriters (F.shown findings.now) here.thread address }
@@ -323,8 +325,9 @@ fn since<F: Findings>(findings: &F, here: ThreadPoint, address: u32, row: u32) -
     }
 }
 
-/// A point up to this one, before which a byte was written since an earlier point, or may have been; none where it wasn't up to this one. It is as early as
-/// the row that is named tells. `known` is the row that is named at the earlier point.
+/// A point up to this one, before which a byte was written since an earlier point, or may have
+/// been; none where it wasn't up to this one. It is as early as the row that is named tells.
+/// `known` is the row that is named at the earlier point.
 fn changed_by<F: Findings>(
     findings: &F,
     here: ThreadPoint,
@@ -351,7 +354,8 @@ fn changed_by<F: Findings>(
     }
 }
 
-/// The first point after this one, up to a bound, since whose point before a byte was written, or may have been.
+/// The first point after this one, up to a bound, since whose point before a byte was written, or
+/// may have been.
 fn first_write<F: Findings>(
     findings: &F,
     here: ThreadPoint,
@@ -374,8 +378,9 @@ fn first_write<F: Findings>(
     }
 }
 
-/// That point, where a byte was written up to a later one. What is named at two points tells whether one lies between them. In turns the point below the
-/// later one is asked, which is the last question where one row alone writes, and the one in the middle.
+/// That point, where a byte was written up to a later one. What is named at two points tells
+/// whether one lies between them. In turns the point below the later one is asked, which is the
+/// last question where one row alone writes, and the one in the middle.
 fn first_change<F: Findings>(
     findings: &F,
     here: ThreadPoint,
@@ -418,7 +423,8 @@ fn between(low: u32, high: u32, near: bool) -> u32
     }
 }
 
-/// The first stop after a point, where the writes of one byte more count: `first` is the first stop without them.
+/// The first stop after a point, where the writes of one byte more count: `first` is the first stop
+/// without them.
 fn earlier<F: Findings>(
     findings: &F,
     here: ThreadPoint,
@@ -451,7 +457,8 @@ fn sooner(write: Option<u32>, stop: u32) -> u32
     }
 }
 
-/// The first point after this one at which a breakpoint stands, or since whose point before a watched byte was written, or may have been.
+/// The first point after this one at which a breakpoint stands, or since whose point before a
+/// watched byte was written, or may have been.
 fn first_stop<F: Findings>(
     findings: &F,
     breaks: &[u32],
@@ -470,7 +477,12 @@ fn first_stop<F: Findings>(
 }
 
 /// Forward to the first stop, or to the last point.
-pub fn continued<F: Findings>(findings: &F, breaks: &[u32], watch: &Watch, at: ThreadPoint) -> Halt
+pub fn continued<F: Findings>(
+    findings: &F,
+    breaks: &[u32],
+    watch: &Watch,
+    at: ThreadPoint,
+) -> MoveEnd
     requires { IsThreadPoint (F.shown findings.now) at }
     ensures value { result ≡ continued (F.shown findings.now) (wanted breaks.now watch.now) at }
     ensures within { result.point ≤ length ((F.shown findings.now).rows at.thread) }
@@ -479,14 +491,15 @@ pub fn continued<F: Findings>(findings: &F, breaks: &[u32], watch: &Watch, at: T
     halt_at(findings, watch, at, first)
 }
 
-/// Forward to the first point outside of a range, or to the first stop where that comes before; or to the last point.
+/// Forward to the first point outside of a range, or to the first stop where that comes before; or
+/// to the last point.
 pub fn stepped_within<F: Findings>(
     findings: &F,
     breaks: &[u32],
     watch: &Watch,
     range: CodeRange,
     at: ThreadPoint,
-) -> Halt
+) -> MoveEnd
     requires { IsThreadPoint (F.shown findings.now) at }
     ensures value { result ≡ stepped_within (F.shown findings.now) (wanted breaks.now watch.now) range at }
     ensures within { result.point ≤ length ((F.shown findings.now).rows at.thread) }
@@ -533,7 +546,7 @@ fn sooner_of(point: Option<u32>, other: Option<u32>) -> Option<u32>
 }
 
 /// Where a move forward ends that first stops at this point, or nowhere.
-fn halt_at<F: Findings>(findings: &F, watch: &Watch, at: ThreadPoint, first: Option<u32>) -> Halt
+fn halt_at<F: Findings>(findings: &F, watch: &Watch, at: ThreadPoint, first: Option<u32>) -> MoveEnd
     requires at { IsThreadPoint (F.shown findings.now) at }
     requires first { IfSome first (λ found. (at.point < found) × (found ≤ length ((F.shown findings.now).rows at.thread))) }
     ensures value { result ≡ halt_at (F.shown findings.now) watch.now at.thread first }
@@ -544,9 +557,9 @@ fn halt_at<F: Findings>(findings: &F, watch: &Watch, at: ThreadPoint, first: Opt
             let after = point_at(at, next);
             forward(after, stop_at(findings, watch, after))
         }
-        None => Halt {
+        None => MoveEnd {
             point: last_point(findings, at.thread),
-            stop: Stop::End,
+            stop: StopReason::End,
         },
     }
 }
@@ -658,24 +671,24 @@ fn is_later(write: Written, found: Option<u32>) -> bool
 }
 
 /// A breakpoint at a point, or the begin of the path.
-fn break_halt(found: Option<u32>) -> Halt
+fn break_halt(found: Option<u32>) -> MoveEnd
     ensures value { result ≡ break_halt found }
     ensures within { (n : ℕ) → IfSome found (λ point. point < n) → result.point ≤ n }
 {
     match found {
-        Some(point) => Halt {
+        Some(point) => MoveEnd {
             point,
-            stop: Stop::Step,
+            stop: StopReason::Step,
         },
-        None => Halt {
+        None => MoveEnd {
             point: 0,
-            stop: Stop::Begin,
+            stop: StopReason::Begin,
         },
     }
 }
 
 /// Back over the row of a write, which is before a point.
-fn back_over<F: Findings>(findings: &F, watch: &Watch, at: ThreadPoint, write: Written) -> Halt
+fn back_over<F: Findings>(findings: &F, watch: &Watch, at: ThreadPoint, write: Written) -> MoveEnd
     requires at { IsThreadPoint (F.shown findings.now) at }
     requires write { write.point < at.point }
     ensures value { result ≡ back_over (F.shown findings.now) watch.now at.thread write }
@@ -685,14 +698,14 @@ fn back_over<F: Findings>(findings: &F, watch: &Watch, at: ThreadPoint, write: W
     backward(after, write_stop(findings, watch, after, write.address))
 }
 
-/// Back over the last write that the report names of a watched byte, or to the last breakpoint; one step back where it names none of a byte that rows may
-/// have written.
+/// Back over the last write that the report names of a watched byte, or to the last breakpoint; one
+/// step back where it names none of a byte that rows may have written.
 pub fn continued_back<F: Findings>(
     findings: &F,
     breaks: &[u32],
     watch: &Watch,
     at: ThreadPoint,
-) -> Halt
+) -> MoveEnd
     requires { IsThreadPoint (F.shown findings.now) at }
     ensures value { result ≡ continued_back (F.shown findings.now) (wanted breaks.now watch.now) at }
     ensures within { result.point ≤ at.point }

@@ -6,7 +6,7 @@ ghost use Rattle.rept_session.specs.Shown.{IsThreadPoint};
 ghost use Rattle.rept_session.specs.Texts.{wrapped};
 ghost use Rattle.rept_stub.specs.Replies.{big_word, decoded, digits_of, known_bytes, known_run, little_word, memory_bytes, memory_digits, part_reply, register_reply, registers_reply, signal_reply, stop_part, text_reply, value_digits};
 
-use crate::halt::Stop;
+use crate::halt::StopReason;
 use crate::moves::last_point;
 use crate::signal::debugger_signal;
 use rept_isa::Reg;
@@ -165,15 +165,15 @@ pub fn memory_bytes(alloc: Global, bytes: &[u8]) -> Result<Text, OutOfMemory>
 }
 
 /// Why a move stopped.
-pub fn push_stop(text: &mut Text, stop: Stop) -> Result<(), OutOfMemory>
+pub fn push_stop(text: &mut Text, stop: StopReason) -> Result<(), OutOfMemory>
     ensures { OnOk result (text.new ≡ text.old ++ stop_part stop) }
 {
     match stop {
-        Stop::Step => Ok(()),
-        Stop::Write(address) => push_named(text, b"watch:", address),
-        Stop::Access(address) => push_named(text, b"awatch:", address),
-        Stop::Begin => text.push(b"replaylog:begin;"),
-        Stop::End => text.push(b"replaylog:end;"),
+        StopReason::Step => Ok(()),
+        StopReason::Write(address) => push_named(text, b"watch:", address),
+        StopReason::Access(address) => push_named(text, b"awatch:", address),
+        StopReason::Begin => text.push(b"replaylog:begin;"),
+        StopReason::End => text.push(b"replaylog:end;"),
     }
 }
 

@@ -3,8 +3,9 @@
 ghost use Rattle.std.specs.Prelude.{◌≡◌};
 ghost use Rattle.rept_stub.specs.Signals.{debugger_signal};
 
-/// The number of a signal in stop replies (GDB's own numbers, `gdb/signals.def`, which its manual's section on stop replies refers to), of the
-/// number that Linux gives to it on RISC-V. 143, GDB's "unknown signal", for a number that is none of them.
+/// The number of a signal in stop replies (GDB's own numbers, `gdb/signals.def`, which its manual's
+/// section on stop replies refers to), of the number that Linux gives to it on RISC-V. 143, GDB's
+/// "unknown signal", for a number that is none of them.
 pub fn debugger_signal(linux: u16) -> u8
     ensures { result ≡ debugger_signal linux }
 {

@@ -8,7 +8,7 @@ ghost use Rattle.rept_stub.specs.Standing.{IsStandLawful, is_alone, moving_threa
 ghost use Rattle.rept_stub.specs.Threads.{about, about_reply, cursor_words, number_text, reason_reply, stop_reply, there_reply, thread_part, thread_reply, threads_reply};
 
 use crate::answers::Stand;
-use crate::halt::Stop;
+use crate::halt::StopReason;
 use crate::pieces::{push_big, push_digits, push_named, push_signal, push_stop, whole};
 use rept_request::ThreadName;
 use rept_session::{Findings, ThreadPoint};
@@ -123,7 +123,7 @@ pub fn stop_text<F: Findings>(
     alloc: Global,
     findings: &F,
     thread: u32,
-    stop: Stop,
+    stop: StopReason,
 ) -> Result<Text, OutOfMemory>
     requires { thread < (F.shown findings.now).threads }
     ensures { IfOk result (λ text. text ≡ stop_reply (F.shown findings.now) thread stop) }
@@ -215,7 +215,7 @@ fn about<F: Findings>(alloc: Global, findings: &F, thread: u32) -> Result<Text, 
     Ok(text)
 }
 
-/// The same, as pairs of digits.
+/// A text about a thread, as pairs of digits.
 pub fn about_text<F: Findings>(
     alloc: Global,
     findings: &F,

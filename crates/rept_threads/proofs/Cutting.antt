@@ -19,8 +19,8 @@ use Rattle.rept_slices.specs.Joins.{ran_rows}
 use Rattle.rept_slices.specs.Entries.{AreEntriesOf}
 use Rattle.rept_threads.specs.Kept.{IsRan, AreRan, kept_by}
 use Rattle.rept_slices.specs.Ends.{first_or}
-use Rattle.rept_slices.specs.declared.telling.Entry.{Entry}
-use Rattle.rept_threads.specs.declared.walks.Kept.{Kept}
+use Rattle.rept_slices.specs.declared.telling.StreamSlice.{StreamSlice}
+use Rattle.rept_threads.specs.declared.walks.FinishedWalk.{FinishedWalk}
 use Rattle.rept_slices.proofs.InTime.{Each}
 use Rattle.rept_slices.proofs.Calm.{each_append}
 use Rattle.rept_slices.proofs.Going.{same_off}
@@ -71,7 +71,7 @@ front_few j ls =
     let n = ap (length {A = StepRow}) parts in
     omega (arith, n, length-append (rows_by (take j ls)) (rows_by (drop j ls)))
 
-module _ (code : Code) (w : StretchLegs) (all : List Kept) (number total : ℕ) (kept : Kept)
+module _ (code : Code) (w : StretchLegs) (all : List FinishedWalk) (number total : ℕ) (kept : FinishedWalk)
     (there : slice_get all number ≡ Some kept)
     (last : here kept.walk ≡ record { at = (last_place code w).at; rows = []; branches = (last_place code w).branches })
     (bits_are : kept.walk.bits.items ≡ bits code (reverse (stretch w.head))) (size_is : length kept.rows ≡ total) (empty : kept.walk.steps ≡ []) (counts : Counts kept.walk) where
@@ -100,7 +100,8 @@ module _ (code : Code) (w : StretchLegs) (all : List Kept) (number total : ℕ) 
     ]
   ]
 
-  -- What is left of a stretch: the packets and the legs from one of this number on, where so many rows stand before.
+  -- What is left of a stretch: the packets and the legs from one of this number on, where so many
+  -- rows stand before.
   pub record Left (k n : ℕ) (later : List Packet) (ls : List (List StepRow)) : Type 0 where
     pub low : base ≤ k
     pub legs : drop (k - base) (reverse w.legs) ≡ ls
@@ -113,10 +114,10 @@ module _ (code : Code) (w : StretchLegs) (all : List Kept) (number total : ℕ) 
   abbrev mine : List ToldSlice → List RanSlice
   mine ts = map (ran_by code w) (filter (within w) ts)
 
-  abbrev Kepts : ℕ → List Packet → List (List StepRow) → List Entry → List ToldSlice → Type 0
+  abbrev Kepts : ℕ → List Packet → List (List StepRow) → List StreamSlice → List ToldSlice → Type 0
   Kepts n ps ls es ts = AreRan all (kept_by number total (counts_from n ps ls) es) (mine ts) × (first_or total (counts_from n ps ls) + ran_rows (mine ts) ≡ total)
 
-  none_kept : (n : ℕ) (ps : List Packet) (ls : List (List StepRow)) (es : List Entry) (ts : List ToldSlice) → counts_from n ps ls ≡ [] → filter (within w) ts ≡ [] → Kepts n ps ls es ts
+  none_kept : (n : ℕ) (ps : List Packet) (ls : List (List StepRow)) (es : List StreamSlice) (ts : List ToldSlice) → counts_from n ps ls ≡ [] → filter (within w) ts ≡ [] → Kepts n ps ls es ts
   none_kept n ps ls es ts none nothing =
       subst (λ (ms : List ℕ). AreRan all (kept_by number total ms es) (mine ts) × (first_or total ms + ran_rows (mine ts) ≡ total)) (sym none)
       (ap (map (ran_by code w)) nothing, let e = ap (λ (us : List ToldSlice). ran_rows (map (ran_by code w) us)) nothing in omega (arith, e))
@@ -143,12 +144,12 @@ module _ (code : Code) (w : StretchLegs) (all : List Kept) (number total : ℕ) 
       }
 
   abbrev More : ℕ → ℕ → List Packet → List ToldSlice → Type 0
-  More s k later others = (m : ℕ) (i : Option ℕ) (ks : List (List StepRow)) (fs : List Entry) → Left (suc k) m later ks → Each (From (suc k + length later)) others → AreEntriesOf fs (told_from s (suc k) i later ++ others) → Kepts m (same_stretch false later) ks fs (told_from s (suc k) i later ++ others)
+  More s k later others = (m : ℕ) (i : Option ℕ) (ks : List (List StepRow)) (fs : List StreamSlice) → Left (suc k) m later ks → Each (From (suc k + length later)) others → AreEntriesOf fs (told_from s (suc k) i later ++ others) → Kepts m (same_stretch false later) ks fs (told_from s (suc k) i later ++ others)
 
-  abbrev Wanted : ℕ → List (List StepRow) → List Entry → List ToldSlice → List Packet → List ToldSlice → Type 0
+  abbrev Wanted : ℕ → List (List StepRow) → List StreamSlice → List ToldSlice → List Packet → List ToldSlice → Type 0
   Wanted n ls es others ps ts = Kepts n ps ls es (ts ++ others)
 
-  pub kept_from : (later : List Packet) (s k n : ℕ) (inside : Option ℕ) (ls : List (List StepRow)) (es : List Entry) (others : List ToldSlice) → Left k n later ls → Each (From (k + length later)) others → AreEntriesOf es (told_from s k inside later ++ others) → Kepts n (same_stretch false later) ls es (told_from s k inside later ++ others)
+  pub kept_from : (later : List Packet) (s k n : ℕ) (inside : Option ℕ) (ls : List (List StepRow)) (es : List StreamSlice) (others : List ToldSlice) → Left k n later ls → Each (From (k + length later)) others → AreEntriesOf es (told_from s k inside later ++ others) → Kepts n (same_stretch false later) ls es (told_from s k inside later ++ others)
   kept_from [] s k n inside ls es others h o a =
       let to = h.to in
       none_kept n [] ls es others refl (none_within others (each_from_less end (k + 0) (omega (arith, to)) others o))
@@ -222,7 +223,7 @@ module _ (code : Code) (w : StretchLegs) (all : List Kept) (number total : ℕ) 
         ms : List ℕ
         ms = counts_from (n + length l) (same_stretch false later) ls
 
-        go : (es : List Entry) → AreEntriesOf es (here_told ∷ rest ++ others) → same_stretch false (p ∷ later) ≡ p ∷ same_stretch false later → Left (suc k) (n + length l) later ls → More s k later others
+        go : (es : List StreamSlice) → AreEntriesOf es (here_told ∷ rest ++ others) → same_stretch false (p ∷ later) ≡ p ∷ same_stretch false later → Left (suc k) (n + length l) later ls → More s k later others
             → AreRan all (kept_by number total ((n + length l) ∷ counts_from (n + length l) (same_stretch false later) ls) es) (mine (here_told ∷ rest ++ others)) × (n + length l + ran_rows (mine (here_told ∷ rest ++ others)) ≡ total)
         go [] b e on more = absurd (cc)
         go (f ∷ fs) b e on more =

@@ -4,7 +4,7 @@ use Rattle.std.specs.Prelude.{slice_get, option_map, is_none}
 use Rattle.std.specs.List.{filter, flat_map}
 use Rattle.std.proofs.lemmas.Bool.Decides.{leb_tells}
 use Rattle.rept_threads.specs.Notes.{known_by}
-use Rattle.rept_threads.specs.declared.notes.Note.{Note as KeptNote}
+use Rattle.rept_threads.specs.declared.notes.KeptNote.{KeptNote}
 use Rattle.std.proofs.lemmas.List.{append-nil, at_drop_all, at_drop_more, drop-drop, length-reverse, reverse-reverse}
 use Rattle.std.proofs.lemmas.List.Sums.{sum_by-cons, sum_by_push}
 use Rattle.std.proofs.lemmas.Grind.{flat_map-append}
@@ -36,30 +36,30 @@ use Rattle.rept_slices.specs.Joins.{ThreadNote, JoinGround, ThreadGround, thread
 use Rattle.rept_threads.specs.Joining.{onward, ending_of, ground_of, slice_before, begin_of_ran, AreRanInOrder, JoinsGoOn}
 use Rattle.rept_slices.specs.Entries.{IsEntryOf, AreEntriesOf}
 use Rattle.rept_threads.specs.Kept.{IsRan, AreRan}
-use Rattle.rept_slices.specs.declared.telling.Entry.{Entry}
-use Rattle.rept_threads.specs.declared.walks.Kept.{Kept}
+use Rattle.rept_slices.specs.declared.telling.StreamSlice.{StreamSlice}
+use Rattle.rept_threads.specs.declared.walks.FinishedWalk.{FinishedWalk}
 use Rattle.rept_threads.specs.declared.walks.Walked.{Walked}
 use Rattle.rept_threads.specs.declared.joins.Joins.{Joins}
 use Rattle.rept_threads.specs.declared.joins.Lead.{Lead}
 
 -- the next slice of a thread, as its entry has it
-abbrev pub NextRan : Option Entry → Option RanSlice → Type 0
+abbrev pub NextRan : Option StreamSlice → Option RanSlice → Type 0
 NextRan None None = Unit {0}
 NextRan None (Some r) = ⊥
 NextRan (Some e) None = ⊥
 NextRan (Some e) (Some r) = IsEntryOf e r.told
 
-pub next_ran : (all : List Kept) (ws : List Walked) (r : RanSlice) (rs : List RanSlice) → AreRan all ws (r ∷ rs) → NextRan (option_map (λ (w : Walked). w.slice) (slice_get ws 1)) (head_of rs)
+pub next_ran : (all : List FinishedWalk) (ws : List Walked) (r : RanSlice) (rs : List RanSlice) → AreRan all ws (r ∷ rs) → NextRan (option_map (λ (w : Walked). w.slice) (slice_get ws 1)) (head_of rs)
 next_ran all [] r rs a = absurd (cc)
 next_ran all (w ∷ []) r rs a = subst (λ (xs : List RanSlice). NextRan None (head_of xs)) (sym a.1) tt
 next_ran all (w ∷ (v ∷ ws)) r [] a = absurd a.1
 next_ran all (w ∷ (v ∷ ws)) r (q ∷ rs) a = (a.1.0).told
 
-pub first_ran : (all : List Kept) (ws : List Walked) (r : RanSlice) (rs : List RanSlice) → AreRan all ws (r ∷ rs) → (w : Walked) × (slice_get ws 0 ≡ Some w) × IsRan all w r
+pub first_ran : (all : List FinishedWalk) (ws : List Walked) (r : RanSlice) (rs : List RanSlice) → AreRan all ws (r ∷ rs) → (w : Walked) × (slice_get ws 0 ≡ Some w) × IsRan all w r
 first_ran all [] r rs a = absurd (cc)
 first_ran all (w ∷ ws) r rs a = (w, refl, a.0)
 
-pub next_clock : (o : Option Entry) (q : Option RanSlice) → NextRan o q → option_map (λ (e : Entry). clock_of e.start) o ≡ option_map begin_of_ran q
+pub next_clock : (o : Option StreamSlice) (q : Option RanSlice) → NextRan o q → option_map (λ (e : StreamSlice). clock_of e.start) o ≡ option_map begin_of_ran q
 next_clock None None n = refl
 next_clock None (Some r) n = absurd n
 next_clock (Some e) None n = absurd n
@@ -82,22 +82,22 @@ gap_fits code s goal rows is =
     ]
 
 -- what leads on from a slice, where its walk stands
-abbrev pub leads : Code → Lead → Kept → ℕ → Result (List StepRow) PathFault
+abbrev pub leads : Code → Lead → FinishedWalk → ℕ → Result (List StepRow) PathFault
 leads code lead kept room = gap code (record { packet = lead.packet; bits = kept.walk.bits.items; place = here kept.walk; room = room }) (record { address = lead.to; otherwise = lead.otherwise })
 
-pub leads_fit : (code : Code) (lead : Lead) (kept : Kept) (room : ℕ) (rows : List StepRow) → leads code lead kept room ≡ Ok rows → length rows ≤ room
+pub leads_fit : (code : Code) (lead : Lead) (kept : FinishedWalk) (room : ℕ) (rows : List StepRow) → leads code lead kept room ≡ Ok rows → length rows ≤ room
 leads_fit code lead kept room rows is =
     let h = gap_fits code (record { packet = lead.packet; bits = kept.walk.bits.items; place = here kept.walk; room = room }) (record { address = lead.to; otherwise = lead.otherwise }) rows is in
     omega (arith, h)
 
-module _ (j : Joins) (pc : ℕ) (all : List Kept) (w : Walked) (r : RanSlice) (i : IsRan all w r) (kept : Kept) (kept_is : kept ≡ i.stretch) where
+module _ (j : Joins) (pc : ℕ) (all : List FinishedWalk) (w : Walked) (r : RanSlice) (i : IsRan all w r) (kept : FinishedWalk) (kept_is : kept ≡ i.stretch) where
   at_is : kept.walk.at ≡ r.last.at
-  at_is = ap (λ (k : Kept). k.walk.at) kept_is ∙ ap (λ (p : Place). p.at) i.last
+  at_is = ap (λ (k : FinishedWalk). k.walk.at) kept_is ∙ ap (λ (p : Place). p.at) i.last
 
   stand_is : (k room : ℕ) → room ≡ 65536 - j.count → record { packet = k; bits = kept.walk.bits.items; place = here kept.walk; room = room } ≡ stand_at k r j.count
   stand_is k room e =
-      let bits = ap (λ (x : Kept). x.walk.bits.items) kept_is ∙ i.bits in
-      let place = ap (λ (x : Kept). here x.walk) kept_is ∙ i.last in
+      let bits = ap (λ (x : FinishedWalk). x.walk.bits.items) kept_is ∙ i.bits in
+      let place = ap (λ (x : FinishedWalk). here x.walk) kept_is ∙ i.last in
       λ n. record { packet = k; bits = bits n; place = place n; room = e n }
 
   same_lead : (room : ℕ) (lead : Lead) (k to : ℕ) (otherwise : ℕ → PathFault) → room ≡ 65536 - j.count → Some (record { packet = k; to = to; otherwise = otherwise kept.walk.at }) ≡ Some lead → leads (code_of j.program) lead kept room ≡ gap (code_of j.program) (stand_at k r j.count) (record { address = to; otherwise = otherwise r.last.at })
@@ -105,7 +105,7 @@ module _ (j : Joins) (pc : ℕ) (all : List Kept) (w : Walked) (r : RanSlice) (i
       let is : record { packet = k; to = to; otherwise = otherwise kept.walk.at } ≡ lead = cc in
       ap (λ (l : Lead). leads (code_of j.program) l kept room) (sym is) ∙ (λ n. gap (code_of j.program) (stand_is k room e n) (record { address = to; otherwise = otherwise (at_is n) }))
 
-  pub leads_on : (room : ℕ) (lead : Lead) (o : Option Entry) (q : Option RanSlice) → NextRan o q → room ≡ 65536 - j.count → onward j.packets kept.walk.at pc o ≡ Some lead → leads (code_of j.program) lead kept room ≡ bridge (ending_of j pc) j.count r q
+  pub leads_on : (room : ℕ) (lead : Lead) (o : Option StreamSlice) (q : Option RanSlice) → NextRan o q → room ≡ 65536 - j.count → onward j.packets kept.walk.at pc o ≡ Some lead → leads (code_of j.program) lead kept room ≡ bridge (ending_of j pc) j.count r q
   leads_on room lead None None n e h = same_lead room lead j.packets pc (λ a. End a pc) e h
   leads_on room lead None (Some x) n e h = absurd n
   leads_on room lead (Some x) None n e h = absurd n
@@ -121,7 +121,7 @@ module _ (j : Joins) (pc : ℕ) (all : List Kept) (w : Walked) (r : RanSlice) (i
       go true false same k = absurd (cc)
       go false c same k = absurd (cc)
 
-  pub leads_nowhere : (o : Option Entry) (q : Option RanSlice) → NextRan o q → onward j.packets kept.walk.at pc o ≡ None → bridge (ending_of j pc) j.count r q ≡ Ok []
+  pub leads_nowhere : (o : Option StreamSlice) (q : Option RanSlice) → NextRan o q → onward j.packets kept.walk.at pc o ≡ None → bridge (ending_of j pc) j.count r q ≡ Ok []
   leads_nowhere None q n h = absurd (cc)
   leads_nowhere (Some x) None n h = absurd n
   leads_nowhere (Some x) (Some y) n h = go (is_none x.inside) (is_none y.told.inside) (ap is_none n.inside) h where
@@ -163,7 +163,7 @@ abbrev after_done : List JoinedSlice → Result (List JoinedSlice) PathFault →
 after_done done r = r >>= (λ others. Ok (done ++ others))
 
 -- The slices that were joined, and those that are left.
-pub record Joining (e : ThreadGround) (start : ℕ) (rs : List RanSlice) (all : List Kept) (ws : List Walked) (count : ℕ) (now : ThreadRows) : Type 0 where
+pub record Joining (e : ThreadGround) (start : ℕ) (rs : List RanSlice) (all : List FinishedWalk) (ws : List Walked) (count : ℕ) (now : ThreadRows) : Type 0 where
   pub done : List JoinedSlice
   pub later : List RanSlice
   pub are : AreRan all ws later
@@ -174,7 +174,7 @@ pub record Joining (e : ThreadGround) (start : ℕ) (rs : List RanSlice) (all : 
   pub grows : start ≤ count
   pub ready : Chained rs → Chained later × Ready now.steps (head_of later)
 
-pub none_joined : (e : ThreadGround) (start : ℕ) (rs : List RanSlice) (all : List Kept) (ws : List Walked) (now : ThreadRows) → AreRan all ws rs → now.steps ≡ [] → now.slices ≡ [] → Joining e start rs all ws start now
+pub none_joined : (e : ThreadGround) (start : ℕ) (rs : List RanSlice) (all : List FinishedWalk) (ws : List Walked) (now : ThreadRows) → AreRan all ws rs → now.steps ≡ [] → now.slices ≡ [] → Joining e start rs all ws start now
 none_joined e start rs all ws now a steps told = record {
   done = [];
   later = rs;
@@ -195,7 +195,7 @@ none_joined e start rs all ws now a steps told = record {
   whole (Err f) = refl
 
 -- the first one that is left
-pub record NextJoin (e : ThreadGround) (start : ℕ) (rs : List RanSlice) (all : List Kept) (ws rest : List Walked) (count : ℕ) (now : ThreadRows) : Type 0 where
+pub record NextJoin (e : ThreadGround) (start : ℕ) (rs : List RanSlice) (all : List FinishedWalk) (ws rest : List Walked) (count : ℕ) (now : ThreadRows) : Type 0 where
   pub done : List JoinedSlice
   pub r : RanSlice
   pub later : List RanSlice
@@ -208,11 +208,11 @@ pub record NextJoin (e : ThreadGround) (start : ℕ) (rs : List RanSlice) (all :
   pub grows : start ≤ count
   pub ready : Chained rs → Chained (r ∷ later) × EndBefore now.steps (address_of r.told.start)
 
-split_ran : (all : List Kept) (w : Walked) (ws : List Walked) (rs : List RanSlice) → AreRan all (w ∷ ws) rs → (r : RanSlice) × (later : List RanSlice) × (rs ≡ r ∷ later) × IsRan all w r × AreRan all ws later
+split_ran : (all : List FinishedWalk) (w : Walked) (ws : List Walked) (rs : List RanSlice) → AreRan all (w ∷ ws) rs → (r : RanSlice) × (later : List RanSlice) × (rs ≡ r ∷ later) × IsRan all w r × AreRan all ws later
 split_ran all w ws [] a = absurd a
 split_ran all w ws (r ∷ later) a = (r, later, refl, a.0, a.1)
 
-pub next_join : (e : ThreadGround) (start : ℕ) (rs : List RanSlice) (all : List Kept) (ws : List Walked) (i count : ℕ) (now : ThreadRows) → i < length ws → Joining e start rs all (drop i ws) count now → NextJoin e start rs all (drop i ws) (drop (i + 1) ws) count now
+pub next_join : (e : ThreadGround) (start : ℕ) (rs : List RanSlice) (all : List FinishedWalk) (ws : List Walked) (i count : ℕ) (now : ThreadRows) → i < length ws → Joining e start rs all (drop i ws) count now → NextJoin e start rs all (drop i ws) (drop (i + 1) ws) count now
 next_join e start rs all ws i count now within g = go (drop i ws) refl where
   go : (rest : List Walked) → drop i ws ≡ rest → NextJoin e start rs all (drop i ws) (drop (i + 1) ws) count now
   go [] h = absurd (let n = ap (length {A = Walked}) h in let d = length-drop i ws in omega (arith, n, d, within))
@@ -248,7 +248,7 @@ join_ok e count r rs more done h =
 join_err : (e : ThreadGround) (count : ℕ) (r : RanSlice) (rs : List RanSlice) (f : PathFault) (done : List JoinedSlice) → bridge e count r (head_of rs) ≡ Err f → (join e count (r ∷ rs) >>= (λ others. Ok (done ++ others))) ≡ Err f
 join_err e count r rs f done h = ap (λ (x : Result (List StepRow) PathFault). (x >>= (λ more. join e (count + length more) rs >>= (λ others. Ok (with_rows r more ∷ others)))) >>= (λ others. Ok (done ++ others))) h
 
-pub one_joined : (e : ThreadGround) (start : ℕ) (rs : List RanSlice) (all : List Kept) (ws rest : List Walked) (count : ℕ) (old new : ThreadRows) (g : NextJoin e start rs all ws rest count old) (more : List StepRow) → bridge e count g.r (head_of g.later) ≡ Ok more
+pub one_joined : (e : ThreadGround) (start : ℕ) (rs : List RanSlice) (all : List FinishedWalk) (ws rest : List Walked) (count : ℕ) (old new : ThreadRows) (g : NextJoin e start rs all ws rest count old) (more : List StepRow) → bridge e count g.r (head_of g.later) ≡ Ok more
     → new ≡ record { steps = old.steps ++ (with_rows g.r more).rows; slices = old.slices ++ slice_before (with_rows g.r more) (option_map begin_of_ran (head_of g.later)) (length old.steps) ∷ [] }
     → (Chained rs → Ready new.steps (head_of g.later)) → Joining e start rs all rest (count + length more) new
 one_joined e start rs all ws rest count old new g more h new_is ready =
@@ -274,10 +274,10 @@ one_joined e start rs all ws rest count old new g more h new_is ready =
       ready = λ c. ((g.ready c).0.1, ready c);
     }
 
-pub one_unjoined : (e : ThreadGround) (start : ℕ) (rs : List RanSlice) (all : List Kept) (ws rest : List Walked) (count : ℕ) (old : ThreadRows) (g : NextJoin e start rs all ws rest count old) (f : PathFault) → (f ≡ OutOfMemory) ⊎ (bridge e count g.r (head_of g.later) ≡ Err f) → (f ≡ OutOfMemory) ⊎ (join e start rs ≡ Err f)
+pub one_unjoined : (e : ThreadGround) (start : ℕ) (rs : List RanSlice) (all : List FinishedWalk) (ws rest : List Walked) (count : ℕ) (old : ThreadRows) (g : NextJoin e start rs all ws rest count old) (f : PathFault) → (f ≡ OutOfMemory) ⊎ (bridge e count g.r (head_of g.later) ≡ Err f) → (f ≡ OutOfMemory) ⊎ (join e start rs ≡ Err f)
 one_unjoined e start rs all ws rest count old g f h = elim h [ inl m ↦ inl m | inr x ↦ inr (g.same ∙ join_err e count g.r g.later f g.done x) ]
 
-pub all_joined : (e : ThreadGround) (start : ℕ) (rs : List RanSlice) (all : List Kept) (ws : List Walked) (i count : ℕ) (now : ThreadRows) → length ws ≤ i → Joining e start rs all (drop i ws) count now
+pub all_joined : (e : ThreadGround) (start : ℕ) (rs : List RanSlice) (all : List FinishedWalk) (ws : List Walked) (i count : ℕ) (now : ThreadRows) → length ws ≤ i → Joining e start rs all (drop i ws) count now
     → (js : List JoinedSlice) × (join e start rs ≡ Ok js) × (now ≡ thread js) × (count ≡ start + (rows_in js - ran_rows rs))
 all_joined e start rs all ws i count now past g =
     let none : g.later ≡ [] = subst (λ (xs : List Walked). AreRan all xs g.later) (at_drop_all (λ (xs : List Walked). xs) ws i past) g.are in
@@ -289,7 +289,7 @@ all_joined e start rs all ws i count now past g =
     (g.done, same, (λ n. record { steps = g.steps n; slices = told n }), omega (arith, counted, grows, zero_rows))
 
 -- Slices that were walked, of one thread and in order.
-module _ (all : List Kept) where
+module _ (all : List FinishedWalk) where
   ran_filter : (n : ℕ) (ws : List Walked) (rs : List RanSlice) → AreRan all ws rs → AreRan all (filter (λ (w : Walked). context_of w.slice.start == n) ws) (filter (λ (r : RanSlice). thread_of r.told == n) rs)
   ran_filter n [] rs a = ap (filter (λ (r : RanSlice). thread_of r.told == n)) a
   ran_filter n (w ∷ ws) [] a = absurd a
@@ -382,7 +382,7 @@ set_same {A} (y ∷ xs) zero x h = let e : y ≡ x = cc in ap (λ (z : A). z ∷
 set_same {A} (y ∷ xs) (suc i) x h = ap (λ (zs : List A). y ∷ zs) (set_same xs i x h)
 
 -- the first one of slices that were walked
-pub first_walked : (all : List Kept) (ws : List Walked) (w : Walked) (r : RanSlice) (rs : List RanSlice) → AreRan all ws (r ∷ rs) → Some w ≡ slice_get ws 0 → IsRan all w r
+pub first_walked : (all : List FinishedWalk) (ws : List Walked) (w : Walked) (r : RanSlice) (rs : List RanSlice) → AreRan all ws (r ∷ rs) → Some w ≡ slice_get ws 0 → IsRan all w r
 first_walked all [] w r rs a h = absurd (cc)
 first_walked all (x ∷ ws) w r rs a h = let e : x ≡ w = cc in subst (λ (y : Walked). IsRan all y r) e a.0
 
@@ -400,39 +400,39 @@ goes_to a b m n x e = record { program = x.program; packets = x.packets; stretch
 
 -- what a step of the joins of a thread is given
 pub asked_slice : (a b : Joins) (m : ℕ) (ws here : List Walked) (r : RanSlice) (rs : List RanSlice) → JoinsGoOn a b m → here ≡ ws → AreRan a.stretches.items ws (r ∷ rs) → AreRan b.stretches.items here (r ∷ rs)
-asked_slice a b m ws here r rs g e x = subst (λ (ks : List Kept). AreRan ks here (r ∷ rs)) (sym g.stretches) (subst (λ (vs : List Walked). AreRan a.stretches.items vs (r ∷ rs)) (sym e) x)
+asked_slice a b m ws here r rs g e x = subst (λ (ks : List FinishedWalk). AreRan ks here (r ∷ rs)) (sym g.stretches) (subst (λ (vs : List Walked). AreRan a.stretches.items vs (r ∷ rs)) (sym e) x)
 
 pub asked_thread : (a b : Joins) (m : ℕ) (ws here : List Walked) (rs : List RanSlice) → JoinsGoOn a b m → here ≡ ws → AreRan a.stretches.items ws rs → AreRan b.stretches.items here rs
-asked_thread a b m ws here rs g e x = subst (λ (ks : List Kept). AreRan ks here rs) (sym g.stretches) (subst (λ (vs : List Walked). AreRan a.stretches.items vs rs) (sym e) x)
+asked_thread a b m ws here rs g e x = subst (λ (ks : List FinishedWalk). AreRan ks here rs) (sym g.stretches) (subst (λ (vs : List Walked). AreRan a.stretches.items vs rs) (sym e) x)
 
 -- the first note that is left
 pub note_left : (notes : List KeptNote) (i : ℕ) (note : KeptNote) → i < length notes → note ≡ get_or notes i note → map known_by (drop i notes) ≡ known_by note ∷ map known_by (drop (i + 1) notes)
 note_left notes i note within at = ap (map known_by) (at_drop_more (λ (xs : List KeptNote). xs) notes i note within ∙ ap (λ (x : KeptNote). x ∷ drop (i + 1) notes) (sym at))
 
 -- the entries of slices that were walked, in order
-map_put : (w : Walked) (ws : List Walked) → map (λ (v : Walked). v.slice) (put (λ (v : Walked). clock_of v.slice.start) w ws) ≡ put (λ (e : Entry). clock_of e.start) w.slice (map (λ (v : Walked). v.slice) ws)
+map_put : (w : Walked) (ws : List Walked) → map (λ (v : Walked). v.slice) (put (λ (v : Walked). clock_of v.slice.start) w ws) ≡ put (λ (e : StreamSlice). clock_of e.start) w.slice (map (λ (v : Walked). v.slice) ws)
 map_put w [] = refl
 map_put w (v ∷ ws) = go (nat_le (clock_of w.slice.start) (clock_of v.slice.start)) (map_put w ws) where
-  go : (b : Bool) → map (λ (v : Walked). v.slice) (put (λ (v : Walked). clock_of v.slice.start) w ws) ≡ put (λ (e : Entry). clock_of e.start) w.slice (map (λ (v : Walked). v.slice) ws)
-      → map (λ (v : Walked). v.slice) (cond b (w ∷ v ∷ ws) (v ∷ put (λ (v : Walked). clock_of v.slice.start) w ws)) ≡ cond b (w.slice ∷ v.slice ∷ map (λ (v : Walked). v.slice) ws) (v.slice ∷ put (λ (e : Entry). clock_of e.start) w.slice (map (λ (v : Walked). v.slice) ws))
+  go : (b : Bool) → map (λ (v : Walked). v.slice) (put (λ (v : Walked). clock_of v.slice.start) w ws) ≡ put (λ (e : StreamSlice). clock_of e.start) w.slice (map (λ (v : Walked). v.slice) ws)
+      → map (λ (v : Walked). v.slice) (cond b (w ∷ v ∷ ws) (v ∷ put (λ (v : Walked). clock_of v.slice.start) w ws)) ≡ cond b (w.slice ∷ v.slice ∷ map (λ (v : Walked). v.slice) ws) (v.slice ∷ put (λ (e : StreamSlice). clock_of e.start) w.slice (map (λ (v : Walked). v.slice) ws))
   go true h = refl
-  go false h = ap (λ (es : List Entry). v.slice ∷ es) h
+  go false h = ap (λ (es : List StreamSlice). v.slice ∷ es) h
 
-map_by_time : (ws : List Walked) → map (λ (v : Walked). v.slice) (by_time (λ (v : Walked). clock_of v.slice.start) ws) ≡ by_time (λ (e : Entry). clock_of e.start) (map (λ (v : Walked). v.slice) ws)
+map_by_time : (ws : List Walked) → map (λ (v : Walked). v.slice) (by_time (λ (v : Walked). clock_of v.slice.start) ws) ≡ by_time (λ (e : StreamSlice). clock_of e.start) (map (λ (v : Walked). v.slice) ws)
 map_by_time [] = refl
-map_by_time (w ∷ ws) = map_put w (by_time (λ (v : Walked). clock_of v.slice.start) ws) ∙ ap (put (λ (e : Entry). clock_of e.start) w.slice) (map_by_time ws)
+map_by_time (w ∷ ws) = map_put w (by_time (λ (v : Walked). clock_of v.slice.start) ws) ∙ ap (put (λ (e : StreamSlice). clock_of e.start) w.slice) (map_by_time ws)
 
-pub told_in_order : (all : List Kept) (ws vs : List Walked) (rs : List RanSlice) (ts : List ToldSlice) → AreRan all ws rs → map (λ (r : RanSlice). r.told) rs ≡ ts
+pub told_in_order : (all : List FinishedWalk) (ws vs : List Walked) (rs : List RanSlice) (ts : List ToldSlice) → AreRan all ws rs → map (λ (r : RanSlice). r.told) rs ≡ ts
     → ((n : ℕ) → filter (λ (w : Walked). context_of w.slice.start == n) vs ≡ by_time (λ (w : Walked). clock_of w.slice.start) (filter (λ (w : Walked). context_of w.slice.start == n) ws))
     → (n : ℕ) → AreEntriesOf (map (λ (w : Walked). w.slice) (filter (λ (w : Walked). context_of w.slice.start == n) vs)) (slices_of n ts)
 told_in_order all ws vs rs ts a e times n =
     let es = map (λ (w : Walked). w.slice) ws in
     let told : AreEntriesOf es ts = subst (λ (us : List ToldSlice). AreEntriesOf es us) e (ran_told all ws rs a) in
-    let same : map (λ (w : Walked). w.slice) (filter (λ (w : Walked). context_of w.slice.start == n) vs) ≡ by_time (λ (e : Entry). clock_of e.start) (filter (λ (e : Entry). context_of e.start == n) es) =
-    ap (map (λ (w : Walked). w.slice)) (times n) ∙ map_by_time (filter (λ (w : Walked). context_of w.slice.start == n) ws) ∙ ap (by_time (λ (e : Entry). clock_of e.start)) (sym (map_filter n ws)) in
-    subst (λ (xs : List Entry). AreEntriesOf xs (slices_of n ts)) (sym same) (told_slices n es ts told)
+    let same : map (λ (w : Walked). w.slice) (filter (λ (w : Walked). context_of w.slice.start == n) vs) ≡ by_time (λ (e : StreamSlice). clock_of e.start) (filter (λ (e : StreamSlice). context_of e.start == n) es) =
+    ap (map (λ (w : Walked). w.slice)) (times n) ∙ map_by_time (filter (λ (w : Walked). context_of w.slice.start == n) ws) ∙ ap (by_time (λ (e : StreamSlice). clock_of e.start)) (sym (map_filter n ws)) in
+    subst (λ (xs : List StreamSlice). AreEntriesOf xs (slices_of n ts)) (sym same) (told_slices n es ts told)
 
-pub told_again : (all : List Kept) (ws vs : List Walked) (rs : List RanSlice) → AreRan all ws rs → IsPermutation ws vs → (us : List ToldSlice) × AreEntriesOf (map (λ (w : Walked). w.slice) vs) us
+pub told_again : (all : List FinishedWalk) (ws vs : List Walked) (rs : List RanSlice) → AreRan all ws rs → IsPermutation ws vs → (us : List ToldSlice) × AreEntriesOf (map (λ (w : Walked). w.slice) vs) us
 told_again all ws vs rs a p = told_permuted (map (λ (w : Walked). w.slice) ws) (map (λ (w : Walked). w.slice) vs) (map (λ (r : RanSlice). r.told) rs) (IsPermutation-map (λ (w : Walked). w.slice) ws vs p) (ran_told all ws rs a)
 
 -- a slice and its rows were added

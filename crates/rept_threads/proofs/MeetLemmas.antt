@@ -12,13 +12,13 @@ use Rattle.rept_slices.specs.Checks.{first_fault}
 use Rattle.rept_slices.specs.Many.{overlap_fault}
 use Rattle.rept_slices.specs.Ends.{IsInTurn, InTurn, met_next, first_met}
 use Rattle.rept_slices.specs.Entries.{IsEntryOf, AreEntriesOf}
-use Rattle.rept_slices.specs.declared.telling.Entry.{Entry}
+use Rattle.rept_slices.specs.declared.telling.StreamSlice.{StreamSlice}
 use Rattle.rept_threads.specs.declared.walks.Walked.{Walked}
 use Rattle.rept_slices.proofs.StrangerLemmas.{split_told}
 use Rattle.rept_slices.proofs.Apart.{told_filter}
 use Rattle.rept_slices.proofs.Checking.{fault_on, fault_here}
 
-abbrev pub slices_in : List Walked → List Entry
+abbrev pub slices_in : List Walked → List StreamSlice
 slices_in ws = map (λ (w : Walked). w.slice) ws
 
 -- The slices that are left, after those that don't meet the next ones.
@@ -91,7 +91,7 @@ pub first_told : (w : Walked) (ws : List Walked) (ts : List ToldSlice) → AreEn
 first_told w ws [] a = absurd a
 first_told w ws (t ∷ ts) a = (t, a.0)
 
-pub met_here : (t u : ToldSlice) (n : Entry) (begin : ℕ) (o : Option ToldSlice) → o ≡ Some u → IsEntryOf n u → begin ≡ clock_of n.start → meets t u ≡ true → Some begin ≡ met_next t o
+pub met_here : (t u : ToldSlice) (n : StreamSlice) (begin : ℕ) (o : Option ToldSlice) → o ≡ Some u → IsEntryOf n u → begin ≡ clock_of n.start → meets t u ≡ true → Some begin ≡ met_next t o
 met_here t u n begin o some is same met =
     let b : begin ≡ begin_of u = same ∙ ap clock_of is.start in
     ap Some b ∙ sym (ap (λ (c : Bool). cond c (Some (begin_of u)) None) met) ∙ sym (ap (met_next t) some)
@@ -100,18 +100,18 @@ pub is_before : (t u : ToldSlice) (o : Option ToldSlice) → o ≡ Some u → Is
 is_before t u o some b = subst (IsInTurn t) some b
 
 -- those of one thread
-pub map_filter : (n : ℕ) (ws : List Walked) → filter (λ (e : Entry). context_of e.start == n) (slices_in ws) ≡ slices_in (filter (λ (w : Walked). context_of w.slice.start == n) ws)
+pub map_filter : (n : ℕ) (ws : List Walked) → filter (λ (e : StreamSlice). context_of e.start == n) (slices_in ws) ≡ slices_in (filter (λ (w : Walked). context_of w.slice.start == n) ws)
 map_filter n [] = refl
 map_filter n (w ∷ ws) = go (context_of w.slice.start == n) (map_filter n ws) where
-  go : (b : Bool) → filter (λ (e : Entry). context_of e.start == n) (slices_in ws) ≡ slices_in (filter (λ (v : Walked). context_of v.slice.start == n) ws)
-      → cond b (w.slice ∷ filter (λ (e : Entry). context_of e.start == n) (slices_in ws)) (filter (λ (e : Entry). context_of e.start == n) (slices_in ws)) ≡ slices_in (cond b (w ∷ filter (λ (v : Walked). context_of v.slice.start == n) ws) (filter (λ (v : Walked). context_of v.slice.start == n) ws))
-  go true h = ap (λ (es : List Entry). w.slice ∷ es) h
+  go : (b : Bool) → filter (λ (e : StreamSlice). context_of e.start == n) (slices_in ws) ≡ slices_in (filter (λ (v : Walked). context_of v.slice.start == n) ws)
+      → cond b (w.slice ∷ filter (λ (e : StreamSlice). context_of e.start == n) (slices_in ws)) (filter (λ (e : StreamSlice). context_of e.start == n) (slices_in ws)) ≡ slices_in (cond b (w ∷ filter (λ (v : Walked). context_of v.slice.start == n) ws) (filter (λ (v : Walked). context_of v.slice.start == n) ws))
+  go true h = ap (λ (es : List StreamSlice). w.slice ∷ es) h
   go false h = h
 
 pub told_of_thread : (n : ℕ) (ws of_one : List Walked) (ts : List ToldSlice) → of_one ≡ filter (λ (w : Walked). context_of w.slice.start == n) ws → AreEntriesOf (slices_in ws) ts → (us : List ToldSlice) × AreEntriesOf (slices_in of_one) us
 told_of_thread n ws of_one ts is a =
     let us = filter (λ (t : ToldSlice). thread_of t == n) ts in
-    let b : AreEntriesOf (slices_in (filter (λ (w : Walked). context_of w.slice.start == n) ws)) us = subst (λ (es : List Entry). AreEntriesOf es us) (map_filter n ws) (told_filter n (slices_in ws) ts a) in
+    let b : AreEntriesOf (slices_in (filter (λ (w : Walked). context_of w.slice.start == n) ws)) us = subst (λ (es : List StreamSlice). AreEntriesOf es us) (map_filter n ws) (told_filter n (slices_in ws) ts a) in
     (us, subst (λ (vs : List Walked). AreEntriesOf (slices_in vs) us) (sym is) b)
 
 -- the threads that are left

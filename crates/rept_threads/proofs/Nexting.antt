@@ -1,4 +1,5 @@
--- A slice that begins while the trace runs stands right after the one before it in its stream, in the order of its thread too.
+-- A slice that begins while the trace runs stands right after the one before it in its stream, in
+-- the order of its thread too.
 use Rattle.std.proofs.Common.{◌≡◌, ◌≢◌, ◌⊎◌, inl, inr, ℕ, suc, ◌+◌, ◌<◌, ◌≤◌, ◌==◌, List, [], ◌∷◌, ◌++◌, map, take, drop, Bool, true, false, cond, not, ◌||◌, Option, Some, None, refl, sym, ◌∙◌, ap, subst, arith, append_assoc}
 use Rattle.std.specs.Prelude.{is_none}
 use Rattle.std.specs.List.{filter, list_any, prefix_len}
@@ -272,7 +273,8 @@ Neighbours ts t n = (front : List ToldSlice) × (back : List ToldSlice) × (ts �
 -- What is asked of slices of a thread in order, among all.
 pub record Apt (ts xs : List ToldSlice) : Type 0 where
   pub strict : Strict xs
-  -- a slice that begins while the trace runs, and the one before it, are both of the thread, or neither is; nothing stands between them
+  -- a slice that begins while the trace runs, and the one before it, are both of the thread, or
+  -- neither is; nothing stands between them
   pub both : (t n : ToldSlice) (y : ℕ) → Neighbours ts t n → n.inside ≡ Some y → Among t xs → Among n xs
   pub back : (n : ToldSlice) (y : ℕ) → Among n xs → n.inside ≡ Some y → (t : ToldSlice) × Neighbours ts t n × Among t xs
   pub lex : (t n : ToldSlice) (y : ℕ) → Neighbours ts t n → n.inside ≡ Some y → Among t xs → Among n xs → Lex t n

@@ -5,7 +5,7 @@ use Rattle.std.proofs.lemmas.List.{map_push, take_all}
 use Rattle.rept_slices.specs.Joins.{ThreadNote}
 use Rattle.rept_threads.specs.Notes.{known_by}
 use Rattle.rept_slices.specs.Raw.{note_in}
-use Rattle.rept_threads.specs.declared.notes.Note.{Note as KeptNote}
+use Rattle.rept_threads.specs.declared.notes.KeptNote.{KeptNote}
 
 take_next : (descs : List (List ℕ)) (t : ℕ) (desc : List ℕ) → slice_get descs t ≡ Some desc → take (suc t) descs ≡ take t descs ++ desc ∷ []
 take_next [] t desc h = absurd (cc)

@@ -8,7 +8,8 @@ use Rattle.std.proofs.lemmas.List.{get_or-drop, take-append-drop}
 use Rattle.std.proofs.lemmas.List.Elements.{filter-append}
 
 module _ {A : Type 0} (n : A → ℕ) (t : ℕ) where
-  -- those before a place are below the number, and those from it on aren't; those before another one are at most it, and those from there on are above it
+  -- those before a place are below the number, and those from it on aren't; those before another
+  -- one are at most it, and those from there on are above it
   pub record Bounds (xs : List A) (from to : ℕ) : Type 0 where
     pub below : (k : ℕ) (d : A) → k < from → n (get_or xs k d) < t
     pub not_below : (k : ℕ) (d : A) → from ≤ k → k < length xs → t ≤ n (get_or xs k d)

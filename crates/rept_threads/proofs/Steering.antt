@@ -1,4 +1,5 @@
--- The rows of each slice of a stretch lead from its start packet's address to that of the next slice, or to where the stretch ends.
+-- The rows of each slice of a stretch lead from its start packet's address to that of the next
+-- slice, or to where the stretch ends.
 use Rattle.std.proofs.Common.{◌≡◌, inl, inr, ℕ, suc, ◌+◌, ◌-◌, ◌≤◌, List, [], ◌∷◌, ◌++◌, length, map, reverse, take, drop, Bool, true, false, cond, not, Option, Some, None, refl, sym, ◌∙◌, ap, subst, arith}
 use Rattle.std.specs.List.{filter, prefix_len}
 use Rattle.std.proofs.lemmas.List.{append-nil, drop-drop}

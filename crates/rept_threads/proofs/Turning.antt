@@ -1,4 +1,5 @@
--- The slices of a thread in the order of time, where no stream's times go back: the first one that is met is met by the one right before it.
+-- The slices of a thread in the order of time, where no stream's times go back: the first one that
+-- is met is met by the one right before it.
 use Rattle.std.proofs.Common.{◌≡◌, ◌≢◌, ◌⊎◌, inl, inr, ℕ, suc, ◌<◌, ◌≤◌, ◌==◌, nat_le, List, [], ◌∷◌, ◌++◌, map, take, drop, Bool, true, false, cond, not, ◌&&◌, ◌||◌, Option, Some, None, refl, sym, ◌∙◌, ap, subst, arith}
 use Rattle.std.specs.Prelude.{nat_lt, unwrap_or}
 use Rattle.std.specs.List.{filter, list_any}

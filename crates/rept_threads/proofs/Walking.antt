@@ -29,8 +29,8 @@ use Rattle.rept_slices.specs.Joins.{ran_rows}
 use Rattle.rept_slices.specs.Entries.{IsEntryOf, AreEntriesOf}
 use Rattle.rept_threads.specs.Kept.{AreRan, kept_by, AreKept}
 use Rattle.rept_slices.specs.Ends.{first_or}
-use Rattle.rept_slices.specs.declared.telling.Entry.{Entry}
-use Rattle.rept_threads.specs.declared.walks.Kept.{Kept}
+use Rattle.rept_slices.specs.declared.telling.StreamSlice.{StreamSlice}
+use Rattle.rept_threads.specs.declared.walks.FinishedWalk.{FinishedWalk}
 use Rattle.rept_threads.specs.declared.walks.Walked.{Walked as WalkedSlice}
 use Rattle.rept_threads.specs.declared.walks.Walks.{Walks}
 use Rattle.rept_slices.proofs.InTime.{Each}
@@ -78,14 +78,14 @@ get_new : {A : Type 0} (xs : List A) (x : A) → slice_get (xs ++ x ∷ []) (len
 get_new [] x = refl
 get_new (y ∷ xs) x = get_new xs x
 
-ran_more : (all new : List Kept) (ws : List WalkedSlice) (rs : List RanSlice) → AreRan all ws rs → AreRan (all ++ new) ws rs
+ran_more : (all new : List FinishedWalk) (ws : List WalkedSlice) (rs : List RanSlice) → AreRan all ws rs → AreRan (all ++ new) ws rs
 ran_more all new [] rs a = a
 ran_more all new (w ∷ ws) [] a = absurd a
 ran_more all new (w ∷ ws) (r ∷ rs) a =
     let i = a.0 in
     (record { told = i.told; stretch = i.stretch; there = get_more all new w.stretch i.stretch i.there; rows = i.rows; whole = i.whole; fits = i.fits; last = i.last; bits = i.bits; empty = i.empty; counts = i.counts }, ran_more all new ws rs a.1)
 
-ran_append : (all : List Kept) (vs ws : List WalkedSlice) (qs rs : List RanSlice) → AreRan all vs qs → AreRan all ws rs → AreRan all (vs ++ ws) (qs ++ rs)
+ran_append : (all : List FinishedWalk) (vs ws : List WalkedSlice) (qs rs : List RanSlice) → AreRan all vs qs → AreRan all ws rs → AreRan all (vs ++ ws) (qs ++ rs)
 ran_append all [] ws qs rs a b = subst (λ (xs : List RanSlice). AreRan all ws (xs ++ rs)) (sym a) b
 ran_append all (v ∷ vs) ws [] rs a b = absurd a
 ran_append all (v ∷ vs) ws (q ∷ qs) rs a b = (a.0, ran_append all vs ws qs rs a.1 b)
@@ -126,10 +126,10 @@ pub not_head : (code : Code) (ts before : List ToldSlice) (t : ToldSlice) (ws : 
 not_head code ts before t ws walks thread some a k = (ws, subst (λ (hs : List ToldSlice). AreWalks code 0 hs ws) (sym (heads_other before t thread some)) a, k)
 
 -- where a walk begins at a slice, as its entry has it
-abbrev pub origin_by : ℕ → Entry → Origin
+abbrev pub origin_by : ℕ → StreamSlice → Origin
 origin_by room e = record { number = e.number; room = room }
 
-pub stopped : (code : Code) (from : ℕ) (lists : List (List Packet)) (before later : List ToldSlice) (t : ToldSlice) (ws : List StretchLegs) (walks : Walks) (e : Entry) (room : ℕ) (fault : PathFault)
+pub stopped : (code : Code) (from : ℕ) (lists : List (List Packet)) (before later : List ToldSlice) (t : ToldSlice) (ws : List StretchLegs) (walks : Walks) (e : StreamSlice) (room : ℕ) (fault : PathFault)
     → slices_told (kept from lists) ≡ before ++ t ∷ later → IsEntryOf e t → t.inside ≡ None → room ≡ 65536 - walks.rows → AreWalks code 0 (heads before) ws → AreKept code (slices_told (kept from lists)) ws walks
     → StopsAt code (origin_by room e) (e.start ∷ same_stretch false t.later) fault → WalksFault code 0 (heads (slices_told (kept from lists))) fault
 stopped code from lists before later t ws walks e room fault whole is none room_is a k s =
@@ -149,7 +149,7 @@ module _ (code : Code) (from : ℕ) (lists : List (List Packet)) (before later :
   parts : Each Started (before ++ t ∷ later) × Following (before ++ t ∷ later)
   parts = (subst (Each Started) whole (starts_told (kept from lists)), subst Following whole (kept_follow from lists))
 
-  module _ (walk : Walk) (legs : List (List StepRow)) (s : Stands code (earlier_by (origin_after old.rows t) (reverse (stretch t)) legs) walk) (keeps : Kept) (rows : keeps.rows ≡ walk.steps) (walk_is : keeps.walk ≡ record walk { steps = [] }) where
+  module _ (walk : Walk) (legs : List (List StepRow)) (s : Stands code (earlier_by (origin_after old.rows t) (reverse (stretch t)) legs) walk) (keeps : FinishedWalk) (rows : keeps.rows ≡ walk.steps) (walk_is : keeps.walk ≡ record walk { steps = [] }) where
     abbrev w : StretchLegs
     w = record { head = t; legs = legs }
 
@@ -183,7 +183,7 @@ module _ (code : Code) (from : ℕ) (lists : List (List Packet)) (before later :
         let spare = (s.counts).spare in
         subst Counts (sym walk_is) (record { enough = enough; few = omega arith; spare = spare; linked = tt })
 
-    added : (new : Walks) (e : Entry) (es : List Entry) (counts : List ℕ) → AreEntriesOf (e ∷ es) (t ∷ later) → counts ≡ marks code (reverse (stretch t)) legs
+    added : (new : Walks) (e : StreamSlice) (es : List StreamSlice) (counts : List ℕ) → AreEntriesOf (e ∷ es) (t ∷ later) → counts ≡ marks code (reverse (stretch t)) legs
         → new.slices.items ≡ old.slices.items ++ kept_by (length old.stretches.items) (length walk.steps) counts (e ∷ es) → new.stretches.items ≡ old.stretches.items ++ keeps ∷ [] → new.rows ≡ old.rows + length walk.steps
         → (vs : List StretchLegs) × AreWalks code 0 (heads (before ++ t ∷ [])) vs × AreKept code ts vs new
     added new e es counts told_is counts_are slices stretches rows_are =
@@ -233,7 +233,7 @@ module _ (code : Code) (from : ℕ) (lists : List (List Packet)) (before later :
           ws ++ w ∷ [],
           subst (λ (hs : List ToldSlice). AreWalks code 0 hs (ws ++ w ∷ [])) (sym (heads_head before t [] none)) (walks_more code 0 (heads before) ws t w a refl (subst (λ (m : ℕ). Goes code m w) (sym counted) s.route)),
           record {
-            slices = subst (λ (xs : List Kept). AreRan xs new.slices.items (ran code ts (ws ++ w ∷ []))) (sym stretches) (subst (λ (xs : List WalkedSlice). AreRan all xs (ran code ts (ws ++ w ∷ []))) (sym slices) (subst (λ (rs : List RanSlice). AreRan all (old.slices.items ++ kept_by number total counts (e ∷ es)) rs) (sym both) joined));
+            slices = subst (λ (xs : List FinishedWalk). AreRan xs new.slices.items (ran code ts (ws ++ w ∷ []))) (sym stretches) (subst (λ (xs : List WalkedSlice). AreRan all xs (ran code ts (ws ++ w ∷ []))) (sym slices) (subst (λ (rs : List RanSlice). AreRan all (old.slices.items ++ kept_by number total counts (e ∷ es)) rs) (sym both) joined));
             rows = omega (arith, rows_are, sums, sums_parts, old_rows, sum, sum_is, begins, at_zero);
             count = omega (arith, rows_are, old_count, pushed, n);
             few = omega (arith, rows_are, few, room, old_few);
@@ -241,7 +241,7 @@ module _ (code : Code) (from : ℕ) (lists : List (List Packet)) (before later :
         )
 
 -- by the entry of its first slice
-pub walked_on : (code : Code) (from : ℕ) (lists : List (List Packet)) (before later : List ToldSlice) (t : ToldSlice) (ws : List StretchLegs) (old new : Walks) (e : Entry) (es : List Entry) (room : ℕ) (walk : Walk) (legs : List (List StepRow)) (counts : List ℕ) (keeps : Kept)
+pub walked_on : (code : Code) (from : ℕ) (lists : List (List Packet)) (before later : List ToldSlice) (t : ToldSlice) (ws : List StretchLegs) (old new : Walks) (e : StreamSlice) (es : List StreamSlice) (room : ℕ) (walk : Walk) (legs : List (List StepRow)) (counts : List ℕ) (keeps : FinishedWalk)
     → slices_told (kept from lists) ≡ before ++ t ∷ later → t.inside ≡ None → AreWalks code 0 (heads before) ws → AreKept code (slices_told (kept from lists)) ws old → AreEntriesOf (e ∷ es) (t ∷ later) → room ≡ 65536 - old.rows
     → Stands code (earlier_by (origin_by room e) (reverse (e.start ∷ same_stretch false t.later)) legs) walk → counts ≡ marks code (reverse (e.start ∷ same_stretch false t.later)) legs → keeps.rows ≡ walk.steps → keeps.walk ≡ record walk { steps = [] }
     → new.slices.items ≡ old.slices.items ++ kept_by (length old.stretches.items) (length walk.steps) counts (e ∷ es) → new.stretches.items ≡ old.stretches.items ++ keeps ∷ [] → new.rows ≡ old.rows + length walk.steps
@@ -254,7 +254,7 @@ walked_on code from lists before later t ws old new e es room walk legs counts k
     added code from lists before later t whole none ws old a k walk legs three keeps rows walk_is new e es counts told_is marked slices stretches rows_are
 
 -- What was walked, and the slices that are left.
-pub record SoFar (code : Code) (ts : List ToldSlice) (es : List Entry) (walks : Walks) : Type 0 where
+pub record SoFar (code : Code) (ts : List ToldSlice) (es : List StreamSlice) (walks : Walks) : Type 0 where
   pub before : List ToldSlice
   pub later : List ToldSlice
   pub same : ts ≡ before ++ later
@@ -263,7 +263,7 @@ pub record SoFar (code : Code) (ts : List ToldSlice) (es : List Entry) (walks : 
   pub walked : AreWalks code 0 (heads before) ws
   pub keeps : AreKept code ts ws walks
 
-pub none_walked : (code : Code) (ts : List ToldSlice) (es : List Entry) (walks : Walks) → AreEntriesOf es ts → walks.stretches.items ≡ [] → walks.slices.items ≡ [] → walks.rows ≡ 0 → SoFar code ts es walks
+pub none_walked : (code : Code) (ts : List ToldSlice) (es : List StreamSlice) (walks : Walks) → AreEntriesOf es ts → walks.stretches.items ≡ [] → walks.slices.items ≡ [] → walks.rows ≡ 0 → SoFar code ts es walks
 none_walked code ts es walks a stretches slices rows = record {
   before = [];
   later = ts;
@@ -280,7 +280,7 @@ none_walked code ts es walks a stretches slices rows = record {
 }
 
 -- the first of the slices that are left
-pub record First (code : Code) (ts : List ToldSlice) (es rest : List Entry) (walks : Walks) : Type 0 where
+pub record First (code : Code) (ts : List ToldSlice) (es rest : List StreamSlice) (walks : Walks) : Type 0 where
   pub before : List ToldSlice
   pub t : ToldSlice
   pub later : List ToldSlice
@@ -291,26 +291,26 @@ pub record First (code : Code) (ts : List ToldSlice) (es rest : List Entry) (wal
   pub walked : AreWalks code 0 (heads before) ws
   pub keeps : AreKept code ts ws walks
 
-pub first_left : (code : Code) (ts : List ToldSlice) (es : List Entry) (i : ℕ) (walks : Walks) → i < length es → SoFar code ts (drop i es) walks → First code ts (drop i es) (drop (i + 1) es) walks
+pub first_left : (code : Code) (ts : List ToldSlice) (es : List StreamSlice) (i : ℕ) (walks : Walks) → i < length es → SoFar code ts (drop i es) walks → First code ts (drop i es) (drop (i + 1) es) walks
 first_left code ts es i walks within s = go (drop i es) refl where
-  go : (rest : List Entry) → drop i es ≡ rest → First code ts (drop i es) (drop (i + 1) es) walks
-  go [] e = absurd (let n = ap (length {A = Entry}) e in let d = length-drop i es in omega (arith, n, d, within))
+  go : (rest : List StreamSlice) → drop i es ≡ rest → First code ts (drop i es) (drop (i + 1) es) walks
+  go [] e = absurd (let n = ap (length {A = StreamSlice}) e in let d = length-drop i es in omega (arith, n, d, within))
   go (e ∷ rest) h =
       let after : drop (i + 1) es ≡ rest = drop_next i es e rest h in
-      let p = split_told e rest s.later (subst (λ (xs : List Entry). AreEntriesOf xs s.later) h s.are) in
+      let p = split_told e rest s.later (subst (λ (xs : List StreamSlice). AreEntriesOf xs s.later) h s.are) in
       record {
         before = s.before;
         t = p.0;
         later = p.1;
         same = s.same ∙ ap (λ (ts : List ToldSlice). s.before ++ ts) p.2;
-        are = subst (λ (xs : List Entry). AreEntriesOf xs (p.0 ∷ p.1)) (sym h) (p.3, p.4);
-        others = subst (λ (xs : List Entry). AreEntriesOf xs p.1) (sym after) p.4;
+        are = subst (λ (xs : List StreamSlice). AreEntriesOf xs (p.0 ∷ p.1)) (sym h) (p.3, p.4);
+        others = subst (λ (xs : List StreamSlice). AreEntriesOf xs p.1) (sym after) p.4;
         ws = s.ws;
         walked = s.walked;
         keeps = s.keeps;
       }
 
-pub one_walked : (code : Code) (all : List ToldSlice) (es rest : List Entry) (old new : Walks) (f : First code all es rest old) → (vs : List StretchLegs) × AreWalks code 0 (heads (f.before ++ f.t ∷ [])) vs × AreKept code all vs new → SoFar code all rest new
+pub one_walked : (code : Code) (all : List ToldSlice) (es rest : List StreamSlice) (old new : Walks) (f : First code all es rest old) → (vs : List StretchLegs) × AreWalks code 0 (heads (f.before ++ f.t ∷ [])) vs × AreKept code all vs new → SoFar code all rest new
 one_walked code all es rest old new f h = record {
   before = f.before ++ f.t ∷ [];
   later = f.later;
@@ -321,14 +321,14 @@ one_walked code all es rest old new f h = record {
   keeps = h.2;
 }
 
-pub all_walked : (code : Code) (ts : List ToldSlice) (es : List Entry) (i : ℕ) (walks : Walks) → length es ≤ i → SoFar code ts (drop i es) walks → (ws : List StretchLegs) × AreWalks code 0 (heads ts) ws × AreKept code ts ws walks
+pub all_walked : (code : Code) (ts : List ToldSlice) (es : List StreamSlice) (i : ℕ) (walks : Walks) → length es ≤ i → SoFar code ts (drop i es) walks → (ws : List StretchLegs) × AreWalks code 0 (heads ts) ws × AreKept code ts ws walks
 all_walked code ts es i walks past s =
-    let none : s.later ≡ [] = subst (λ (xs : List Entry). AreEntriesOf xs s.later) (at_drop_all (λ (xs : List Entry). xs) es i past) s.are in
+    let none : s.later ≡ [] = subst (λ (xs : List StreamSlice). AreEntriesOf xs s.later) (at_drop_all (λ (xs : List StreamSlice). xs) es i past) s.are in
     let e : ts ≡ s.before = s.same ∙ ap (λ (xs : List ToldSlice). s.before ++ xs) none ∙ append-nil s.before in
     (s.ws, subst (λ (xs : List ToldSlice). AreWalks code 0 (heads xs) s.ws) (sym e) s.walked, s.keeps)
 
 -- what the walk of the first slice asks
-pub may_walk : (code : Code) (from : ℕ) (lists : List (List Packet)) (es rest : List Entry) (walks : Walks) → sum_by (λ packets. length packets) lists < 2 ^ 32 → (f : First code (slices_told (kept from lists)) es rest walks) → (is_start (f.t).start ≡ true) × ((f.t).number + 1 + length (f.t).later < 2 ^ 32)
+pub may_walk : (code : Code) (from : ℕ) (lists : List (List Packet)) (es rest : List StreamSlice) (walks : Walks) → sum_by (λ packets. length packets) lists < 2 ^ 32 → (f : First code (slices_told (kept from lists)) es rest walks) → (is_start (f.t).start ≡ true) × ((f.t).number + 1 + length (f.t).later < 2 ^ 32)
 may_walk code from lists es rest walks few f =
     let starts = each_middle Started f.before f.t f.later (subst (Each Started) f.same (starts_told (kept from lists))) in
     let n = 0 + sum_by (λ packets. length packets) lists in
@@ -336,9 +336,9 @@ may_walk code from lists es rest walks few f =
     (starts, omega (arith, le, few))
 
 -- the slices of a stretch that are left to add
-pub none_left : (walked : List WalkedSlice) (number total : ℕ) (marks : List ℕ) (es : List Entry) (now : List WalkedSlice) (i : ℕ) → walked ++ kept_by number total marks es ≡ now ++ kept_by number total (drop i marks) (drop i es) → length es ≤ i → now ≡ walked ++ kept_by number total marks es
+pub none_left : (walked : List WalkedSlice) (number total : ℕ) (marks : List ℕ) (es : List StreamSlice) (now : List WalkedSlice) (i : ℕ) → walked ++ kept_by number total marks es ≡ now ++ kept_by number total (drop i marks) (drop i es) → length es ≤ i → now ≡ walked ++ kept_by number total marks es
 none_left walked number total marks es now i h past =
-    sym (h ∙ ap (λ (xs : List Entry). now ++ kept_by number total (drop i marks) xs) (at_drop_all (λ (xs : List Entry). xs) es i past) ∙ ap (λ (xs : List WalkedSlice). now ++ xs) (empty (drop i marks)) ∙ append-nil now)
+    sym (h ∙ ap (λ (xs : List StreamSlice). now ++ kept_by number total (drop i marks) xs) (at_drop_all (λ (xs : List StreamSlice). xs) es i past) ∙ ap (λ (xs : List WalkedSlice). now ++ xs) (empty (drop i marks)) ∙ append-nil now)
   where
     empty : (ms : List ℕ) → kept_by number total ms [] ≡ []
     empty [] = refl
@@ -374,26 +374,26 @@ all_gathered code from lists ws a =
     sym (ap (λ (us : List ToldSlice). us ++ map (λ (r : RanSlice). r.told) (ran code whole ws)) (none_inner whole (kept_heads from lists))) ∙ gather code whole [] whole 0 ws refl (starts_told (kept from lists)) (kept_follow from lists) a
 
 -- the first one of slices, which is told first
-pub first_entry : (es : List Entry) (e : Entry) (t : ToldSlice) (later : List ToldSlice) → AreEntriesOf es (t ∷ later) → Some e ≡ slice_get es 0 → (rest : List Entry) × AreEntriesOf (e ∷ rest) (t ∷ later) × (es ≡ e ∷ rest)
+pub first_entry : (es : List StreamSlice) (e : StreamSlice) (t : ToldSlice) (later : List ToldSlice) → AreEntriesOf es (t ∷ later) → Some e ≡ slice_get es 0 → (rest : List StreamSlice) × AreEntriesOf (e ∷ rest) (t ∷ later) × (es ≡ e ∷ rest)
 first_entry [] e t later a h = absurd (cc)
-first_entry (x ∷ es) e t later a h = let is : e ≡ x = cc in (es, subst (λ (y : Entry). AreEntriesOf (y ∷ es) (t ∷ later)) (sym is) a, ap (λ (y : Entry). y ∷ es) (sym is))
+first_entry (x ∷ es) e t later a h = let is : e ≡ x = cc in (es, subst (λ (y : StreamSlice). AreEntriesOf (y ∷ es) (t ∷ later)) (sym is) a, ap (λ (y : StreamSlice). y ∷ es) (sym is))
 
-pub none_inside : (e : Entry) (t : ToldSlice) → IsEntryOf e t → is_some e.inside ≡ false → t.inside ≡ None
+pub none_inside : (e : StreamSlice) (t : ToldSlice) → IsEntryOf e t → is_some e.inside ≡ false → t.inside ≡ None
 none_inside e t is h = go t.inside (ap is_some (sym is.inside) ∙ h) where
   go : (o : Option ℕ) → is_some o ≡ false → o ≡ None
   go None h = refl
   go (Some x) h = absurd (cc)
 
-pub some_inside : (e : Entry) (t : ToldSlice) → IsEntryOf e t → is_some e.inside ≡ true → (thread : ℕ) × (t.inside ≡ Some thread)
+pub some_inside : (e : StreamSlice) (t : ToldSlice) → IsEntryOf e t → is_some e.inside ≡ true → (thread : ℕ) × (t.inside ≡ Some thread)
 some_inside e t is h = go t.inside (ap is_some (sym is.inside) ∙ h) where
   go : (o : Option ℕ) → is_some o ≡ true → (thread : ℕ) × (o ≡ Some thread)
   go None h = absurd (cc)
   go (Some x) h = (x, refl)
 
-abbrev pub begins_at : Entry → Begin
+abbrev pub begins_at : StreamSlice → Begin
 begins_at e = record { number = e.number; first = e.start; later = e.later }
 
-pub stopped_or : (code : Code) (from : ℕ) (lists : List (List Packet)) (before later : List ToldSlice) (t : ToldSlice) (ws : List StretchLegs) (walks : Walks) (e : Entry) (room : ℕ) (b : Begin) (fault : PathFault)
+pub stopped_or : (code : Code) (from : ℕ) (lists : List (List Packet)) (before later : List ToldSlice) (t : ToldSlice) (ws : List StretchLegs) (walks : Walks) (e : StreamSlice) (room : ℕ) (b : Begin) (fault : PathFault)
     → slices_told (kept from lists) ≡ before ++ t ∷ later → IsEntryOf e t → is_some e.inside ≡ false → room ≡ 65536 - walks.rows → AreWalks code 0 (heads before) ws → AreKept code (slices_told (kept from lists)) ws walks → b ≡ begins_at e
     → (fault ≡ OutOfMemory) ⊎ StopsAt code (record { number = b.number; room = room }) (b.first ∷ same_stretch false t.later) fault → (fault ≡ OutOfMemory) ⊎ WalksFault code 0 (heads (slices_told (kept from lists))) fault
 stopped_or code from lists before later t ws walks e room b fault whole is some room_is a k b_is h = elim h [
@@ -401,10 +401,10 @@ stopped_or code from lists before later t ws walks e room b fault whole is some 
   | inr s ↦ inr (stopped code from lists before later t ws walks e room fault whole is (none_inside e t is some) room_is a k (subst (λ (x : Begin). StopsAt code (record { number = x.number; room = room }) (x.first ∷ same_stretch false t.later) fault) b_is s))
 ]
 
-pub held_at : (e : Entry) (t : ToldSlice) (b : Begin) → IsEntryOf e t → b ≡ begins_at e → Hold (rest_of b.later) t.later
+pub held_at : (e : StreamSlice) (t : ToldSlice) (b : Begin) → IsEntryOf e t → b ≡ begins_at e → Hold (rest_of b.later) t.later
 held_at e t b is b_is = subst (λ (x : Begin). Hold (rest_of x.later) t.later) (sym b_is) is.later
 
-pub stretch_on_from : (code : Code) (from : ℕ) (lists : List (List Packet)) (before later : List ToldSlice) (t : ToldSlice) (ws : List StretchLegs) (old new : Walks) (e : Entry) (es rest : List Entry) (room : ℕ) (b : Begin) (walk : Walk) (counts : List ℕ) (keeps : Kept)
+pub stretch_on_from : (code : Code) (from : ℕ) (lists : List (List Packet)) (before later : List ToldSlice) (t : ToldSlice) (ws : List StretchLegs) (old new : Walks) (e : StreamSlice) (es rest : List StreamSlice) (room : ℕ) (b : Begin) (walk : Walk) (counts : List ℕ) (keeps : FinishedWalk)
     → slices_told (kept from lists) ≡ before ++ t ∷ later → AreWalks code 0 (heads before) ws → AreKept code (slices_told (kept from lists)) ws old → AreEntriesOf (e ∷ rest) (t ∷ later) → es ≡ e ∷ rest → is_some e.inside ≡ false → room ≡ 65536 - old.rows → b ≡ begins_at e
     → ((legs : List (List StepRow)) × Stands code (earlier_by (record { number = b.number; room = room }) (reverse (b.first ∷ same_stretch false t.later)) legs) walk × (counts ≡ marks code (reverse (b.first ∷ same_stretch false t.later)) legs))
     → keeps.rows ≡ walk.steps → keeps.walk ≡ record walk { steps = [] } → (number : ℕ) → number ≡ length old.stretches.items → new.slices.items ≡ old.slices.items ++ kept_by number (length walk.steps) counts es → new.stretches.items ≡ old.stretches.items ++ keeps ∷ []
@@ -413,5 +413,5 @@ pub stretch_on_from : (code : Code) (from : ℕ) (lists : List (List Packet)) (b
 stretch_on_from code from lists before later t ws old new e es rest room b walk counts keeps whole a k told_is es_is some room_is b_is h rows walk_is number number_is slices stretches n n_is rows_are =
     let s = subst (λ (x : Begin). Stands code (earlier_by (record { number = x.number; room = room }) (reverse (x.first ∷ same_stretch false t.later)) h.0) walk) b_is h.1 in
     let m = h.2 ∙ ap (λ (x : Begin). marks code (reverse (x.first ∷ same_stretch false t.later)) h.0) b_is in
-    let slices_are = slices ∙ ap (λ (k : ℕ). old.slices.items ++ kept_by k (length walk.steps) counts es) number_is ∙ ap (λ (xs : List Entry). old.slices.items ++ kept_by (length old.stretches.items) (length walk.steps) counts xs) es_is in
+    let slices_are = slices ∙ ap (λ (k : ℕ). old.slices.items ++ kept_by k (length walk.steps) counts es) number_is ∙ ap (λ (xs : List StreamSlice). old.slices.items ++ kept_by (length old.stretches.items) (length walk.steps) counts xs) es_is in
     walked_on code from lists before later t ws old new e rest room walk h.0 counts keeps whole (none_inside e t told_is.0 some) a k told_is room_is s m rows walk_is slices_are stretches (rows_are ∙ ap (λ (k : ℕ). old.rows + k) n_is)

@@ -25,7 +25,7 @@ use Rattle.rept_slices.proofs.Only.{one_run, one_refusal, run_or_refusal}
 use Rattle.rept_slices.proofs.OneSurvey.{same_lists, held_or_refused, same_refused}
 use Rattle.rept_path.specs.Moves.{◌>>=◌}
 use Rattle.rept_slices.specs.Parts.{ToldSlice, slices_told}
-use Rattle.rept_slices.specs.Skipping.{windows, greatest, ends_of, kept, skipped, dark}
+use Rattle.rept_slices.specs.Skipping.{windows, greatest, ends_of, kept, skipped, untraced}
 use Rattle.rept_slices.specs.Checks.{first_fault, check}
 use Rattle.rept_slices.specs.Stretches.{heads, StretchLegs, Walks, WalksFault, ran}
 use Rattle.rept_slices.specs.Joins.{ThreadNote, ran_rows, threads}
@@ -33,8 +33,8 @@ use Rattle.rept_slices.specs.Many.{Traces, processes, ground, overlap_fault, unm
 use Rattle.rept_slices.specs.Raw.{streams_of, HoldEach, RawFiles, code_in, traces, IsRunOfFiles, HasNoRun, IsRefusedBefore, PassBefore, note_in, files_of}
 use Rattle.rept_threads.specs.Notes.{known_by}
 use Rattle.rept_slices.specs.Surveyed.{IsSurvey}
-use Rattle.rept_slices.specs.declared.survey.Survey.{Survey}
-use Rattle.rept_threads.specs.declared.notes.Note.{Note as KeptNote}
+use Rattle.rept_slices.specs.declared.survey.StreamSurvey.{StreamSurvey}
+use Rattle.rept_threads.specs.declared.notes.KeptNote.{KeptNote}
 
 -- what is told before a row is walked, and the notes
 pub record Parts (file : StreamFile) (descs : List (List ℕ)) (from : ℕ) (processes_are : List ℕ) (notes : List KeptNote) (lists : List (List Packet)) : Type 0 where
@@ -61,8 +61,8 @@ some_stream file from threads lists p = go file.streams refl where
       )
   go (s ∷ streams) e = let n = ap (length {A = List ℕ}) e in omega (arith, n)
 
-pub dark_is : (from : ℕ) (lists : List (List Packet)) (s : Survey) (d : Option ℕ) → IsSurvey from lists s → d ≡ cond s.several (Some (greatest (s.time ∷ ends_of s.time (slices_told (windows from lists))))) None → d ≡ dark from lists
-dark_is from lists s d is h = h ∙ (λ i. cond (is.several i) (Some (greatest (is.time i ∷ ends_of (is.time i) (slices_told (windows from lists))))) None)
+pub untraced_is : (from : ℕ) (lists : List (List Packet)) (s : StreamSurvey) (d : Option ℕ) → IsSurvey from lists s → d ≡ cond s.several (Some (greatest (s.time ∷ ends_of s.time (slices_told (windows from lists))))) None → d ≡ untraced from lists
+untraced_is from lists s d is h = h ∙ (λ i. cond (is.several i) (Some (greatest (is.time i ∷ ends_of (is.time i) (slices_told (windows from lists))))) None)
 
 module _ (dump : Dump) (file : StreamFile) (descs : List (List ℕ)) (from : ℕ) (processes_are : List ℕ) (notes : List KeptNote) (lists : List (List Packet)) (p : Parts file descs from processes_are notes lists) where
   abbrev files : RawFiles
@@ -112,11 +112,11 @@ module _ (dump : Dump) (file : StreamFile) (descs : List (List ℕ)) (from : ℕ
         inr (lists, p.passed.0, inr (passes, inr (ws, walks_too, apart ∙ ap (λ (r : Result (List ThreadRows) PathFault). r >>= onward) (same_threads packets count (Err e) packets_are counted h))))
 
     pub has_run : (packets count : ℕ) (rows : List ThreadRows) (d : Option ℕ) (n : ℕ) → None ≡ first_fault (overlap_fault ts) processes_are → packets ≡ sum_by (λ ps. length ps) lists → count ≡ ran_rows (ran code ts ws)
-        → threads (record { code = code; packets = packets }) count (map known_by notes) (ran code ts ws) ≡ Ok rows → d ≡ dark from lists → n ≡ skipped from lists → IsRunOfFiles files (record { threads = rows; dark = d; skipped = n })
-    has_run packets count rows d n unmet_is packets_are counted h dark_of skips =
+        → threads (record { code = code; packets = packets }) count (map known_by notes) (ran code ts ws) ≡ Ok rows → d ≡ untraced from lists → n ≡ skipped from lists → IsRunOfFiles files (record { threads = rows; untraced = d; skipped = n })
+    has_run packets count rows d n unmet_is packets_are counted h untraced_of skips =
         let apart = ap (λ (o : Option PathFault). unmet o >>= (λ none. by_threads >>= onward)) (found_is None unmet_is) in
         let result : joined all ws ≡ Ok (run_by all rows) = apart ∙ ap (λ (r : Result (List ThreadRows) PathFault). r >>= onward) (same_threads packets count (Ok rows) packets_are counted h) in
-        let run_is : record { threads = rows; dark = d; skipped = n } ≡ run_by all rows = λ i. record { threads = rows; dark = dark_of i; skipped = skips i } in
+        let run_is : record { threads = rows; untraced = d; skipped = n } ≡ run_by all rows = λ i. record { threads = rows; untraced = untraced_of i; skipped = skips i } in
         (lists, p.passed.0, subst (λ (r : Run). IsRunOfStreams all r) (sym run_is) (record { passed = passes; walked = ws; walks = walks_too; result = result }))
 
 -- A survey is refused as the whole is.
@@ -149,7 +149,7 @@ all_clocks halves (s ∷ streams) [] h = absurd h
 all_clocks halves (s ∷ streams) (p ∷ lists) h = All-cons (All (λ (q : Packet). clock_of q < 2 ^ 64)) p lists (clocks_fit halves (record { widths = timed halves; bytes = s }) p refl h.0) (all_clocks halves streams lists h.1)
 
 -- The run of a file is sound.
-pub file_sound : (f : RawFiles) (run : Run) → IsRunOfFiles f run → IsSoundCourse (record { threads = run.threads; dark = run.dark })
+pub file_sound : (f : RawFiles) (run : Run) → IsRunOfFiles f run → IsSoundCourse (record { threads = run.threads; untraced = run.untraced })
 file_sound f run x = is_sound (traces f x.0) run (all_clocks f.file.halves f.file.streams x.0 x.1) x.2
 
 -- There is one answer.

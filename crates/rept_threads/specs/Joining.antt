@@ -9,14 +9,15 @@ use Rattle.rept_slices.specs.Parts.{begin_of, end_before}
 use Rattle.rept_steps.specs.declared.slice.Slice.{Slice}
 use Rattle.rept_threads.specs.Kept.{AreRan}
 use Rattle.rept_slices.specs.Stretches.{RanSlice}
-use Rattle.rept_slices.specs.declared.telling.Entry.{Entry}
-use Rattle.rept_threads.specs.declared.walks.Kept.{Kept}
+use Rattle.rept_slices.specs.declared.telling.StreamSlice.{StreamSlice}
+use Rattle.rept_threads.specs.declared.walks.FinishedWalk.{FinishedWalk}
 use Rattle.rept_threads.specs.declared.walks.Walked.{Walked}
 use Rattle.rept_threads.specs.declared.joins.Joins.{Joins}
 use Rattle.rept_threads.specs.declared.joins.Lead.{Lead}
 
--- where a slice leads that stands at an address, where there are so many packets: to the next slice, or to the end, this address
-abbrev pub onward : ℕ → ℕ → ℕ → Option Entry → Option Lead
+-- where a slice leads that stands at an address, where there are so many packets: to the next
+-- slice, or to the end, this address
+abbrev pub onward : ℕ → ℕ → ℕ → Option StreamSlice → Option Lead
 onward packets at pc None = Some (record { packet = packets; to = pc; otherwise = End at pc })
 onward packets at pc (Some e) = if is_none e.inside then Some (record { packet = e.number; to = address_of e.start; otherwise = Gap e.number at (address_of e.start) }) else None
 
@@ -27,7 +28,7 @@ abbrev pub ground_of : Joins → JoinGround
 ground_of j = record { code = code_of j.program; packets = j.packets }
 
 -- Slices that stand in order have, of each thread, those that its slices are in order.
-abbrev pub AreRanInOrder : List Kept → List Walked → List RanSlice → Type 0
+abbrev pub AreRanInOrder : List FinishedWalk → List Walked → List RanSlice → Type 0
 AreRanInOrder kept ws rs = (process : ℕ) → AreRan kept (filter (λ (w : Walked). context_of w.slice.start == process) ws) (of_thread process rs)
 
 -- a slice of a thread, by when the next one begins, of so many rows from this one on

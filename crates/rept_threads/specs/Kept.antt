@@ -7,17 +7,17 @@ use Rattle.rept_slices.specs.Parts.{ToldSlice}
 use Rattle.rept_slices.specs.Stretches.{RanSlice, StretchLegs as WalkedStretch, count_of, ran}
 use Rattle.rept_slices.specs.Joins.{ran_rows}
 use Rattle.rept_slices.specs.Entries.{IsEntryOf}
-use Rattle.rept_slices.specs.declared.telling.Entry.{Entry}
-use Rattle.rept_threads.specs.declared.walks.Kept.{Kept}
+use Rattle.rept_slices.specs.declared.telling.StreamSlice.{StreamSlice}
+use Rattle.rept_threads.specs.declared.walks.FinishedWalk.{FinishedWalk}
 use Rattle.rept_threads.specs.declared.walks.Walked.{Walked}
 use Rattle.rept_threads.specs.declared.walks.Walks.{Walks}
 use Rattle.rept_slices.specs.Ends.{first_or}
 
--- A slice is kept as its entry, the number of its stretch, and which rows of the stretch it has; the stretch as its rows, and the walk
--- as it ended, without them.
-pub record IsRan (kept : List Kept) (w : Walked) (r : RanSlice) : Type 0 where
+-- A slice is kept as its entry, the number of its stretch, and which rows of the stretch it has;
+-- the stretch as its rows, and the walk as it ended, without them.
+pub record IsRan (kept : List FinishedWalk) (w : Walked) (r : RanSlice) : Type 0 where
   pub told : IsEntryOf w.slice r.told
-  pub stretch : Kept
+  pub stretch : FinishedWalk
   pub there : slice_get kept w.stretch ≡ Some stretch
   pub rows : take w.count (drop w.first stretch.rows) ≡ r.rows
   pub whole : w.count ≡ length r.rows
@@ -27,13 +27,14 @@ pub record IsRan (kept : List Kept) (w : Walked) (r : RanSlice) : Type 0 where
   pub empty : stretch.walk.steps ≡ []
   pub counts : Counts stretch.walk
 
-abbrev pub AreRan : List Kept → List Walked → List RanSlice → Type 0
+abbrev pub AreRan : List FinishedWalk → List Walked → List RanSlice → Type 0
 AreRan kept [] rs = rs ≡ []
 AreRan kept (w ∷ ws) [] = ⊥
 AreRan kept (w ∷ ws) (r ∷ rs) = IsRan kept w r × AreRan kept ws rs
 
--- The slices of a stretch of this number, which has so many rows, by how many rows stand after each start packet.
-abbrev pub kept_by : ℕ → ℕ → List ℕ → List Entry → List Walked
+-- The slices of a stretch of this number, which has so many rows, by how many rows stand after each
+-- start packet.
+abbrev pub kept_by : ℕ → ℕ → List ℕ → List StreamSlice → List Walked
 kept_by number rows [] es = []
 kept_by number rows (m ∷ ms) [] = []
 kept_by number rows (m ∷ ms) (e ∷ es) = record { slice = e; stretch = number; first = m; count = first_or rows ms - m } ∷ kept_by number rows ms es

@@ -11,7 +11,8 @@ abbrev pub GoesFromTo : List StepRow → ℕ → ℕ → Type 0
 GoesFromTo [] a b = a ≡ b
 GoesFromTo (r ∷ rows) a b = (r.at ≡ a) × GoesFromTo rows r.next b
 
--- where a slice leads: to the next one of its thread, if that begins while the trace runs, or else to where its stretch ends
+-- where a slice leads: to the next one of its thread, if that begins while the trace runs, or else
+-- to where its stretch ends
 abbrev pub onward_to : RanSlice → Option RanSlice → ℕ
 onward_to r None = r.last.at
 onward_to r (Some q) = if is_none q.told.inside then r.last.at else address_of q.told.start

@@ -3,7 +3,8 @@ use Rattle.std.specs.Prelude.{◌==◌, nat_le, nat_lt, Bool, ◌&&◌, ◌||◌
 use Rattle.rept_slices.specs.Stamps.{clock_of, context_of}
 use Rattle.rept_threads.specs.declared.walks.Walked.{Walked}
 
--- whether a slice may stand right before another one: its thread runs as a lower process, or as the same one and it begins no later
+-- whether a slice may stand right before another one: its thread runs as a lower process, or as the
+-- same one and it begins no later
 abbrev pub in_turn : Walked → Walked → Bool
 in_turn v w =
     nat_lt (context_of v.slice.start) (context_of w.slice.start)

@@ -16,20 +16,20 @@ ghost use Rattle.rept_threads.specs.Joining.{onward, ending_of, ground_of, AreRa
 ghost use Rattle.rept_threads.specs.Notes.{known_by};
 ghost use Rattle.rept_slices.specs.Parts.{ToldSlice, begin_of, end_before};
 ghost use Rattle.rept_slices.specs.Stretches.{RanSlice};
-ghost use Rattle.rept_slices.specs.declared.telling.Entry.{Entry};
+ghost use Rattle.rept_slices.specs.declared.telling.StreamSlice.{StreamSlice};
 ghost use Rattle.rept_threads.specs.declared.walks.Walked.{Walked};
 ghost use Rattle.rept_path.specs.declared.fault.PathFault.TheVariants.{OutOfMemory};
 ghost use Rattle.rept_slices.specs.Stamps.{address_of, clock_of, context_of};
 ghost use Rattle.rept_steps.specs.Linked.{EndBefore};
 
-use crate::notes::Note;
-use crate::walks::{Kept, Walked, of_thread};
+use crate::notes::KeptNote;
+use crate::walks::{FinishedWalk, Walked, of_thread};
 use rept_isa::StepRow;
 use rept_path::PathFault;
 use rept_path::program::Program;
-use rept_slices::dark::end_before;
 use rept_slices::order::begin_of;
-use rept_slices::telling::Entry;
+use rept_slices::telling::StreamSlice;
+use rept_slices::untraced::end_before;
 use rept_steps::{LIMIT, Slice, Slices, Steps, ThreadRows, Threads};
 use rept_trace::Packet;
 use std::alloc::Global;
@@ -41,12 +41,13 @@ pub struct Joins<'a> {
     /// How many packets all streams have.
     pub packets: u32,
     /// All stretches.
-    pub stretches: Vec<Kept>,
+    pub stretches: Vec<FinishedWalk>,
     /// How many rows stand in all threads: those of all stretches, and of the joins that were made.
     pub count: usize,
 }
 
-/// What leads on from a slice: the number of a packet, or the count of all of them at the end; the address to which it leads; and the refusal where no rows lead there.
+/// What leads on from a slice: the number of a packet, or the count of all of them at the end; the
+/// address to which it leads; and the refusal where no rows lead there.
 #[derive(Drop)]
 struct Lead {
     packet: u32,
@@ -101,8 +102,9 @@ fn add_rows(steps: &mut Steps, rows: &[StepRow]) -> Result<(), PathFault>
     Ok(())
 }
 
-/// Where a slice that stands at an address leads: to the next one of its thread, or to the end. None where the next one begins while the trace runs.
-fn onward(packets: u32, at: u32, pc: u32, next: Option<Entry<'_>>) -> Option<Lead>
+/// Where a slice that stands at an address leads: to the next one of its thread, or to the end.
+/// None where the next one begins while the trace runs.
+fn onward(packets: u32, at: u32, pc: u32, next: Option<StreamSlice<'_>>) -> Option<Lead>
     ensures { result ≡ onward packets at pc next.entry }
 {
     match next {
@@ -127,7 +129,7 @@ fn onward(packets: u32, at: u32, pc: u32, next: Option<Entry<'_>>) -> Option<Lea
 }
 
 /// The second one of slices, if there is one.
-fn second<'a>(walked: &[Walked<'a>]) -> Option<Entry<'a>>
+fn second<'a>(walked: &[Walked<'a>]) -> Option<StreamSlice<'a>>
     ensures { result ≡ option_map (λ (w : Walked). w.slice) (slice_get walked.now 1) }
 {
     match walked.get(1) {
@@ -136,11 +138,12 @@ fn second<'a>(walked: &[Walked<'a>]) -> Option<Entry<'a>>
     }
 }
 
-/// The rows that lead on from where a stretch ended, of which there may be so many. The stretch stays as it was.
+/// The rows that lead on from where a stretch ended, of which there may be so many. The stretch
+/// stays as it was.
 fn cross(
     alloc: Global,
     program: &Program<'_>,
-    kept: &mut Kept,
+    kept: &mut FinishedWalk,
     room: usize,
     lead: Lead,
 ) -> Result<Steps, PathFault>
@@ -158,7 +161,7 @@ fn cross(
     Ok(std::mem::replace(&mut kept.walk.steps, Steps::new(alloc)))
 }
 
-/// So many rows, from one on.
+/// The rows from one on, this many.
 fn part(rows: &[StepRow], first: usize, count: usize) -> &[StepRow]
     requires { first + count ≤ length rows.now }
     ensures { result.now ≡ take count (drop first rows.now) }
@@ -168,7 +171,7 @@ fn part(rows: &[StepRow], first: usize, count: usize) -> &[StepRow]
 }
 
 /// The slices of the thread of a note, of slices that stand in order.
-fn slices_of<'a, 'b>(walked: &'b [Walked<'a>], note: &Note) -> &'b [Walked<'a>]
+fn slices_of<'a, 'b>(walked: &'b [Walked<'a>], note: &KeptNote) -> &'b [Walked<'a>]
     requires { IsNonDecreasingBy (λ (w : Walked). context_of w.slice.start) walked.now }
     ensures { result.now ≡ filter (λ (w : Walked). context_of w.slice.start == note.now.process) walked.now }
 {
@@ -176,9 +179,9 @@ fn slices_of<'a, 'b>(walked: &'b [Walked<'a>], note: &Note) -> &'b [Walked<'a>]
 }
 
 /// A slice of so many rows from this one of its thread on.
-fn slice_of(slice: Entry<'_>, next: Option<Entry<'_>>, first: u32, count: u32) -> Slice
+fn slice_of(slice: StreamSlice<'_>, next: Option<StreamSlice<'_>>, first: u32, count: u32) -> Slice
     requires { (t : ToldSlice) × IsEntryOf slice t }
-    ensures { (t : ToldSlice) → IsEntryOf slice.entry t → result ≡ record { stream = t.stream; begin = begin_of t; end = end_before t (option_map (λ (e : Entry). clock_of e.start) next.entry); first = first; count = count } }
+    ensures { (t : ToldSlice) → IsEntryOf slice.entry t → result ≡ record { stream = t.stream; begin = begin_of t; end = end_before t (option_map (λ (e : StreamSlice). clock_of e.start) next.entry); first = first; count = count } }
 {
     let begin = match next {
         None => None,
@@ -194,7 +197,8 @@ fn slice_of(slice: Entry<'_>, next: Option<Entry<'_>>, first: u32, count: u32) -
 }
 
 impl<'a> Joins<'a> {
-    /// The rows that lead on from the first one of slices of a thread that stand in order: to the next one, or to the end, where the thread stands at this address.
+    /// The rows that lead on from the first one of slices of a thread that stand in order: to the
+    /// next one, or to the end, where the thread stands at this address.
     fn bridge(&mut self, alloc: Global, walked: &[Walked<'_>], pc: u32) -> Result<Steps, PathFault>
         requires few { self.old.count ≤ 65536 }
         requires ran { (r : RanSlice) × (rs : List RanSlice) × AreRan self.old.stretches.items walked.now (r ∷ rs) }
@@ -219,7 +223,8 @@ impl<'a> Joins<'a> {
         Ok(more)
     }
 
-    /// Adds the rows of the first one of slices of a thread, and those that lead on from it, and the slice.
+    /// Adds the rows of the first one of slices of a thread, and those that lead on from it, and
+    /// the slice.
     fn add_slice(
         &mut self,
         alloc: Global,
@@ -287,7 +292,7 @@ impl<'a> Joins<'a> {
         &mut self,
         alloc: Global,
         walked: &[Walked<'_>],
-        notes: &[Note],
+        notes: &[KeptNote],
     ) -> Result<Threads, PathFault>
         requires few { self.old.count ≤ 65536 }
         requires ran { (rs : List RanSlice) × AreRanInOrder self.old.stretches.items walked.now rs × ((process : ℕ) → Chained (slices_in_order process rs)) }

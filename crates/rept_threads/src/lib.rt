@@ -1,4 +1,5 @@
-//! The run of a program with several threads, rebuilt from the slices that the instruction traces of several harts tell: their walks and joins.
+//! The run of a program with several threads, rebuilt from the slices that the instruction traces
+//! of several harts tell: their walks and joins.
 #![tactic(auto)]
 
 pub mod joins;

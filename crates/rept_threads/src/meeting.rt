@@ -20,7 +20,7 @@ use rept_path::PathFault;
 use rept_path::window::next_packet;
 use rept_slices::order::{begin_of, process_of};
 use rept_slices::scan::{closes, time_of};
-use rept_slices::telling::{Entry, is_start};
+use rept_slices::telling::{StreamSlice, is_start};
 use rept_trace::{Packet, Packets};
 
 /// Whether a packet has a time, which is later than this one.
@@ -40,7 +40,8 @@ fn starts_past(packet: Packet, time: u64) -> bool
     is_start(packet) && is_past(packet, time)
 }
 
-/// Whether a slice lasts past a time, by the packets after its start packet: one of them, or the start packet that ends it, is of a later time.
+/// Whether a slice lasts past a time, by the packets after its start packet: one of them, or the
+/// start packet that ends it, is of a later time.
 fn lasts_past(later: Packets<'_>, time: u64) -> bool
     requires { (list : List Packet) × Hold (rest_of later) list }
     ensures { (t : ToldSlice) → Hold (rest_of later.entry) t.later → result ≡ lasts_past time t }
@@ -57,9 +58,10 @@ fn lasts_past(later: Packets<'_>, time: u64) -> bool
     false
 }
 
-/// Whether a slice meets one that stands after it among those of their thread, in order: they are of different streams, and begin at one time, or the former one
-/// lasts past the begin of the latter.
-fn meets(former: &Entry<'_>, latter: &Entry<'_>) -> bool
+/// Whether a slice meets one that stands after it among those of their thread, in order: they are
+/// of different streams, and begin at one time, or the former one lasts past the begin of the
+/// latter.
+fn meets(former: &StreamSlice<'_>, latter: &StreamSlice<'_>) -> bool
     requires { (t : ToldSlice) × IsEntryOf former.now t }
     ensures { (t u : ToldSlice) → IsEntryOf former.now t → IsEntryOf latter.now u → thread_of t ≡ thread_of u → begin_of t ≤ begin_of u → result ≡ meets t u }
 {
@@ -70,7 +72,8 @@ fn meets(former: &Entry<'_>, latter: &Entry<'_>) -> bool
     begin_of(former) == begin || lasts_past(former.later, begin)
 }
 
-/// The begin of the second one of slices of a thread, which stand in order, if the first one meets it.
+/// The begin of the second one of slices of a thread, which stand in order, if the first one meets
+/// it.
 fn next_met(slices: &[Walked<'_>]) -> Option<u64>
     requires { (ts : List ToldSlice) × AreEntriesOf (map (λ (w : Walked). w.slice) slices.now) ts }
     ensures { (t : ToldSlice) (later : List ToldSlice) → AreEntriesOf (map (λ (w : Walked). w.slice) slices.now) (t ∷ later) → IsInTurn t (head_of later) → result ≡ met_next t (head_of later) }
@@ -84,7 +87,8 @@ fn next_met(slices: &[Walked<'_>]) -> Option<u64>
     }
 }
 
-/// The first time at which a slice of a thread is met by the one right before it, of slices that stand in order.
+/// The first time at which a slice of a thread is met by the one right before it, of slices that
+/// stand in order.
 fn first_met(slices: &[Walked<'_>]) -> Option<u64>
     requires { (ts : List ToldSlice) × AreEntriesOf (map (λ (w : Walked). w.slice) slices.now) ts }
     ensures { (ts : List ToldSlice) → AreEntriesOf (map (λ (w : Walked). w.slice) slices.now) ts → InTurn ts → result ≡ first_met ts }
@@ -97,7 +101,8 @@ fn first_met(slices: &[Walked<'_>]) -> Option<u64>
     None
 }
 
-/// The first thread, of those that run as these processes, of which two streams tell at one time, with the least such time: the refusal, if there is one.
+/// The first thread, of those that run as these processes, of which two streams tell at one time,
+/// with the least such time: the refusal, if there is one.
 pub fn overlap_fault(slices: &[Walked<'_>], processes: &[u32]) -> Option<PathFault>
     requires order { IsNonDecreasingBy (λ (w : Walked). context_of w.slice.start) slices.now }
     requires told { (ts : List ToldSlice) × AreEntriesOf (map (λ (w : Walked). w.slice) slices.now) ts }

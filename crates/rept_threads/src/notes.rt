@@ -5,7 +5,7 @@ ghost use Rattle.rept_dump.specs.Dump.{HasThreads, threads_of};
 ghost use Rattle.rept_path.specs.declared.fault.PathFault.TheVariants.{OutOfMemory};
 ghost use Rattle.rept_slices.specs.Raw.{note_in};
 ghost use Rattle.rept_threads.specs.Notes.{known_by};
-ghost use Rattle.rept_threads.specs.declared.notes.Note.{Note};
+ghost use Rattle.rept_threads.specs.declared.notes.KeptNote.{KeptNote};
 
 use rept_dump::Dump;
 use rept_path::PathFault;
@@ -13,7 +13,7 @@ use std::alloc::Global;
 
 /// A thread's note.
 #[derive(Clone, Copy, Debug, PartialEq)]
-pub struct Note {
+pub struct KeptNote {
     /// The process that the thread runs as.
     pub process: u32,
     /// Its program counter at the end.
@@ -21,19 +21,19 @@ pub struct Note {
 }
 
 /// The note of a thread of a dump.
-fn note_of(dump: &Dump<'_>, t: u32) -> Note
+fn note_of(dump: &Dump<'_>, t: u32) -> KeptNote
     requires { t < threads_of dump.now }
     ensures { (descs : List (List ℕ)) → HasThreads dump.now descs → (desc : List ℕ) × (slice_get descs t ≡ Some desc) × (known_by result ≡ note_in desc) }
 {
     let status = dump.status_of(t);
-    Note {
+    KeptNote {
         process: status.pid,
         pc: status.pc,
     }
 }
 
 /// The notes of the threads of a dump, in their order.
-pub fn notes_of(alloc: Global, dump: &Dump<'_>) -> Result<Vec<Note>, PathFault>
+pub fn notes_of(alloc: Global, dump: &Dump<'_>) -> Result<Vec<KeptNote>, PathFault>
     ensures ok { (descs : List (List ℕ)) → HasThreads dump.now descs → threads_of dump.now ≡ length descs → IfOk result (λ notes. map known_by notes.items ≡ map note_in descs) }
     ensures err { IfErr result (λ e. e ≡ OutOfMemory) }
 {
@@ -48,8 +48,8 @@ pub fn notes_of(alloc: Global, dump: &Dump<'_>) -> Result<Vec<Note>, PathFault>
 }
 
 /// The processes that threads run as.
-pub fn processes_of(alloc: Global, notes: &[Note]) -> Result<Vec<u32>, PathFault>
-    ensures ok { IfOk result (λ processes. processes.items ≡ map (λ (n : Note). n.process) notes.now) }
+pub fn processes_of(alloc: Global, notes: &[KeptNote]) -> Result<Vec<u32>, PathFault>
+    ensures ok { IfOk result (λ processes. processes.items ≡ map (λ (n : KeptNote). n.process) notes.now) }
     ensures err { IfErr result (λ e. e ≡ OutOfMemory) }
 {
     let mut processes = Vec::new(alloc);

@@ -16,8 +16,8 @@ use crate::walks::{put_in_order, walk_all};
 use rept_dump::Dump;
 use rept_path::PathFault;
 use rept_path::program::Program;
-use rept_slices::dark::dark;
 use rept_slices::survey::survey_all;
+use rept_slices::untraced::untraced;
 use rept_steps::Run;
 use rept_trace::Streams;
 use std::alloc::Global;
@@ -32,7 +32,7 @@ fn halves_of(streams: &Streams<'_>) -> bool
     streams.packets(0).halves()
 }
 
-/// As `rebuild_many`.
+/// The run that streams tell, where code is or isn't compressed.
 fn rebuild_once(
     alloc: Global,
     streams: Streams<'_>,
@@ -50,7 +50,7 @@ fn rebuild_once(
         Err(fault) => return Err(fault),
     };
     let (time, several) = (survey.time, survey.several);
-    let dark = dark(&mut survey.windows, time, several)?;
+    let untraced = untraced(&mut survey.windows, time, several)?;
     let program = Program::new(dump, halves_of(&streams));
     let mut walks = match walk_all(alloc, &program, &survey.slices) {
         Ok(walks) => walks,
@@ -69,7 +69,7 @@ fn rebuild_once(
     match joins.threads(alloc, &walks.slices, &notes) {
         Ok(threads) => Ok(Run {
             threads,
-            dark,
+            untraced,
             skipped: survey.skipped,
         }),
         Err(fault) => Err(fault),
@@ -103,7 +103,7 @@ pub fn rebuild_many(
     ensures only_refusal { (descs : List (List ℕ)) (fault : PathFault) → HasThreads dump.now descs → threads_of dump.now ≡ length descs → HasNoRun (files_of dump.now streams.entry descs from) fault → MatchResult result (λ _. ⊥) (λ e. (e ≡ OutOfMemory) ⊎ (e ≡ fault)) }
 
     // Runs are sound.
-    ensures sound { (descs : List (List ℕ)) → HasThreads dump.now descs → threads_of dump.now ≡ length descs → IfOk result (λ run. IsSoundCourse (record { threads = run.threads; dark = run.dark })) }
+    ensures sound { (descs : List (List ℕ)) → HasThreads dump.now descs → threads_of dump.now ≡ length descs → IfOk result (λ run. IsSoundCourse (record { threads = run.threads; untraced = run.untraced })) }
 {
     rebuild_once(alloc, streams, dump, from)
 }

@@ -53,7 +53,7 @@ fn next_of_stretch(rest: &mut Packets<'_>, waits: bool) -> Option<Packet>
 
 /// A walk over the packets of a stretch.
 #[derive(Drop)]
-pub struct Stretch {
+pub struct StretchWalk {
     pub walk: Walk,
     /// How many rows stand before those of each slice.
     pub marks: Vec<usize>,
@@ -79,7 +79,7 @@ pub fn walk_stretch(
     program: &Program<'_>,
     room: usize,
     head: Begin<'_>,
-) -> Result<Stretch, PathFault>
+) -> Result<StretchWalk, PathFault>
     requires starts { starts (Some head.first) ≡ true }
     requires few { (later : List Packet) × Hold (rest_of head.later) later × (head.number + 1 + length later < 2 ^ 32) }
     ensures ok { (later : List Packet) → Hold (rest_of head.entry.later) later → IfOk result (λ w. (legs : List (List StepRow)) × Stands (code_of program.now) (earlier_by (record { number = head.entry.number; room = room }) (reverse (head.entry.first ∷ same_stretch false later)) legs) w.walk × (w.marks.items ≡ marks (code_of program.now) (reverse (head.entry.first ∷ same_stretch false later)) legs)) }
@@ -97,5 +97,5 @@ pub fn walk_stretch(
         add_mark(&mut marks, packet, walk.steps.len() as usize)?;
         number += 1;
     }
-    Ok(Stretch { walk, marks })
+    Ok(StretchWalk { walk, marks })
 }

@@ -17,13 +17,13 @@ ghost use Rattle.rept_slices.specs.Stamps.{clock_of, context_of, is_start};
 ghost use Rattle.rept_slices.specs.Stretches.{heads, StretchLegs as WalkedStretch, Walks as AreWalks, WalksFault};
 ghost use Rattle.rept_threads.specs.declared.walks.Walked.{Walked};
 
-use crate::stretch::{Stretch, walk_stretch};
+use crate::stretch::{StretchWalk, walk_stretch};
 use rept_path::PathFault;
 use rept_path::program::Program;
 use rept_path::walk::Walk;
 use rept_path::window::Begin;
 use rept_slices::order::{begin_of, process_of};
-use rept_slices::telling::Entry;
+use rept_slices::telling::StreamSlice;
 use rept_steps::{LIMIT, Steps};
 use std::alloc::Global;
 
@@ -31,7 +31,7 @@ use std::alloc::Global;
 #[derive(Clone, Copy)]
 pub struct Walked<'a> {
     /// The slice.
-    pub slice: Entry<'a>,
+    pub slice: StreamSlice<'a>,
     /// The number of its stretch among those of all streams.
     pub stretch: usize,
     /// The number of its first row in the stretch.
@@ -42,7 +42,7 @@ pub struct Walked<'a> {
 
 /// A stretch that was walked.
 #[derive(Drop)]
-pub struct Kept {
+pub struct FinishedWalk {
     /// Its rows.
     pub rows: Steps,
     /// The walk as it ended, without its rows.
@@ -52,19 +52,19 @@ pub struct Kept {
 /// All stretches, and the slices in them.
 #[derive(Drop)]
 pub struct Walks<'a> {
-    pub stretches: Vec<Kept>,
+    pub stretches: Vec<FinishedWalk>,
     pub slices: Vec<Walked<'a>>,
     /// How many rows they have.
     pub rows: usize,
 }
 
 /// Takes the rows out of a walk.
-fn keep(alloc: Global, mut walk: Walk) -> Kept
+fn keep(alloc: Global, mut walk: Walk) -> FinishedWalk
     ensures rows { result.rows ≡ walk.steps }
     ensures walk { result.walk ≡ record walk { steps = [] } }
 {
     let rows = std::mem::replace(&mut walk.steps, Steps::new(alloc));
-    Kept { rows, walk }
+    FinishedWalk { rows, walk }
 }
 
 /// The first one of numbers, or this one where there is none.
@@ -80,8 +80,8 @@ fn first_or(number: usize, numbers: &[usize]) -> usize
 /// Adds the slices of a stretch of this number, which are the first ones of these.
 fn add_slices<'a>(
     walked: &mut Vec<Walked<'a>>,
-    slices: &[Entry<'a>],
-    stretch: &Stretch,
+    slices: &[StreamSlice<'a>],
+    stretch: &StretchWalk,
     number: usize,
 ) -> Result<(), PathFault>
     ensures ok { OnOk result (walked.new.items ≡ walked.old.items ++ kept_by number (length stretch.now.walk.steps) stretch.now.marks.items slices.now) }
@@ -109,7 +109,7 @@ fn add_slices<'a>(
 }
 
 /// The packet with which the stretch of a slice begins.
-fn head<'a>(slice: &Entry<'a>) -> Begin<'a>
+fn head<'a>(slice: &StreamSlice<'a>) -> Begin<'a>
     ensures { result ≡ record { number = slice.now.number; first = slice.now.start; later = slice.now.later } }
 {
     Begin {
@@ -124,7 +124,7 @@ fn add_stretch<'a>(
     walks: &mut Walks<'a>,
     alloc: Global,
     program: &Program<'_>,
-    slices: &[Entry<'a>],
+    slices: &[StreamSlice<'a>],
 ) -> Result<(), PathFault>
     requires few { walks.old.rows ≤ 65536 }
     requires told { (t : ToldSlice) × (later : List ToldSlice) × AreEntriesOf slices.now (t ∷ later) × (is_start t.start ≡ true) × (t.number + 1 + length t.later < 2 ^ 32) }
@@ -156,11 +156,12 @@ fn add_stretch<'a>(
     Ok(())
 }
 
-/// Walks the stretches of all streams, one after the other. At most 65,536 rows stand in all of them.
+/// Walks the stretches of all streams, one after the other. At most 65,536 rows stand in all of
+/// them.
 pub fn walk_all<'a>(
     alloc: Global,
     program: &Program<'_>,
-    slices: &[Entry<'a>],
+    slices: &[StreamSlice<'a>],
 ) -> Result<Walks<'a>, PathFault>
     requires { (from : ℕ) × (lists : List (List Packet)) × AreEntriesOf slices.now (slices_told (kept from lists)) × (sum_by (λ packets. length packets) lists < 2 ^ 32) }
     ensures ok { (from : ℕ) (lists : List (List Packet)) → AreEntriesOf slices.now (slices_told (kept from lists)) →
@@ -180,7 +181,8 @@ pub fn walk_all<'a>(
     Ok(walks)
 }
 
-/// Whether a slice may stand right before another one in order: its thread runs as a lower process, or as the same one and it begins no later.
+/// Whether a slice may stand right before another one in order: its thread runs as a lower process,
+/// or as the same one and it begins no later.
 fn in_turn(former: &Walked<'_>, latter: &Walked<'_>) -> bool
     ensures { result ≡ in_turn former.now latter.now }
 {
@@ -200,7 +202,7 @@ fn stand_in_order(slices: &[Walked<'_>]) -> bool
     true
 }
 
-/// As `put_in_order`.
+/// Puts slices in the order of their threads and times.
 fn sort_slices(slices: &mut Vec<Walked<'_>>) -> Result<(), PathFault>
     ensures permutation { IsPermutation slices.old.items slices.new.items }
     ensures processes { OnOk result (IsNonDecreasingBy (λ (w : Walked). context_of w.slice.start) slices.new.items) }
@@ -216,14 +218,16 @@ fn sort_slices(slices: &mut Vec<Walked<'_>>) -> Result<(), PathFault>
     Ok(())
 }
 
-/// Puts slices in order: by the processes of their threads, those of one thread by their begins, and those of one begin as they stood.
+/// Puts slices in order: by the processes of their threads, those of one thread by their begins,
+/// and those of one begin as they stood.
 pub fn put_in_order(slices: &mut Vec<Walked<'_>>) -> Result<(), PathFault>
     ensures permutation { IsPermutation slices.old.items slices.new.items }
     ensures processes { OnOk result (IsNonDecreasingBy (λ (w : Walked). context_of w.slice.start) slices.new.items) }
     ensures times { (process : ℕ) → OnOk result (filter (λ (w : Walked). context_of w.slice.start == process) slices.new.items ≡ by_time (λ (w : Walked). clock_of w.slice.start) (filter (λ (w : Walked). context_of w.slice.start == process) slices.old.items)) }
     ensures err { IfErr result (λ e. e ≡ OutOfMemory) }
 {
-    // They do where each stream tells of one thread, and the threads' processes rise from stream to stream.
+    // They do where each stream tells of one thread, and the threads' processes rise from stream to
+    // stream.
     if stand_in_order(slices) {
         return Ok(());
     }

@@ -6,7 +6,7 @@ use Rattle.rept_report.specs.Moments.{Moments}
 use Rattle.rept_report.specs.Timeline as report
 use Rattle.rept_moments.specs.Seen as seen
 use Rattle.rept_span.specs.Ranges.{Legs}
-use Rattle.rept_report.specs.declared.paths.Line.{Line}
+use Rattle.rept_report.specs.declared.paths.NumberChain.{NumberChain}
 use Rattle.rept_carry.specs.Links.{IsNextFrom, IsPreviousFrom}
 use Rattle.rept_carry.specs.declared.lines.Lines.{Lines}
 use Rattle.rept_carry.specs.declared.lines.Lines as cases
@@ -38,7 +38,7 @@ last_as legs least (Some p) its = its
 joined_of : (M : Moments) (k : ℕ) → ∥ report.IsJoined M k ∥₁ → report.IsJoined M k
 joined_of M k t = record { next = ∥∥₁_elim t (hlevel props) (λ j. j.next); only = λ w e. ∥∥₁_elim t (hlevel props) (λ j. j.only w e) }
 
-pub line_of_mere : (M : Moments) (m : ℕ) (x : Line) → ∥ report.IsLine M m x ∥₁ → report.IsLine M m x
+pub line_of_mere : (M : Moments) (m : ℕ) (x : NumberChain) → ∥ report.IsLine M m x ∥₁ → report.IsLine M m x
 line_of_mere M m x t = record {
   from = ∥∥₁_elim t (hlevel props) (λ l. l.from);
   to = ∥∥₁_elim t (hlevel props) (λ l. l.to);
@@ -49,7 +49,7 @@ line_of_mere M m x t = record {
 }
 
 -- of the lines of the moments
-pub line_from : (M : Moments) (lines : Lines) (m : ℕ) (x : Line) → ∥ AreLinesOf M lines ∥₁ → m ≤ M.end → ((N : Moments) → AreLines N lines → m ≤ N.end → report.IsLine N m x) → report.IsLine M m x
+pub line_from : (M : Moments) (lines : Lines) (m : ℕ) (x : NumberChain) → ∥ AreLinesOf M lines ∥₁ → m ≤ M.end → ((N : Moments) → AreLines N lines → m ≤ N.end → report.IsLine N m x) → report.IsLine M m x
 line_from M lines m x t few its = line_of_mere M m x (∥∥₁_elim t ∥∥₁_prop (λ a. ∣ its M a.each few ∣₁))
 
 pub line_in : (M : Moments) (lines : Lines) (m : ℕ) → ∥ AreLinesOf M lines ∥₁ → m ≤ M.end → ∥ IsIn lines m ∥₁

@@ -60,11 +60,11 @@ alone_slices [] own rows e = absurd (none_some e)
 alone_slices (s ∷ []) own rows e = let same : length own ≡ length rows = ap (λ (xs : List StepRow). length xs) (some_same e) in omega arith
 alone_slices (s ∷ u ∷ slices) own rows e = absurd (none_some e)
 
-alone_few : (threads : List ThreadRows) (dark : Option ℕ) (rows : List StepRow) → alone_by threads dark ≡ Some rows → length rows ≤ small.rows_in threads
-alone_few [] dark rows e = absurd (none_some e)
+alone_few : (threads : List ThreadRows) (untraced : Option ℕ) (rows : List StepRow) → alone_by threads untraced ≡ Some rows → length rows ≤ small.rows_in threads
+alone_few [] untraced rows e = absurd (none_some e)
 alone_few (thread ∷ []) None rows e = let few = alone_slices thread.slices thread.steps rows e in omega arith
 alone_few (thread ∷ []) (Some d) rows e = absurd (none_some e)
-alone_few (thread ∷ other ∷ threads) dark rows e = absurd (none_some e)
+alone_few (thread ∷ other ∷ threads) untraced rows e = absurd (none_some e)
 
 -- the moments of a list are no more than twice its rows
 put_by_length : (b : Bool) (p q : Timed) (ps rest : List Timed) → length rest ≡ suc (length ps) → length (cond b (p ∷ q ∷ ps) (q ∷ rest)) ≡ suc (suc (length ps))
@@ -134,12 +134,12 @@ module _ (C : Course) where
       let kept = lasts_length (in_order C) in
       omega arith
 
-  points_by : IsSmall C → (o : Option (List StepRow)) → alone_by C.threads C.dark ≡ o → (seen_by C o).legs.count ≤ 66560
-  points_by its (Some rows) e = let few = alone_few C.threads C.dark rows e in let rows = its.rows in omega arith
+  points_by : IsSmall C → (o : Option (List StepRow)) → alone_by C.threads C.untraced ≡ o → (seen_by C o).legs.count ≤ 66560
+  points_by its (Some rows) e = let few = alone_few C.threads C.untraced rows e in let rows = its.rows in omega arith
   points_by its None e = let all = all_points C.threads in let rows = its.rows in let threads = its.threads in omega arith
 
-  numbers_by : IsSmall C → (o : Option (List StepRow)) → alone_by C.threads C.dark ≡ o → (seen_by C o).moments.end ≤ 131072
-  numbers_by its (Some rows) e = let few = alone_few C.threads C.dark rows e in let rows = its.rows in omega arith
+  numbers_by : IsSmall C → (o : Option (List StepRow)) → alone_by C.threads C.untraced ≡ o → (seen_by C o).moments.end ≤ 131072
+  numbers_by its (Some rows) e = let few = alone_few C.threads C.untraced rows e in let rows = its.rows in omega arith
   numbers_by its None e = let all = moments_few in let rows = its.rows in omega arith
 
   pub few_points : IsSmall C → points_in C ≤ 66560
@@ -149,6 +149,6 @@ module _ (C : Course) where
   is_timeline sound its = record {
     legs = legs_seen C;
     moments = moments_seen C sound;
-    points = points_by its (alone_by C.threads C.dark) refl;
-    numbers = numbers_by its (alone_by C.threads C.dark) refl;
+    points = points_by its (alone_by C.threads C.untraced) refl;
+    numbers = numbers_by its (alone_by C.threads C.untraced) refl;
   }

@@ -2,7 +2,7 @@ pub mod Fronts
 pub mod Lists
 pub mod Counting
 pub mod Casting
-pub mod Falling
+pub mod Acting
 pub mod Earliest
 pub mod Making
 pub mod Stripping

@@ -17,7 +17,7 @@ use Rattle.rept_moments.specs.Numbers.{numbers_of, numbered}
 use Rattle.rept_moments.specs.Seen.{seen_many}
 use Rattle.rept_moments.proofs.Places.{leg_below}
 use Rattle.rept_report.specs.Timeline.{Timeline}
-use Rattle.rept_timeline.specs.declared.storing.Part.{Part}
+use Rattle.rept_timeline.specs.declared.storing.ListPart.{ListPart}
 use Rattle.rept_timeline.specs.Times.{as_timeline}
 use Rattle.rept_timeline.specs.Listed.{storing_to, storing_in, AreStoring, IsFirstFrom, ArePastFirst}
 use Rattle.rept_timeline.proofs.Fronts.{rests_past, stores_row, past_front}
@@ -238,5 +238,5 @@ module _ (C : Course) (list : List ℕ) (its : ∥ AreStoring C list ∥₁) whe
           | inr (inr over) ↦ absurd (omega arith)
         ]
 
-pub later_open : (t : Timeline) (list : List ℕ) (part : Part) (m j k : ℕ) → ArePastFirst t list part m → part.low ≤ j → j ≤ k → k < part.high → t.moments.past (get_or list j 0) m ≡ false → t.moments.past (get_or list k 0) m ≡ false
+pub later_open : (t : Timeline) (list : List ℕ) (part : ListPart) (m j k : ℕ) → ArePastFirst t list part m → part.low ≤ j → j ≤ k → k < part.high → t.moments.past (get_or list j 0) m ≡ false → t.moments.past (get_or list k 0) m ≡ false
 later_open t list part m j k its from order less none = not_so (t.moments.past (get_or list k 0) m) (λ e. false≢true (sym none ∙ its.first j k from order less e))

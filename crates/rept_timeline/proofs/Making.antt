@@ -8,8 +8,8 @@ use Rattle.rept_steps.specs.Course.{IsSoundCourse}
 use Rattle.rept_steps.specs.Course as runs
 use Rattle.rept_report.specs.Timeline.{Timeline, IsTimeline}
 use Rattle.rept_moments.specs.Seen.{SeenMoments, seen, alone_by, seen_alone}
-use Rattle.rept_moments.specs.declared.course.Course.{Course}
-use Rattle.rept_moments.specs.declared.course.Course as courses
+use Rattle.rept_moments.specs.declared.course.NumberedRun.{NumberedRun}
+use Rattle.rept_moments.specs.declared.course.NumberedRun as courses
 use Rattle.rept_moments.specs.Courses.{seen_in, is_one, IsCourseOf}
 use Rattle.rept_moments.proofs.Places.{some_below}
 use Rattle.rept_report.specs.Timeline.{IsLeastFrom}
@@ -25,28 +25,28 @@ use Rattle.rept_carry.specs.declared.lines.Lines.{Lines}
 use Rattle.rept_moments.specs.Several.{seen_of}
 use Rattle.rept_timeline.proofs.Counting.{is_timeline}
 
-pub sound_in : (C : runs.Course) (c : Course) → IsSoundCourse C → IsCourseOf C c → IsSoundIn c
+pub sound_in : (C : runs.Course) (c : NumberedRun) → IsSoundCourse C → IsCourseOf C c → IsSoundIn c
 sound_in C (courses.TheVariants.One steps) sound its = tt
 sound_in C (courses.TheVariants.Many many) sound its = subst (λ (D : runs.Course). IsSoundCourse D) (sym its.0) sound
 
-pub one_of : (C : runs.Course) (c : Course) → IsCourseOf C c → IsSome (alone_by C.threads C.dark) → is_one c ≡ true
+pub one_of : (C : runs.Course) (c : NumberedRun) → IsCourseOf C c → IsSome (alone_by C.threads C.untraced) → is_one c ≡ true
 one_of C (courses.TheVariants.One steps) its some = refl
 one_of C (courses.TheVariants.Many many) its some = absurd (false≢true (sym (ap is_some its.1) ∙ some))
 
-pub timeline_in : (C : runs.Course) (c : Course) → IsSoundCourse C → IsSmall C → seen_in c ≡ seen C → IsTimeline (time_of c)
+pub timeline_in : (C : runs.Course) (c : NumberedRun) → IsSoundCourse C → IsSmall C → seen_in c ≡ seen C → IsTimeline (time_of c)
 timeline_in C c sound small same = subst (λ (s : SeenMoments). IsTimeline (as_timeline s)) (sym same) (is_timeline C sound small)
 
 -- the list of several threads
-pub many_storing : (c : Course) (many : runs.Course) (list : List ℕ) → c ≡ courses.TheVariants.Many many → ∥ AreListed c list ∥₁ → ∥ AreStoring many list ∥₁
-many_storing c many list e t = subst (λ (d : Course). ∥ AreListed d list ∥₁) e t
+pub many_storing : (c : NumberedRun) (many : runs.Course) (list : List ℕ) → c ≡ courses.TheVariants.Many many → ∥ AreListed c list ∥₁ → ∥ AreStoring many list ∥₁
+many_storing c many list e t = subst (λ (d : NumberedRun). ∥ AreListed d list ∥₁) e t
 
 -- the strips of several threads
-pub many_strips : (c : Course) (many : runs.Course) (list : List Strip) → c ≡ courses.TheVariants.Many many → ∥ AreStripsOf c list ∥₁ → ∥ AreManyStrips many list ∥₁
-many_strips c many list e t = subst (λ (d : Course). ∥ AreStripsOf d list ∥₁) e t
+pub many_strips : (c : NumberedRun) (many : runs.Course) (list : List Strip) → c ≡ courses.TheVariants.Many many → ∥ AreStripsOf c list ∥₁ → ∥ AreManyStrips many list ∥₁
+many_strips c many list e t = subst (λ (d : NumberedRun). ∥ AreStripsOf d list ∥₁) e t
 
 -- and its lines
-pub many_lines : (c : Course) (many : runs.Course) (lines : Lines) → c ≡ courses.TheVariants.Many many → AreLinesOf (time_of c).moments lines → AreLinesOf (seen_of many).moments lines
-many_lines c many lines e h = subst (λ (d : Course). AreLinesOf (time_of d).moments lines) e h
+pub many_lines : (c : NumberedRun) (many : runs.Course) (lines : Lines) → c ≡ courses.TheVariants.Many many → AreLinesOf (time_of c).moments lines → AreLinesOf (seen_of many).moments lines
+many_lines c many lines e h = subst (λ (d : NumberedRun). AreLinesOf (time_of d).moments lines) e h
 
 none_is : {p : ℕ} → None ≡ Some p → ⊥
 none_is e = cc

@@ -8,22 +8,22 @@ use Rattle.std.proofs.lemmas.Option.{slice_get_past}
 use Rattle.rept_steps.specs.Course.{Course, Row, IsSoundCourse}
 use Rattle.rept_order.specs.Moments.{Stretch, stores}
 use Rattle.rept_order.specs.Moments.Act.{row}
-use Rattle.rept_order.specs.Times.{falls_between}
+use Rattle.rept_order.specs.Times.{may_act_between}
 use Rattle.rept_order.specs.Legs.{leg_row}
-use Rattle.rept_report.specs.Timeline.{Timeline, IsJoined, IsFallingFrom, IsClear, IsLike, IsAlike, FallsToo, IsCut, IsPause, IsStrip}
+use Rattle.rept_report.specs.Timeline.{Timeline, IsJoined, IsActingFrom, IsClear, IsLike, IsAlike, MayActToo, IsCut, IsPause, IsStrip}
 use Rattle.rept_report.specs.declared.paths.Strip.{Strip}
-use Rattle.rept_course.specs.Numbered.{row_on, falls_by}
+use Rattle.rept_course.specs.Numbered.{row_on, may_act_by}
 use Rattle.rept_course.proofs.Ends.{ahead_back}
 use Rattle.rept_moments.specs.Numbers.{numbers_of, numbered}
 use Rattle.rept_moments.specs.Between.{IsOwn, IsOwnBetween}
 use Rattle.rept_moments.specs.Seen.{seen_many}
 use Rattle.rept_moments.proofs.Apart.{are_numbers}
-use Rattle.rept_moments.proofs.Falls.{own_falls, rest_falls, dark_is}
+use Rattle.rept_moments.proofs.MayAct.{own_may_act, rest_may_act, untraced_is}
 use Rattle.rept_moments.proofs.Places.{leg_below, get_end, get_before}
 use Rattle.rept_timeline.specs.Times.{as_timeline}
-use Rattle.rept_timeline.specs.Strips.{AreTwo, DoRowsStay, IsOther, IsPart, IsLonger, AreStripsBelow, AreManyStrips}
+use Rattle.rept_timeline.specs.Strips.{AreTwo, DoRowsStay, IsOfOtherThread, IsPart, IsLonger, AreStripsBelow, AreManyStrips}
 use Rattle.rept_timeline.proofs.Fronts.{stores_row, past_front}
-use Rattle.rept_timeline.proofs.Falling.{past_falls, open_falls}
+use Rattle.rept_timeline.proofs.Acting.{past_may_act, open_may_act}
 
 not_so : (b : Bool) → (b ≡ true → ⊥) → b ≡ false
 not_so true k = absurd (k refl)
@@ -49,42 +49,42 @@ module _ (C : Course) where
   abbrev T : Timeline
   T = as_timeline (seen_many C)
 
-  falls_stores : (r : Row) (o : Option Stretch) → falls_by C r o ≡ true → stores C r ≡ true
-  falls_stores r None e = absurd (false≢true e)
-  falls_stores r (Some x) e = (and_parts (stores C r) (falls_between C (row r) x.from x.to) e).0
+  may_act_stores : (r : Row) (o : Option Stretch) → may_act_by C r o ≡ true → stores C r ≡ true
+  may_act_stores r None e = absurd (false≢true e)
+  may_act_stores r (Some x) e = (and_parts (stores C r) (may_act_between C (row r) x.from x.to) e).0
 
-  -- what falls writes
-  pub falling_stores : (i m w : ℕ) → (numbered C).falls i m w ≡ true → stores C (row_on C i) ≡ true
-  falling_stores i m w e = falls_stores (row_on C i) ((numbers_of C).link m w) e
+  -- what may act writes
+  pub acting_stores : (i m w : ℕ) → (numbered C).may_act i m w ≡ true → stores C (row_on C i) ≡ true
+  acting_stores i m w e = may_act_stores (row_on C i) ((numbers_of C).link m w) e
 
   -- between the numbers of a row
   pub clear_own : ∥ IsSoundCourse C ∥₁ → (k own : ℕ) → (numbered C).next k (k + 1) ≡ true → IsOwn C k (k + 1) own → IsClear T k
   clear_own sound k own next its = record {
-    light = ∥∥₁_elim sound (hlevel props) (λ s. sym (dark_is C s k (k + 1) (Some own) next its));
+    light = ∥∥₁_elim sound (hlevel props) (λ s. sym (untraced_is C s k (k + 1) (Some own) next its));
     own = λ i e. ∥∥₁_elim sound (hlevel props) (λ s.
-        let parts = and_parts (stores C (row_on C i)) (eqb own i) (own_falls C s k (k + 1) own its i ∙ e) in
+        let parts = and_parts (stores C (row_on C i)) (eqb own i) (own_may_act C s k (k + 1) own its i ∙ e) in
         subst (λ (j : ℕ). (numbered C).before j ≡ k) (eqb-true own i parts.1) its.before);
   }
 
-  -- a row that falls is found
-  falls_none : (k from : ℕ) → IsFallingFrom T k (k + 1) from None → (i : ℕ) → from ≤ i → (numbered C).falls i k (k + 1) ≡ true → ⊥
-  falls_none k from none i late e =
-      let there = leg_below C i (stores_row C i (falling_stores i k (k + 1) e)) in
+  -- a row that may act is found
+  may_act_none : (k from : ℕ) → IsActingFrom T k (k + 1) from None → (i : ℕ) → from ≤ i → (numbered C).may_act i k (k + 1) ≡ true → ⊥
+  may_act_none k from none i late e =
+      let there = leg_below C i (stores_row C i (acting_stores i k (k + 1) e)) in
       false≢true (sym (none i late (omega arith)) ∙ e)
 
-  pub own_end : (k from : ℕ) → ((i : ℕ) → i < from → (numbered C).falls i k (k + 1) ≡ true → (numbered C).before i ≡ k) → IsFallingFrom T k (k + 1) from None → (i : ℕ) → (numbered C).falls i k (k + 1) ≡ true → (numbered C).before i ≡ k
+  pub own_end : (k from : ℕ) → ((i : ℕ) → i < from → (numbered C).may_act i k (k + 1) ≡ true → (numbered C).before i ≡ k) → IsActingFrom T k (k + 1) from None → (i : ℕ) → (numbered C).may_act i k (k + 1) ≡ true → (numbered C).before i ≡ k
   own_end k from own none i e =
       elim (cases_lt i from) [
         | inl early ↦ own i early e
-        | inr late ↦ absurd (falls_none k from none i late e)
+        | inr late ↦ absurd (may_act_none k from none i late e)
       ]
 
-  -- the dark crosses, and so does another row
-  pub dark_crosses : (k : ℕ) → (numbered C).dark k (k + 1) ≡ true → IsClear T k → ⊥
-  dark_crosses k dark clear = false≢true (sym clear.light ∙ dark)
+  -- the untraced prefix crosses, and so does another row
+  pub untraced_crosses : (k : ℕ) → (numbered C).untraced k (k + 1) ≡ true → IsClear T k → ⊥
+  untraced_crosses k untraced clear = false≢true (sym clear.light ∙ untraced)
 
-  pub other_crosses : (k i : ℕ) → IsOther T k i → IsClear T k → ⊥
-  other_crosses k i other clear = other.other (clear.own i other.falls)
+  pub other_crosses : (k i : ℕ) → IsOfOtherThread T k i → IsClear T k → ⊥
+  other_crosses k i other clear = other.other (clear.own i other.may_act)
 
   module _ (sound : ∥ IsSoundCourse C ∥₁) (p k : ℕ) (two : AreTwo C p k) where
     first_next : (numbered C).next p (p + 1) ≡ true
@@ -108,25 +108,25 @@ module _ (C : Course) where
         let there : k ≡ p + (k - p) = omega arith in
         false≢true (sym none ∙ ∥∥₁_elim sound (hlevel props) (λ s. ahead_down s i (k - p) writes (omega arith) (subst (λ (n : ℕ). (numbered C).ahead i (n + 1) ≡ true) there e))))
 
-    parts_of : (i : ℕ) → (numbered C).falls i p (p + 1) ≡ true → ((numbered C).past i p ≡ false) × ((numbered C).ahead i (p + 1) ≡ false)
+    parts_of : (i : ℕ) → (numbered C).may_act i p (p + 1) ≡ true → ((numbered C).past i p ≡ false) × ((numbered C).ahead i (p + 1) ≡ false)
     parts_of i e =
-        let both = and_parts (stores C (row_on C i)) (not ((numbered C).past i p) && not ((numbered C).ahead i (p + 1))) (∥∥₁_elim sound (hlevel props) (λ s. rest_falls C s p (p + 1) i first_next two.first ∙ e)) in
+        let both = and_parts (stores C (row_on C i)) (not ((numbered C).past i p) && not ((numbered C).ahead i (p + 1))) (∥∥₁_elim sound (hlevel props) (λ s. rest_may_act C s p (p + 1) i first_next two.first ∙ e)) in
         let two_parts = and_parts (not ((numbered C).past i p)) (not ((numbered C).ahead i (p + 1))) both.1 in
         (not_not ((numbered C).past i p) two_parts.0, not_not ((numbered C).ahead i (p + 1)) two_parts.1)
 
-    -- a row that falls at the pause and isn't over falls
-    pub rows_too : DoRowsStay T p k → (i : ℕ) → (numbered C).falls i p (p + 1) ≡ true → (numbered C).falls i k (k + 1) ≡ true
-    rows_too stay i e = open_falls C sound k (k + 1) second_next two.second i (stay i e) (not_ahead i (falling_stores i p (p + 1) e) (parts_of i e).1)
+    -- a row that may act at the pause and isn't over may act
+    pub rows_too : DoRowsStay T p k → (i : ℕ) → (numbered C).may_act i p (p + 1) ≡ true → (numbered C).may_act i k (k + 1) ≡ true
+    rows_too stay i e = open_may_act C sound k (k + 1) second_next two.second i (stay i e) (not_ahead i (acting_stores i p (p + 1) e) (parts_of i e).1)
 
-    pub stays_all : DoRowsStay T p k → ((numbered C).dark p (p + 1) ≡ true → (numbered C).dark k (k + 1) ≡ true) → FallsToo T p k
-    stays_all stay dark = record { dark = dark; rows = rows_too stay }
+    pub stays_all : DoRowsStay T p k → ((numbered C).untraced p (p + 1) ≡ true → (numbered C).untraced k (k + 1) ≡ true) → MayActToo T p k
+    stays_all stay untraced = record { untraced = untraced; rows = rows_too stay }
 
     -- one that is over doesn't
-    pub over_not : (i : ℕ) → (numbered C).falls i p (p + 1) ≡ true → (numbered C).past i k ≡ true → FallsToo T p k → ⊥
-    over_not i e past too = false≢true (sym (past_falls C sound k (k + 1) second_next two.second i past) ∙ too.rows i e)
+    pub over_not : (i : ℕ) → (numbered C).may_act i p (p + 1) ≡ true → (numbered C).past i k ≡ true → MayActToo T p k → ⊥
+    over_not i e past too = false≢true (sym (past_may_act C sound k (k + 1) second_next two.second i past) ∙ too.rows i e)
 
     -- the rows of a thread from one on that isn't over aren't
-    pub stay_more : (from row last : ℕ) → ((i : ℕ) → i < from → (numbered C).falls i p (p + 1) ≡ true → (numbered C).past i k ≡ false) → IsFallingFrom T p (p + 1) from (Some row) → (numbered C).past row k ≡ false → ((q : ℕ) → row ≤ q → q < last → IsSome (leg_row C q)) → (i : ℕ) → i < last → (numbered C).falls i p (p + 1) ≡ true → (numbered C).past i k ≡ false
+    pub stay_more : (from row last : ℕ) → ((i : ℕ) → i < from → (numbered C).may_act i p (p + 1) ≡ true → (numbered C).past i k ≡ false) → IsActingFrom T p (p + 1) from (Some row) → (numbered C).past row k ≡ false → ((q : ℕ) → row ≤ q → q < last → IsSome (leg_row C q)) → (i : ℕ) → i < last → (numbered C).may_act i p (p + 1) ≡ true → (numbered C).past i k ≡ false
     stay_more from first last clear found open_at leads i less e =
         elim (cases_lt i from) [
           | inl early ↦ clear i early e
@@ -135,30 +135,30 @@ module _ (C : Course) where
                 | inl between ↦ absurd (false≢true (sym (found.3 i late between) ∙ e))
                 | inr there ↦
                     let inside = two.inside in
-                    not_so ((numbered C).past i k) (λ past. false≢true (sym open_at ∙ ∥∥₁_elim sound (hlevel props) (λ s. past_front C s first i k there (λ q over under. leads q over (omega arith)) (omega arith) (falling_stores i p (p + 1) e) past)))
+                    not_so ((numbered C).past i k) (λ past. false≢true (sym open_at ∙ ∥∥₁_elim sound (hlevel props) (λ s. past_front C s first i k there (λ q over under. leads q over (omega arith)) (omega arith) (acting_stores i p (p + 1) e) past)))
               ]
         ]
 
-    pub stay_end : (from : ℕ) → ((i : ℕ) → i < from → (numbered C).falls i p (p + 1) ≡ true → (numbered C).past i k ≡ false) → IsFallingFrom T p (p + 1) from None → DoRowsStay T p k
+    pub stay_end : (from : ℕ) → ((i : ℕ) → i < from → (numbered C).may_act i p (p + 1) ≡ true → (numbered C).past i k ≡ false) → IsActingFrom T p (p + 1) from None → DoRowsStay T p k
     stay_end from clear none i e =
         elim (cases_lt i from) [
           | inl early ↦ clear i early e
           | inr late ↦
-              let there = leg_below C i (stores_row C i (falling_stores i p (p + 1) e)) in
+              let there = leg_below C i (stores_row C i (acting_stores i p (p + 1) e)) in
               absurd (false≢true (sym (none i late (omega arith)) ∙ e))
         ]
 
--- what falls somewhere falls where that does
-too_through : (t : Timeline) (k p q : ℕ) → IsLike t k p → FallsToo t p q → IsLike t k q
-too_through t k p q like too = record { dark = λ e. too.dark (like.dark e); others = λ i e other. too.rows i (like.others i e other) }
+-- what may act somewhere may act where that does
+too_through : (t : Timeline) (k p q : ℕ) → IsLike t k p → MayActToo t p q → IsLike t k q
+too_through t k p q like too = record { untraced = λ e. too.untraced (like.untraced e); others = λ i e other. too.rows i (like.others i e other) }
 
 clear_like : (t : Timeline) (k q : ℕ) → IsClear t k → IsLike t k q
-clear_like t k q clear = record { dark = λ e. absurd (false≢true (sym clear.light ∙ e)); others = λ i e other. absurd (other (clear.own i e)) }
+clear_like t k q clear = record { untraced = λ e. absurd (false≢true (sym clear.light ∙ e)); others = λ i e other. absurd (other (clear.own i e)) }
 
 itself : (t : Timeline) (k : ℕ) → IsLike t k k
-itself t k = record { dark = λ e. e; others = λ i e other. e }
+itself t k = record { untraced = λ e. e; others = λ i e other. e }
 
-alike_moved : (t : Timeline) (o : Option ℕ) (k q : ℕ) → ((p : ℕ) → o ≡ Some p → FallsToo t p q) → IsAlike t o k → IsLike t k q
+alike_moved : (t : Timeline) (o : Option ℕ) (k q : ℕ) → ((p : ℕ) → o ≡ Some p → MayActToo t p q) → IsAlike t o k → IsLike t k q
 alike_moved t None k q too alike = clear_like t k q alike
 alike_moved t (Some p) k q too alike = too_through t k p q alike (too p refl)
 
@@ -178,7 +178,7 @@ module _ (C : Course) (strip more : Strip) (part : IsPart C strip) (first : more
         | inr (inr over) ↦ absurd (omega arith)
       ]
 
-  -- nothing but a row before the number falls
+  -- nothing but a row before the number may act
   pub clear_more : more.pause ≡ strip.pause → IsClear S strip.last → IsLonger C strip (Some more)
   clear_more same clear = (
     record {
@@ -201,8 +201,8 @@ module _ (C : Course) (strip more : Strip) (part : IsPart C strip) (first : more
     last,
   )
 
-  -- more falls, and all that falls at the pause does: it is the pause from then on
-  pub crossed_more : more.pause ≡ Some strip.last → (IsClear S strip.last → ⊥) → IsOwnBetween C strip.last (strip.last + 1) None → ((p : ℕ) → strip.pause ≡ Some p → FallsToo S p strip.last) → IsLonger C strip (Some more)
+  -- more may act, and all that may act at the pause does: it is the pause from then on
+  pub crossed_more : more.pause ≡ Some strip.last → (IsClear S strip.last → ⊥) → IsOwnBetween C strip.last (strip.last + 1) None → ((p : ℕ) → strip.pause ≡ Some p → MayActToo S p strip.last) → IsLonger C strip (Some more)
   crossed_more here crossed apart too = (
     record {
       up = let up = part.up in omega arith;
@@ -294,7 +294,7 @@ joined_of t k h = record { next = ∥∥₁_elim h (hlevel props) (λ j. j.next)
 
 alike_of : (t : Timeline) (o : Option ℕ) (k : ℕ) → ∥ IsAlike t o k ∥₁ → IsAlike t o k
 alike_of t None k h = record { light = ∥∥₁_elim h (hlevel props) (λ c. c.light); own = λ i e. ∥∥₁_elim h (hlevel props) (λ c. c.own i e) }
-alike_of t (Some p) k h = record { dark = λ e. ∥∥₁_elim h (hlevel props) (λ c. c.dark e); others = λ i e other. ∥∥₁_elim h (hlevel props) (λ c. c.others i e other) }
+alike_of t (Some p) k h = record { untraced = λ e. ∥∥₁_elim h (hlevel props) (λ c. c.untraced e); others = λ i e other. ∥∥₁_elim h (hlevel props) (λ c. c.others i e other) }
 
 cut_of : (t : Timeline) (o : Option ℕ) (k : ℕ) → ∥ IsCut t o k ∥₁ → IsCut t o k
 cut_of t None k h = ∥∥₁_elim h (λ x y. absurd x) (λ c. c)

@@ -1,4 +1,5 @@
--- The laws of rows and moments can be had from the mere fact that they hold: whether there is a next moment on the way to the end is found by trying all numbers.
+-- The laws of rows and moments can be had from the mere fact that they hold: whether there is a
+-- next moment on the way to the end is found by trying all numbers.
 use mathlib.Core.Logic.{∥∥₁_elim, ∥∥₁_prop}
 use Rattle.std.proofs.Props.{props}
 use Rattle.std.proofs.Common.{◌≡◌, ℕ, zero, suc, ◌<◌, ◌≤◌, ◌⊎◌, Bool, true, false, inl, inr, refl, sym, ap, ◌∙◌, subst, arith}
@@ -51,12 +52,12 @@ are_moments legs M t = record {
   rows_after = λ i row e. ∥∥₁_elim t (hlevel props) (λ a. a.rows_after i row e);
   inside = λ m w e. (∥∥₁_elim t (hlevel props) (λ a. (a.inside m w e).0), ∥∥₁_elim t (hlevel props) (λ a. (a.inside m w e).1));
   rows_past = λ i row e. ∥∥₁_elim t (hlevel props) (λ a. a.rows_past i row e);
-  dark_past = ∥∥₁_elim t (hlevel props) (λ a. a.dark_past);
+  untraced_past = ∥∥₁_elim t (hlevel props) (λ a. a.untraced_past);
   later_apart = λ i j is its later. ∥∥₁_elim t (hlevel props) (λ a. a.later_apart i j is its later);
   past_onward = λ i m w e past. (∥∥₁_elim t (hlevel props) (λ a. (a.past_onward i m w e past).0), ∥∥₁_elim t (hlevel props) (λ a. (a.past_onward i m w e past).1));
-  dark_onward = λ m w e past. (∥∥₁_elim t (hlevel props) (λ a. (a.dark_onward m w e past).0), ∥∥₁_elim t (hlevel props) (λ a. (a.dark_onward m w e past).1));
-  past_back = λ i m w e past falls. ∥∥₁_elim t (hlevel props) (λ a. a.past_back i m w e past falls);
-  dark_back = λ m w e past dark. ∥∥₁_elim t (hlevel props) (λ a. a.dark_back m w e past dark);
+  untraced_onward = λ m w e past. (∥∥₁_elim t (hlevel props) (λ a. (a.untraced_onward m w e past).0), ∥∥₁_elim t (hlevel props) (λ a. (a.untraced_onward m w e past).1));
+  past_back = λ i m w e past may_act. ∥∥₁_elim t (hlevel props) (λ a. a.past_back i m w e past may_act);
+  untraced_back = λ m w e past untraced. ∥∥₁_elim t (hlevel props) (λ a. a.untraced_back m w e past untraced);
   reaches = λ m few other. has_next M m (∥∥₁_elim t ∥∥₁_prop (λ a. ∣ a.reaches m few other ∣₁)) (λ w e. ∥∥₁_elim t (hlevel props) (λ a. (a.inside m w e).1));
 }
 

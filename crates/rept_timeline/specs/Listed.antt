@@ -1,4 +1,5 @@
--- The rows of several threads that may write memory by the form of their instructions, in the order of their numbers. This project's own.
+-- The rows of several threads that may write memory by the form of their instructions, in the order
+-- of their numbers. This project's own.
 use Rattle.std.specs.Prelude.{◌≡◌, ℕ, zero, suc, ◌-◌, ◌≤◌, ◌<◌, if◌then◌else◌, List, [], ◌∷◌, ◌++◌, length, true, Option, slice_index_or}
 use Rattle.std.specs.Option.{IsSome}
 use Rattle.std.specs.List.{Contains}
@@ -8,10 +9,10 @@ use Rattle.rept_report.specs.Moments.{Moments}
 use Rattle.rept_report.specs.Timeline.{Timeline, IsLeastFrom}
 use Rattle.rept_course.specs.Numbered.{row_on}
 use Rattle.rept_moments.specs.Points.{points_in}
-use Rattle.rept_moments.specs.declared.course.Course as courses
+use Rattle.rept_moments.specs.declared.course.NumberedRun as courses
 use Rattle.rept_carry.specs.declared.lines.Lines.{Lines}
 use Rattle.rept_carry.specs.Lines.{AreLines, IsIn}
-use Rattle.rept_timeline.specs.declared.storing.Part.{Part}
+use Rattle.rept_timeline.specs.declared.storing.ListPart.{ListPart}
 
 -- of the first so many points
 abbrev pub storing_to : Course → ℕ → List ℕ
@@ -41,7 +42,7 @@ abbrev pub IsFirstFrom : List ℕ → ℕ → Option ℕ → Type 0
 IsFirstFrom list least found = IsLeastFrom (λ i. Contains list i) least found
 
 -- in a part of the list those rows come first that lie wholly before a moment
-pub record ArePastFirst (t : Timeline) (list : List ℕ) (part : Part) (m : ℕ) : Type 0 where
+pub record ArePastFirst (t : Timeline) (list : List ℕ) (part : ListPart) (m : ℕ) : Type 0 where
   pub order : part.low ≤ part.high
   pub inside : part.high ≤ length list
   pub rows : (k : ℕ) → part.low ≤ k → k < part.high → IsSome (t.legs.row (slice_index_or list k 0))

@@ -6,7 +6,7 @@ use Rattle.rept_order.specs.Moments.{stores}
 use Rattle.rept_course.specs.Numbered.{row_on}
 use Rattle.rept_report.specs.declared.paths.Strip.{Strip}
 use Rattle.rept_report.specs.Timeline.{Timeline, IsJoined, IsClear, IsAlike, IsCut, IsPause, IsStrip}
-use Rattle.rept_moments.specs.declared.course.Course as courses
+use Rattle.rept_moments.specs.declared.course.NumberedRun as courses
 use Rattle.rept_moments.specs.Several.{seen_of}
 use Rattle.rept_moments.specs.Between.{IsOwnBetween}
 use Rattle.rept_moments.specs.Together.{AreTogether}
@@ -22,44 +22,47 @@ pub record AreTwo (C : Course) (p k : ℕ) : Type 0 where
   pub first : IsOwnBetween C p (p + 1) None
   pub second : IsOwnBetween C k (k + 1) None
 
--- no row that falls between a number and the one after it lies wholly before another number
+-- no row that may act between a number and the one after it lies wholly before another number
 abbrev pub DoRowsStay : Timeline → ℕ → ℕ → Type 0
-DoRowsStay t p k = (i : ℕ) → t.moments.falls i p (p + 1) ≡ true → t.moments.past i k ≡ false
+DoRowsStay t p k = (i : ℕ) → t.moments.may_act i p (p + 1) ≡ true → t.moments.past i k ≡ false
 
 -- no row before which a number lies may write memory
 abbrev pub IsOwnQuiet : Course → ℕ → Type 0
 IsOwnQuiet C p = (i : ℕ) → IsSome ((seen_of C).legs.row i) → (seen_of C).moments.before i ≡ p → stores C (row_on C i) ≡ false
 
--- a pause and a later number of its thread in slices of the same times, at the first of which no row of that thread falls
+-- a pause and a later number of its thread in slices of the same times, at the first of which no
+-- row of that thread may act
 pub record IsSteady (C : Course) (p k : ℕ) : Type 0 where
   pub own : IsOwnQuiet C p
   pub later : AreTogether C p k
   pub next : AreTogether C p (p + 1)
 
--- a row falls between a number and the one after it, and the number doesn't lie before it
-pub record IsOther (t : Timeline) (k i : ℕ) : Type 0 where
+-- a row may act between a number and the one after it, and the number doesn't lie before it
+pub record IsOfOtherThread (t : Timeline) (k i : ℕ) : Type 0 where
   pub row : IsSome (t.legs.row i)
-  pub falls : t.moments.falls i k (k + 1) ≡ true
+  pub may_act : t.moments.may_act i k (k + 1) ≡ true
   pub other : t.moments.before i ≡ k → ⊥
 
--- between a number and the one after it, of which no row has them before and after it, no other row falls
+-- between a number and the one after it, of which no row has them before and after it, no other row
+-- may act
 pub record IsStill (C : Course) (k : ℕ) : Type 0 where
   pub inside : k < (seen_of C).moments.end
   pub next : (seen_of C).moments.next k (k + 1) ≡ true
   pub apart : IsOwnBetween C k (k + 1) None
-  pub own : (i : ℕ) → (seen_of C).moments.falls i k (k + 1) ≡ true → (seen_of C).moments.before i ≡ k
+  pub own : (i : ℕ) → (seen_of C).moments.may_act i k (k + 1) ≡ true → (seen_of C).moments.before i ≡ k
 
--- a row that falls so, or that none does
-abbrev pub IsOtherFalling : Course → ℕ → Option ℕ → Type 0
-IsOtherFalling C k None = IsStill C k
-IsOtherFalling C k (Some i) = IsOther (as_timeline (seen_of C)) k i
+-- a row that may act so, or that none does
+abbrev pub IsOtherActing : Course → ℕ → Option ℕ → Type 0
+IsOtherActing C k None = IsStill C k
+IsOtherActing C k (Some i) = IsOfOtherThread (as_timeline (seen_of C)) k i
 
 -- what was found at numbers before
 pub record IsHint (C : Course) (hint : Hint) : Type 0 where
   pub row : (i : ℕ) → hint.row ≡ Some i → IsSome ((seen_of C).legs.row i)
   pub still : (k : ℕ) → hint.still ≡ Some k → IsStill C k
 
--- whether more falls between a number and the one after it than a row before which the number lies, and what was found
+-- whether more may act between a number and the one after it than a row before which the number
+-- lies, and what was found
 pub record IsCrossing (C : Course) (k : ℕ) (crossing : Crossing) : Type 0 where
   pub clear : crossing.is_crossed ≡ false → IsClear (as_timeline (seen_of C)) k
   pub crossed : crossing.is_crossed ≡ true → IsClear (as_timeline (seen_of C)) k → ⊥

@@ -1,14 +1,15 @@
--- The rows and moments of a course as an analysis takes them, and the rows that are in the way of a moment or of a row. This project's own.
+-- The rows and moments of a course as an analysis takes them, and the rows that are in the way of a
+-- moment or of a row. This project's own.
 use Rattle.std.specs.Prelude.{ℕ, Option}
 use Rattle.rept_report.specs.Timeline.{Timeline, IsLeastFrom, IsGreatestTo, IsOpen, IsBegun, IsClose}
 use Rattle.rept_moments.specs.Seen.{SeenMoments}
-use Rattle.rept_moments.specs.declared.course.Course.{Course}
+use Rattle.rept_moments.specs.declared.course.NumberedRun.{NumberedRun}
 use Rattle.rept_moments.specs.Courses.{seen_in}
 
 abbrev pub as_timeline : SeenMoments → Timeline
 as_timeline seen = record { legs = seen.legs; moments = seen.moments }
 
-abbrev pub time_of : Course → Timeline
+abbrev pub time_of : NumberedRun → Timeline
 time_of course = as_timeline (seen_in course)
 
 -- the least row from one on that doesn't lie wholly before a moment, or that there is none

@@ -5,10 +5,10 @@ ghost use Rattle.rept_span.specs.Ranges.{AreLegs};
 ghost use Rattle.rept_report.specs.Timeline.{IsLeastFrom, IsRowTo};
 ghost use Rattle.rept_timeline.specs.Times.{time_of};
 
-use rept_moments::Course;
+use rept_moments::NumberedRun;
 
 /// Whether the row that leads from a point, if one does, has a moment after it.
-fn leads_to(course: &Course<'_>, row: u32, number: u32) -> bool
+fn leads_to(course: &NumberedRun<'_>, row: u32, number: u32) -> bool
     ensures { (result ≡ true) ↔ IsRowTo (time_of course.now) number row }
 {
     match course.row(row) {
@@ -18,7 +18,7 @@ fn leads_to(course: &Course<'_>, row: u32, number: u32) -> bool
 }
 
 /// The least row from one on after which a moment lies, by a look at each.
-pub fn row_to(course: &Course<'_>, number: u32, least: u32) -> Option<u32>
+pub fn row_to(course: &NumberedRun<'_>, number: u32, least: u32) -> Option<u32>
     requires { AreLegs (time_of course.now).legs }
     ensures { IsLeastFrom (IsRowTo (time_of course.now) number) least result }
 {

@@ -24,7 +24,8 @@ fn row_from(many: &Many<'_>, least: u32) -> Option<u32>
     None
 }
 
-/// The first of the rows of a thread from one on to before another point than which a row isn't later, or that point, found by halves.
+/// The first of the rows of a thread from one on to before another point than which a row isn't
+/// later, or that point, found by halves.
 fn first_close(many: &Many<'_>, row: u32, first: u32, last: u32) -> u32
     requires sound { ∥ IsSoundCourse many.now ∥₁ }
     requires row { IsSome ((seen_of many.now).legs.row row) }

@@ -1,4 +1,5 @@
-//! The rows and moments of any sound run, as an analysis goes over them, and the rows that are in the way of a moment or of another row.
+//! The rows and moments of any sound run, as an analysis goes over them, and the rows that are in
+//! the way of a moment or of another row.
 #![tactic(auto)]
 
 mod arriving;

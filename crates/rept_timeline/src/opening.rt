@@ -1,13 +1,14 @@
-//! Rows of several threads that don't lie wholly before a moment, and those that fall between two.
+//! Rows of several threads that don't lie wholly before a moment, and those that may act between
+//! two.
 
 ghost use Rattle.std.specs.Prelude.{◌≡◌, ◌≤◌, ◌<◌, ℕ, true, false, IsSome, None, slice_index_or};
-ghost use Rattle.rept_report.specs.Timeline.{IsFallingFrom};
+ghost use Rattle.rept_report.specs.Timeline.{IsActingFrom};
 ghost use Rattle.rept_moments.specs.Several.{seen_of};
 ghost use Rattle.rept_moments.specs.Between.{IsOwnBetween};
 ghost use Rattle.rept_timeline.specs.Times.{as_timeline, IsOpenFrom};
 ghost use Rattle.rept_timeline.specs.Listed.{AreStoring, ArePastFirst};
 
-use crate::storing::{Part, Storing};
+use crate::storing::{ListPart, Storing};
 use rept_moments::Many;
 
 /// The last point of a row's thread.
@@ -23,8 +24,9 @@ pub fn last_of(many: &Many<'_>, row: u32) -> u32
     }
 }
 
-/// The place of the first row of a part of the list that doesn't lie wholly before a moment, or the part's end, found by halves.
-fn first_open(storing: &Storing, many: &Many<'_>, m: u32, part: Part) -> usize
+/// The place of the first row of a part of the list that doesn't lie wholly before a moment, or the
+/// part's end, found by halves.
+fn first_open(storing: &Storing, many: &Many<'_>, m: u32, part: ListPart) -> usize
     requires { ArePastFirst (as_timeline (seen_of many.now)) storing.now part m }
     ensures low { part.low ≤ result }
     ensures high { result ≤ part.high }
@@ -44,7 +46,8 @@ fn first_open(storing: &Storing, many: &Many<'_>, m: u32, part: Part) -> usize
     low
 }
 
-/// A number up to which on from a row all rows of its thread lie wholly before a moment, as this row does: the first one of the list that doesn't, or the thread's last point.
+/// A number up to which on from a row all rows of its thread lie wholly before a moment, as this
+/// row does: the first one of the list that doesn't, or the thread's last point.
 fn past_end(storing: &Storing, many: &Many<'_>, m: u32, row: u32) -> u32
     requires listed { ∥ AreStoring many.now storing.now ∥₁ }
     requires moment { m ≤ (seen_of many.now).moments.end }
@@ -57,7 +60,7 @@ fn past_end(storing: &Storing, many: &Many<'_>, m: u32, row: u32) -> u32
     let last = last_of(many, row);
     let low = storing.begin(row);
     let high = storing.begin(last);
-    let place = first_open(storing, many, m, Part { low, high });
+    let place = first_open(storing, many, m, ListPart { low, high });
     if place < high {
         storing.at(place)
     } else {
@@ -84,12 +87,13 @@ pub fn open_from(storing: &Storing, many: &Many<'_>, m: u32, least: u32) -> Opti
     }
 }
 
-/// The least row from one on that falls between a number and one that is next to it, where these aren't the moments of one row.
+/// The least row from one on that may act between a number and one that is next to it, where these
+/// aren't the moments of one row.
 pub fn rest_from(storing: &Storing, many: &Many<'_>, m: u32, w: u32, least: u32) -> Option<u32>
     requires listed { ∥ AreStoring many.now storing.now ∥₁ }
     requires next { (seen_of many.now).moments.next m w ≡ true }
     requires apart { IsOwnBetween many.now m w None }
-    ensures { IsFallingFrom (as_timeline (seen_of many.now)) m w least result }
+    ensures { IsActingFrom (as_timeline (seen_of many.now)) m w least result }
 {
     let mut from = least;
     loop {
@@ -104,11 +108,11 @@ pub fn rest_from(storing: &Storing, many: &Many<'_>, m: u32, w: u32, least: u32)
     }
 }
 
-/// The least row from one on that falls between a number and one that is next to it.
-pub fn falling_from(storing: &Storing, many: &Many<'_>, m: u32, w: u32, least: u32) -> Option<u32>
+/// The least row from one on that may act between a number and one that is next to it.
+pub fn acting_from(storing: &Storing, many: &Many<'_>, m: u32, w: u32, least: u32) -> Option<u32>
     requires listed { ∥ AreStoring many.now storing.now ∥₁ }
     requires next { (seen_of many.now).moments.next m w ≡ true }
-    ensures { IsFallingFrom (as_timeline (seen_of many.now)) m w least result }
+    ensures { IsActingFrom (as_timeline (seen_of many.now)) m w least result }
 {
     match many.row_between(m, w) {
         Some(own) => {

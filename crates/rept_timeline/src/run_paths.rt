@@ -16,8 +16,8 @@ use crate::strips::Strips;
 use crate::{arriving, beginning, closing, opening};
 use rept_carry::{Lines, Ways};
 use rept_isa::StepRow;
-use rept_moments::Course;
-use rept_report::paths::{Line, Strip};
+use rept_moments::NumberedRun;
+use rept_report::paths::{NumberChain, Strip};
 use rept_report::{Paths, greatest_below, least_below};
 use rept_steps::Run;
 use std::alloc::{AllocError as OutOfMemory, Global};
@@ -36,14 +36,14 @@ pub struct RunPaths<'a> {
 }
 
 /// The rows of several threads that may write memory; of one thread alone none is kept.
-fn storing_of(alloc: Global, course: &Course<'_>) -> Result<Storing, OutOfMemory>
+fn storing_of(alloc: Global, course: &NumberedRun<'_>) -> Result<Storing, OutOfMemory>
     requires { IsSoundIn course.now }
     ensures listed { IfOk result (λ s. AreListed course.now s) }
     ensures alone { is_one course.now ≡ true → IsOk result }
 {
     match course {
-        Course::One { .. } => Ok(Storing::none(alloc)),
-        Course::Many(many) => Storing::new(alloc, many),
+        NumberedRun::One { .. } => Ok(Storing::none(alloc)),
+        NumberedRun::Many(many) => Storing::new(alloc, many),
     }
 }
 
@@ -59,7 +59,7 @@ fn lines_of(alloc: Global, ways: &Ways<'_>) -> Result<Lines, OutOfMemory>
 /// The strips of the moments of several threads; of one thread alone none is kept.
 fn strips_of(
     alloc: Global,
-    course: &Course<'_>,
+    course: &NumberedRun<'_>,
     storing: &Storing,
     lines: &Lines,
 ) -> Result<Strips, OutOfMemory>
@@ -69,20 +69,22 @@ fn strips_of(
     ensures alone { is_one course.now ≡ true → IsOk result }
 {
     match course {
-        Course::One { .. } => Ok(Strips::none(alloc)),
-        Course::Many(many) => Strips::new(alloc, storing, many, lines),
+        NumberedRun::One { .. } => Ok(Strips::none(alloc)),
+        NumberedRun::Many(many) => Strips::new(alloc, storing, many, lines),
     }
 }
 
 impl<'a> RunPaths<'a> {
-    /// The rows and moments of this run, which must be sound and have at most 65,536 rows and 1,024 threads. Of one thread in one slice, all of which is told, it takes no
-    /// memory; else memory for a few entries a point, for two entries and two lists a number, and for two entries a pair of numbers that are next to one another.
+    /// The rows and moments of this run, which must be sound and have at most 65,536 rows and 1,024
+    /// threads. Of one thread in one slice, all of which is told, it takes no memory; else memory
+    /// for a few entries a point, for two entries and two lists a number, and for two entries a
+    /// pair of numbers that are next to one another.
     pub fn new(alloc: Global, run: &'a Run) -> Result<RunPaths<'a>, OutOfMemory>
         requires sound { IsSoundCourse (course_of run.now) }
         requires small { IsSmall (course_of run.now) }
         ensures course { IfOk result (λ p. IsCourseOf (course_of run.now) p.ways) }
         ensures time { IfOk result (λ p. time_of p.ways ≡ as_timeline (seen (course_of run.now))) }
-        ensures alone { IsSome (alone_by run.now.threads run.now.dark) → IsOk result }
+        ensures alone { IsSome (alone_by run.now.threads run.now.untraced) → IsOk result }
     {
         let ways = Ways::new(alloc, run)?;
         let storing = storing_of(alloc, ways.course())?;
@@ -148,18 +150,18 @@ impl<'a> Paths for RunPaths<'a> {
         arriving::row_to(self.ways.course(), number, least)
     }
 
-    fn line_of(&self, number: u32) -> Line {
+    fn line_of(&self, number: u32) -> NumberChain {
         self.lines.line(number)
     }
 
     fn strip_of(&self, number: u32) -> Strip {
         match self.ways.course() {
-            Course::One { steps } => Strip {
+            NumberedRun::One { steps } => Strip {
                 first: 0,
                 last: steps.len(),
                 pause: None,
             },
-            Course::Many(_many) => self.strips.strip(number),
+            NumberedRun::Many(_many) => self.strips.strip(number),
         }
     }
 
@@ -171,37 +173,37 @@ impl<'a> Paths for RunPaths<'a> {
         self.ways.previous_from(number, least)
     }
 
-    fn falling_from(&self, number: u32, next: u32, least: u32) -> Option<u32> {
+    fn acting_from(&self, number: u32, next: u32, least: u32) -> Option<u32> {
         match self.ways.course() {
-            Course::One { .. } => { if number >= least { Some(number) } else { None } }
-            Course::Many(many) => {
-                opening::falling_from(&self.storing, many, number, next, least)
+            NumberedRun::One { .. } => { if number >= least { Some(number) } else { None } }
+            NumberedRun::Many(many) => {
+                opening::acting_from(&self.storing, many, number, next, least)
             }
         }
     }
 
-    fn is_dark_between(&self, number: u32, next: u32) -> bool {
-        self.ways.course().is_dark_between(number, next)
+    fn is_untraced_between(&self, number: u32, next: u32) -> bool {
+        self.ways.course().is_untraced_between(number, next)
     }
 
     fn open_from(&self, number: u32, least: u32) -> Option<u32> {
         match self.ways.course() {
-            Course::One { steps } => least_below(steps.len(), number, least),
-            Course::Many(many) => opening::open_from(&self.storing, many, number, least),
+            NumberedRun::One { steps } => least_below(steps.len(), number, least),
+            NumberedRun::Many(many) => opening::open_from(&self.storing, many, number, least),
         }
     }
 
     fn close_from(&self, row: u32, least: u32) -> Option<u32> {
         match self.ways.course() {
-            Course::One { steps } => least_below(steps.len(), row, least),
-            Course::Many(many) => closing::close_from(many, row, least),
+            NumberedRun::One { steps } => least_below(steps.len(), row, least),
+            NumberedRun::Many(many) => closing::close_from(many, row, least),
         }
     }
 
     fn begun_to(&self, number: u32, most: u32) -> Option<u32> {
         match self.ways.course() {
-            Course::One { steps } => greatest_below(steps.len(), number, most),
-            Course::Many(many) => beginning::begun_to(many, number, most),
+            NumberedRun::One { steps } => greatest_below(steps.len(), number, most),
+            NumberedRun::Many(many) => beginning::begun_to(many, number, most),
         }
     }
 
@@ -217,15 +219,15 @@ impl<'a> Paths for RunPaths<'a> {
         self.ways.course().is_later(row, other)
     }
 
-    fn is_dark(&self) -> bool {
-        self.ways.course().is_dark()
+    fn is_untraced(&self) -> bool {
+        self.ways.course().is_untraced()
     }
 
-    fn is_dark_past(&self, number: u32) -> bool {
-        self.ways.course().is_dark_past(number)
+    fn is_untraced_past(&self, number: u32) -> bool {
+        self.ways.course().is_untraced_past(number)
     }
 
-    fn is_dark_before(&self, row: u32) -> bool {
-        self.ways.course().is_dark_before(row)
+    fn is_untraced_before(&self, row: u32) -> bool {
+        self.ways.course().is_untraced_before(row)
     }
 }

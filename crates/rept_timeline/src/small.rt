@@ -22,7 +22,8 @@ fn row_count(run: &Run, thread: usize) -> u32
     run.threads.all()[thread].steps.len()
 }
 
-/// Whether a run has so few rows and threads that an analysis takes it: at most 65,536 rows of all threads together, and at most 1,024 threads.
+/// Whether a run has so few rows and threads that an analysis takes it: at most 65,536 rows of all
+/// threads together, and at most 1,024 threads.
 pub fn is_small(run: &Run) -> bool
     ensures { IsTrue result ↔ IsSmall (course_of run.now) }
 {

@@ -8,7 +8,8 @@ use rept_moments::Many;
 use std::alloc::{AllocError as OutOfMemory, Global};
 use std::marker::Model;
 
-/// The rows that may write memory by the form of their instructions, in the order of their numbers. Contracts see the list.
+/// The rows that may write memory by the form of their instructions, in the order of their numbers.
+/// Contracts see the list.
 #[derive(Drop)]
 pub struct Storing {
     list: Vec<u32>,
@@ -27,7 +28,7 @@ impl Model for Storing {
 
 /// Places of the list, from one on to before another.
 #[derive(Clone, Copy)]
-pub struct Part {
+pub struct ListPart {
     /// The first place.
     pub low: usize,
     /// The place after the last one.

@@ -1,12 +1,12 @@
-//! Strips: numbers of a line one after the other, between which the same falls.
+//! Strips: numbers of a line one after the other, between which the same may act.
 
 ghost use Rattle.std.specs.Prelude.{◌≡◌, ◌≤◌, ◌<◌, ◌+◌, ℕ, [], true, false, length, IfOk, IfSome, IsSome, Some, None, slice_get};
-ghost use Rattle.rept_report.specs.Timeline.{IsJoined, FallsToo, IsCut, IsStrip};
+ghost use Rattle.rept_report.specs.Timeline.{IsJoined, MayActToo, IsCut, IsStrip};
 ghost use Rattle.rept_moments.specs.Several.{seen_of};
 ghost use Rattle.rept_moments.specs.Between.{IsOwnBetween};
 ghost use Rattle.rept_timeline.specs.Times.{as_timeline};
 ghost use Rattle.rept_timeline.specs.Listed.{AreStoring, AreLinesOf};
-ghost use Rattle.rept_timeline.specs.Strips.{AreTwo, DoRowsStay, IsCrossing, IsHint, IsOther, IsOtherFalling, IsOwnQuiet, IsPart, IsLonger, IsSteady, IsStill, AreStripsBelow, AreManyStrips};
+ghost use Rattle.rept_timeline.specs.Strips.{AreTwo, DoRowsStay, IsCrossing, IsHint, IsOfOtherThread, IsOtherActing, IsOwnQuiet, IsPart, IsLonger, IsSteady, IsStill, AreStripsBelow, AreManyStrips};
 
 use crate::opening::{last_of, rest_from};
 use crate::storing::Storing;
@@ -34,45 +34,46 @@ impl Model for Strips {
 /// What was found at a number before, with which a search begins.
 #[derive(Clone, Copy)]
 pub struct Hint {
-    /// A row that fell there.
+    /// A row that might act there.
     pub row: Option<u32>,
-    /// The number, where no row fell there but those before which it lies.
+    /// The number, where no row might act there but those before which it lies.
     pub still: Option<u32>,
 }
 
 /// What is between a number and the one after it.
 #[derive(Clone, Copy)]
 pub struct Crossing {
-    /// Whether more falls than a row before which the number lies.
+    /// Whether more may act than a row before which the number lies.
     pub is_crossed: bool,
     /// What was found there, or before.
     pub hint: Hint,
 }
 
-/// Whether a row falls between a number and the one after it, and the number doesn't lie before it.
-fn does_fall(many: &Many<'_>, number: u32, row: u32) -> bool
+/// Whether a row may act between a number and the one after it, and the number doesn't lie before
+/// it.
+fn does_may_act(many: &Many<'_>, number: u32, row: u32) -> bool
     requires inside { number < (seen_of many.now).moments.end }
     requires next { (seen_of many.now).moments.next number (number + 1) ≡ true }
     requires row { IsSome ((seen_of many.now).legs.row row) }
-    ensures { result ≡ true → IsOther (as_timeline (seen_of many.now)) number row }
+    ensures { result ≡ true → IsOfOtherThread (as_timeline (seen_of many.now)) number row }
 {
     let _end = many.end();
     if many.before(row) == number {
         return false;
     }
-    many.falls(row, number, number + 1)
+    many.may_act(row, number, number + 1)
 }
 
-/// The row that fell before, if it falls here too.
-fn falling_again(many: &Many<'_>, number: u32, hint: Hint) -> Option<u32>
+/// The row that might act before, if it may act here too.
+fn acting_again(many: &Many<'_>, number: u32, hint: Hint) -> Option<u32>
     requires inside { number < (seen_of many.now).moments.end }
     requires next { (seen_of many.now).moments.next number (number + 1) ≡ true }
     requires hint { IsHint many.now hint }
-    ensures { IfSome result (λ i. IsOther (as_timeline (seen_of many.now)) number i) }
+    ensures { IfSome result (λ i. IsOfOtherThread (as_timeline (seen_of many.now)) number i) }
 {
     match hint.row {
         Some(row) => {
-            if does_fall(many, number, row) {
+            if does_may_act(many, number, row) {
                 Some(row)
             } else {
                 None
@@ -82,7 +83,7 @@ fn falling_again(many: &Many<'_>, number: u32, hint: Hint) -> Option<u32>
     }
 }
 
-/// Whether by the times no other row falls here, as none did at another number.
+/// Whether by the times no other row may act here, as none did at another number.
 fn is_still_too(storing: &Storing, many: &Many<'_>, number: u32, still: u32) -> bool
     requires listed { ∥ AreStoring many.now storing.now ∥₁ }
     requires inside { number < (seen_of many.now).moments.end }
@@ -101,7 +102,8 @@ fn is_still_too(storing: &Storing, many: &Many<'_>, number: u32, still: u32) -> 
     many.are_together(still, still + 1)
 }
 
-/// So where there is such a number.
+/// Whether by the times no other row may act here, as none did at the number of the hint, where it
+/// names one.
 fn is_still(storing: &Storing, many: &Many<'_>, number: u32, hint: Hint) -> bool
     requires listed { ∥ AreStoring many.now storing.now ∥₁ }
     requires inside { number < (seen_of many.now).moments.end }
@@ -116,13 +118,14 @@ fn is_still(storing: &Storing, many: &Many<'_>, number: u32, hint: Hint) -> bool
     }
 }
 
-/// The first row that falls between a number and the one after it, but for those before which the number lies.
+/// The first row that may act between a number and the one after it, but for those before which the
+/// number lies.
 fn first_other(storing: &Storing, many: &Many<'_>, number: u32) -> Option<u32>
     requires listed { ∥ AreStoring many.now storing.now ∥₁ }
     requires inside { number < (seen_of many.now).moments.end }
     requires next { (seen_of many.now).moments.next number (number + 1) ≡ true }
     requires apart { IsOwnBetween many.now number (number + 1) None }
-    ensures { IsOtherFalling many.now number result }
+    ensures { IsOtherActing many.now number result }
 {
     let _end = many.end();
     let _last = many.last_point();
@@ -140,15 +143,15 @@ fn first_other(storing: &Storing, many: &Many<'_>, number: u32) -> Option<u32>
 }
 
 /// One of those rows.
-fn other_falling(storing: &Storing, many: &Many<'_>, number: u32, hint: Hint) -> Option<u32>
+fn other_acting(storing: &Storing, many: &Many<'_>, number: u32, hint: Hint) -> Option<u32>
     requires listed { ∥ AreStoring many.now storing.now ∥₁ }
     requires inside { number < (seen_of many.now).moments.end }
     requires next { (seen_of many.now).moments.next number (number + 1) ≡ true }
     requires apart { IsOwnBetween many.now number (number + 1) None }
     requires hint { IsHint many.now hint }
-    ensures { IsOtherFalling many.now number result }
+    ensures { IsOtherActing many.now number result }
 {
-    match falling_again(many, number, hint) {
+    match acting_again(many, number, hint) {
         Some(row) => Some(row),
         None => {
             if is_still(storing, many, number, hint) {
@@ -159,17 +162,18 @@ fn other_falling(storing: &Storing, many: &Many<'_>, number: u32, hint: Hint) ->
     }
 }
 
-/// What is between a number and the one after it, where these aren't the moments of one row, and all that writes is told.
+/// What is between a number and the one after it, where these aren't the moments of one row, and
+/// all that writes is told.
 fn row_crossing(storing: &Storing, many: &Many<'_>, number: u32, hint: Hint) -> Crossing
     requires listed { ∥ AreStoring many.now storing.now ∥₁ }
     requires inside { number < (seen_of many.now).moments.end }
     requires next { (seen_of many.now).moments.next number (number + 1) ≡ true }
     requires apart { IsOwnBetween many.now number (number + 1) None }
-    requires light { (seen_of many.now).moments.dark number (number + 1) ≡ false }
+    requires light { (seen_of many.now).moments.untraced number (number + 1) ≡ false }
     requires hint { IsHint many.now hint }
     ensures { IsCrossing many.now number result }
 {
-    match other_falling(storing, many, number, hint) {
+    match other_acting(storing, many, number, hint) {
         Some(row) => Crossing {
             is_crossed: true,
             hint: Hint {
@@ -202,7 +206,7 @@ fn crossing_at(storing: &Storing, many: &Many<'_>, number: u32, hint: Hint) -> C
             hint,
         },
         None => {
-            if many.is_dark_between(number, number + 1) {
+            if many.is_untraced_between(number, number + 1) {
                 return Crossing {
                     is_crossed: true,
                     hint,
@@ -223,7 +227,7 @@ fn does_own_store(many: &Many<'_>, number: u32) -> bool
     }
 }
 
-/// Whether by the times all rows that fall at the pause stay until a later number.
+/// Whether by the times all rows that may act at the pause stay until a later number.
 fn is_steady(many: &Many<'_>, pause: u32, number: u32) -> bool
     requires two { AreTwo many.now pause number }
     ensures { result ≡ true → IsSteady many.now pause number }
@@ -238,12 +242,12 @@ fn is_steady(many: &Many<'_>, pause: u32, number: u32) -> bool
     many.are_together(pause, pause + 1)
 }
 
-/// Whether no row that falls at the pause lies wholly before a later number.
+/// Whether no row that may act at the pause lies wholly before a later number.
 fn do_rows_stay(storing: &Storing, many: &Many<'_>, pause: u32, number: u32) -> bool
     requires listed { ∥ AreStoring many.now storing.now ∥₁ }
     requires two { AreTwo many.now pause number }
     ensures yes { result ≡ true → DoRowsStay (as_timeline (seen_of many.now)) pause number }
-    ensures no { result ≡ false → FallsToo (as_timeline (seen_of many.now)) pause number → ⊥ }
+    ensures no { result ≡ false → MayActToo (as_timeline (seen_of many.now)) pause number → ⊥ }
 {
     let _end = many.end();
     if is_steady(many, pause, number) {
@@ -262,38 +266,40 @@ fn do_rows_stay(storing: &Storing, many: &Many<'_>, pause: u32, number: u32) -> 
     }
 }
 
-/// Whether writers that aren't told fall between a later number and the one after it, if they do at the pause.
-fn does_dark_stay(many: &Many<'_>, pause: u32, number: u32) -> bool
+/// Whether writers that aren't told may act between a later number and the one after it, if they do
+/// at the pause.
+fn does_untraced_stay(many: &Many<'_>, pause: u32, number: u32) -> bool
     requires two { AreTwo many.now pause number }
-    ensures yes { result ≡ true → (seen_of many.now).moments.dark pause (pause + 1) ≡ true → (seen_of many.now).moments.dark number (number + 1) ≡ true }
-    ensures no { result ≡ false → FallsToo (as_timeline (seen_of many.now)) pause number → ⊥ }
+    ensures yes { result ≡ true → (seen_of many.now).moments.untraced pause (pause + 1) ≡ true → (seen_of many.now).moments.untraced number (number + 1) ≡ true }
+    ensures no { result ≡ false → MayActToo (as_timeline (seen_of many.now)) pause number → ⊥ }
 {
     let _end = many.end();
-    if many.is_dark_between(pause, pause + 1) {
-        many.is_dark_between(number, number + 1)
+    if many.is_untraced_between(pause, pause + 1) {
+        many.is_untraced_between(number, number + 1)
     } else {
         true
     }
 }
 
-/// Whether all that falls at the pause falls between a later number and the one after it.
+/// Whether all that may act at the pause may act between a later number and the one after it.
 fn stays(storing: &Storing, many: &Many<'_>, pause: u32, number: u32) -> bool
     requires listed { ∥ AreStoring many.now storing.now ∥₁ }
     requires two { AreTwo many.now pause number }
-    ensures yes { result ≡ true → FallsToo (as_timeline (seen_of many.now)) pause number }
-    ensures no { result ≡ false → FallsToo (as_timeline (seen_of many.now)) pause number → ⊥ }
+    ensures yes { result ≡ true → MayActToo (as_timeline (seen_of many.now)) pause number }
+    ensures no { result ≡ false → MayActToo (as_timeline (seen_of many.now)) pause number → ⊥ }
 {
-    if !does_dark_stay(many, pause, number) {
+    if !does_untraced_stay(many, pause, number) {
         return false;
     }
     do_rows_stay(storing, many, pause, number)
 }
 
-/// So where there is a pause.
+/// Whether all that may act at the pause, if there is one, may act between a later number and the
+/// one after it.
 fn stays_if(storing: &Storing, many: &Many<'_>, pause: Option<u32>, number: u32) -> bool
     requires listed { ∥ AreStoring many.now storing.now ∥₁ }
     requires two { (p : ℕ) → pause ≡ Some p → AreTwo many.now p number }
-    ensures yes { result ≡ true → (p : ℕ) → pause ≡ Some p → FallsToo (as_timeline (seen_of many.now)) p number }
+    ensures yes { result ≡ true → (p : ℕ) → pause ≡ Some p → MayActToo (as_timeline (seen_of many.now)) p number }
     ensures no { result ≡ false → IsCut (as_timeline (seen_of many.now)) pause number }
 {
     match pause {

@@ -1,8 +1,9 @@
--- Which packet the bits of a payload spell: Efficient Trace for RISC-V 2.0, the chapter on the encoder's output
--- packets, its tables of formats 3 (start, context, support), 2 (address) and 1 (branch map). The widths of time and context
--- and the lowest bits that addresses leave out are parameters, and the other parameters are fixed: addresses of 32 bits, privilege of
--- 2 bits, an encoder mode of 1 bit and 5 bits of options, and no return stack, call counter, jump cache, branch prediction or
--- sequentially inferred jump. Fields are numbered by their first bit.
+-- Which packet the bits of a payload spell: Efficient Trace for RISC-V 2.0, the chapter on the
+-- encoder's output packets, its tables of formats 3 (start, context, support), 2 (address) and 1
+-- (branch map). The widths of time and context and the lowest bits that addresses leave out are
+-- parameters, and the other parameters are fixed: addresses of 32 bits, privilege of 2 bits, an
+-- encoder mode of 1 bit and 5 bits of options, and no return stack, call counter, jump cache,
+-- branch prediction or sequentially inferred jump. Fields are numbered by their first bit.
 use Rattle.std.specs.Prelude.{◌≡◌, ◌≢◌, ℕ, ◌+◌, ◌-◌, ◌*◌, ◌^◌, ◌<◌, nat_lt, List, Bool, not, Result, Ok, Err, if◌then◌else◌, ◌⊎◌}
 use Rattle.rept_trace.specs.declared.parameters.Parameters.{Parameters}
 use Rattle.rept_trace.specs.declared.packet.Report.{Report}
@@ -41,7 +42,8 @@ pub record StartFields : Type 0 where
   pub stamp : Stamp
   pub address : ℕ
 
--- the lowest bits of an address that aren't sent, since they are 0 (`iaddress_lsb_p`): with compressed code one, else two
+-- the lowest bits of an address that aren't sent, since they are 0 (`iaddress_lsb_p`): with
+-- compressed code one, else two
 abbrev pub address_lsb : Parameters → ℕ
 address_lsb widths = if widths.halves then 1 else 2
 

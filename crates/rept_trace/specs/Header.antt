@@ -1,5 +1,5 @@
--- The first eight bytes of a trace file: the text RTR and a digit, the count of streams, 1 where code may be compressed or else 0, and two zero
--- bytes. This project's own.
+-- The first eight bytes of a trace file: the text RTR and a digit, the count of streams, 1 where
+-- code may be compressed or else 0, and two zero bytes. This project's own.
 use Rattle.std.specs.Prelude.{◌≡◌, ℕ, ◌<◌, ◌≤◌, ◌==◌, ◌&&◌, nat_lt, nat_le, List, [], ◌∷◌, ◌++◌, length, slice_index, Bool, true, false, if◌then◌else◌, ◌⊎◌}
 use Rattle.rept_trace.specs.declared.header.Container.{Container}
 use Rattle.rept_trace.specs.declared.header.Heading.{Heading}
@@ -40,7 +40,8 @@ pub record HasHeader (container : Container) (bytes : List ℕ) (said : Heading)
   pub few : said.count ≤ container.most
   pub layout : bytes ≡ header_bytes container said ++ rest
 
--- The bytes don't begin with a header, and this is why: they are too few or begin with another text, or a later byte is the first that is wrong.
+-- The bytes don't begin with a header, and this is why: they are too few or begin with another
+-- text, or a later byte is the first that is wrong.
 abbrev pub IsHeaderFault : Container → List ℕ → TraceFault → Type 0
 IsHeaderFault container bytes BadMagic = (length bytes < 8) ⊎ ((i : ℕ) × (i < 4) × IsWrongByte container bytes i)
 IsHeaderFault container bytes (BadHeader i) = (4 ≤ i) × IsWrongByte container bytes i

@@ -1,4 +1,5 @@
--- The streams of the bytes of a trace file after its header, by their lengths alone. This project's own.
+-- The streams of the bytes of a trace file after its header, by their lengths alone. This project's
+-- own.
 use Rattle.std.specs.Prelude.{ℕ, zero, suc, List, [], ◌∷◌, take, drop}
 use Rattle.byteorder.specs.Endian.{little_number}
 

@@ -1,6 +1,6 @@
--- A trace file of one stream: a header of eight bytes, and then for each packet a length byte and so many bytes of payload. A
--- length of 0 is skipped and is no packet. The lengths are this project's own; what a payload spells
--- is Efficient Trace's, in Grammar.
+-- A trace file of one stream: a header of eight bytes, and then for each packet a length byte and
+-- so many bytes of payload. A length of 0 is skipped and is no packet. The lengths are this
+-- project's own; what a payload spells is Efficient Trace's, in Grammar.
 use Rattle.std.specs.Prelude.{◌≡◌, ℕ, ◌+◌, ◌<◌, List, [], ◌∷◌, ◌++◌, length, replicate, Bool, Option, Some, None, Result, Ok, Err}
 use Rattle.rept_trace.specs.declared.packet.Packet.{Packet}
 use Rattle.rept_trace.specs.declared.fault.TraceFault.{TraceFault}
@@ -18,7 +18,8 @@ pub record Stream : Type 0 where
 abbrev pub plain : Bool → List ℕ → Stream
 plain halves bytes = record { widths = untimed halves; bytes = bytes }
 
--- the header of a file of one stream: the text RTR1, the count 1, whether code may be compressed, and two zero bytes
+-- the header of a file of one stream: the text RTR1, the count 1, whether code may be compressed,
+-- and two zero bytes
 abbrev pub header : Bool → List ℕ
 header halves = header_bytes one_stream (heading_of 1 halves)
 
@@ -54,8 +55,8 @@ FailsNext number stream (Rest offset) = ⊥
 abbrev pub Begins : Stream → Packet → Stream → Type 0
 Begins stream packet rest = (payload : List ℕ) × IsFrame stream.bytes payload rest.bytes × IsPacket stream.widths payload packet × (rest.widths ≡ stream.widths)
 
--- What is answered where packet `number` comes next in this stream, which number comes after, and what is left.
--- The end and a fault change nothing.
+-- What is answered where packet `number` comes next in this stream, which number comes after, and
+-- what is left. The end and a fault change nothing.
 abbrev pub AnswersNext : ℕ → Stream → Result (Option Packet) TraceFault → ℕ → Stream → Type 0
 AnswersNext number stream (Ok None) next rest = IsStreamEnded stream.bytes × (next ≡ number) × (rest ≡ stream)
 AnswersNext number stream (Ok (Some packet)) next rest = Begins stream packet rest × (next ≡ number + 1)
@@ -66,7 +67,8 @@ abbrev pub Hold : Stream → List Packet → Type 0
 Hold stream [] = IsStreamEnded stream.bytes
 Hold stream (packet ∷ packets) = (rest : Stream) × Begins stream packet rest × Hold rest packets
 
--- The stream begins with these packets, and then comes this fault. The first packet has this number.
+-- The stream begins with these packets, and then comes this fault. The first packet has this
+-- number.
 abbrev pub FailsAfter : ℕ → Stream → List Packet → TraceFault → Type 0
 FailsAfter number stream [] fault = FailsNext number stream fault
 FailsAfter number stream (packet ∷ packets) fault = (rest : Stream) × Begins stream packet rest × FailsAfter (number + 1) rest packets fault

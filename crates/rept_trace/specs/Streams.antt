@@ -1,5 +1,5 @@
--- A trace file of several streams of packets, one of each hart: a header of eight bytes; then for each stream its length in 32 bits, the low byte first,
--- and so many bytes. This project's own.
+-- A trace file of several streams of packets, one of each hart: a header of eight bytes; then for
+-- each stream its length in 32 bits, the low byte first, and so many bytes. This project's own.
 use Rattle.std.specs.Prelude.{◌≡◌, ℕ, ◌+◌, ◌<◌, ◌≤◌, List, [], ◌∷◌, ◌++◌, length, drop, Bool, Result, Ok, Err, ◌⊎◌}
 use Rattle.byteorder.specs.Endian.{little_number}
 use Rattle.rept_trace.specs.declared.fault.TraceFault.{TraceFault}

@@ -1,4 +1,5 @@
-//! The packets of an instruction trace, by Efficient Trace for RISC-V 2.0 with one fixed set of encoder parameters.
+//! The packets of an instruction trace, by Efficient Trace for RISC-V 2.0 with one fixed set of
+//! encoder parameters.
 #![tactic(auto)]
 
 pub mod fault;

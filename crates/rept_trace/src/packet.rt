@@ -1,18 +1,20 @@
 //! The packets, and their fields.
 
-/// The address that formats 1 and 2 report, with its flags (Efficient Trace for RISC-V 2.0, formats 1 and 2).
+/// The address that formats 1 and 2 report, with its flags (Efficient Trace for RISC-V 2.0, formats
+/// 1 and 2).
 #[derive(Clone, Copy)]
 pub struct Report {
-    /// The reported address less the one before, modulo 2^32, in bytes. It is a multiple of 4, or of 2 where code may be
-    /// compressed.
+    /// The reported address less the one before, modulo 2^32, in bytes. It is a multiple of 4, or
+    /// of 2 where code may be compressed.
     pub difference: u32,
-    /// Whether the bit `notify` differs from the highest bit of the difference: the address is reported because a notification
-    /// was asked for there.
+    /// Whether the bit `notify` differs from the highest bit of the difference: the address is
+    /// reported because a notification was asked for there.
     pub notify: bool,
-    /// Whether the bit `updiscon` differs from `notify`: the address is where an uninferable jump led, and a packet of format 3
-    /// follows.
+    /// Whether the bit `updiscon` differs from `notify`: the address is where an uninferable jump
+    /// led, and a packet of format 3 follows.
     pub updiscon: bool,
-    /// Whether the bit `irreport` differs from `updiscon`. It concerns implicit returns, which the fixed parameters leave out.
+    /// Whether the bit `irreport` differs from `updiscon`. It concerns implicit returns, which the
+    /// fixed parameters leave out.
     pub irreport: bool,
 }
 
@@ -32,9 +34,10 @@ pub enum Qual {
 /// A packet. Addresses are byte addresses.
 #[derive(Clone, Copy)]
 pub enum Packet {
-    /// Format 3, subformat 0: the path begins, or is synchronised, at this address. `branch` is false only where a branch
-    /// stands there that is taken. The steps before the address happened not after the time, those from it on not before; the context is the
-    /// process of the thread. Both are 0 where the trace has none.
+    /// Format 3, subformat 0: the path begins, or is synchronised, at this address. `branch` is
+    /// false only where a branch stands there that is taken. The steps before the address happened
+    /// not after the time, those from it on not before; the context is the process of the thread.
+    /// Both are 0 where the trace has none.
     Start {
         branch: bool,
         privilege: u8,
@@ -42,8 +45,8 @@ pub enum Packet {
         time: u64,
         context: u32,
     },
-    /// Format 3, subformat 2: the privilege level or the context changed. The steps before the packet happened not after the time. Time and context are 0
-    /// where the trace has none.
+    /// Format 3, subformat 2: the privilege level or the context changed. The steps before the
+    /// packet happened not after the time. Time and context are 0 where the trace has none.
     Context {
         privilege: u8,
         time: u64,
@@ -58,11 +61,13 @@ pub enum Packet {
     Address {
         report: Report,
     },
-    /// Format 1 with no branch count: 31 branches and no address. Bit 0 of the map is the oldest, and 0 says taken.
+    /// Format 1 with no branch count: 31 branches and no address. Bit 0 of the map is the oldest,
+    /// and 0 says taken.
     Map {
         map: u32,
     },
-    /// Format 1 with a count from 1 to 31: the low `count` bits of the map are branches, bit 0 the oldest, and 0 says taken.
+    /// Format 1 with a count from 1 to 31: the low `count` bits of the map are branches, bit 0 the
+    /// oldest, and 0 says taken.
     MapAddress {
         count: u8,
         map: u32,

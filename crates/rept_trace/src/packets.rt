@@ -9,7 +9,8 @@ use crate::packet::Packet;
 use crate::parameters::{Parameters, timed, untimed};
 use crate::read::packet_of;
 
-/// The packets of a trace that are left to read. It is `Copy`, so a trace may be read again from any place.
+/// The packets of a trace that are left to read. It is `Copy`, so a trace may be read again from
+/// any place.
 #[derive(Clone, Copy)]
 pub struct Packets<'a> {
     rest: &'a [u8],
@@ -30,9 +31,10 @@ impl<'a> Packets<'a> {
     ghost use Rattle.rept_trace.specs.Header.{one_stream, IsHeaderFault};
     ghost use Rattle.rept_trace.specs.Stream.{header, plain, AnswersNext, Hold, FailsAfter, Stream};
 
-    /// The packets of a trace file, from its first on. The file begins with `RTR1`, the count 1 of its streams, 1 where code may
-    /// be compressed or else 0, and two zero bytes, and then has, for each packet, a length byte and so many bytes of payload.
-    /// `BadMagic` and `BadHeader` are the only refusals.
+    /// The packets of a trace file, from its first on. The file begins with `RTR1`, the count 1 of
+    /// its streams, 1 where code may be compressed or else 0, and two zero bytes, and then has, for
+    /// each packet, a length byte and so many bytes of payload. `BadMagic` and `BadHeader` are the
+    /// only refusals.
     pub fn open(bytes: &'a [u8]) -> Result<Packets<'a>, TraceFault>
         ensures ok { IfOk result (λ packets. (halves : Bool) ×
             (bytes.now ≡ header halves ++ (rest_of packets).bytes) × (rest_of packets ≡ plain halves (rest_of packets).bytes) × (number_of packets ≡ 0)) }
@@ -48,7 +50,8 @@ impl<'a> Packets<'a> {
         })
     }
 
-    /// Whether byte 5 of the header is 1: code may be compressed, and addresses are multiples of 2. Else they are multiples of 4.
+    /// Whether byte 5 of the header is 1: code may be compressed, and addresses are multiples of 2.
+    /// Else they are multiples of 4.
     pub fn halves(&self) -> bool
         ensures { result ≡ (rest_of self.now).widths.halves }
     {
@@ -67,8 +70,9 @@ impl<'a> Packets<'a> {
         }
     }
 
-    /// The next packet. `None` comes exactly at the end of the bytes, and a fault exactly where the next packet has it.
-    /// Neither changes anything, so the same is answered again. No memory is taken.
+    /// The next packet. `None` comes exactly at the end of the bytes, and a fault exactly where the
+    /// next packet has it. Neither changes anything, so the same is answered again. No memory is
+    /// taken.
     pub fn next(&mut self) -> Result<Option<Packet>, TraceFault>
         ensures answer { AnswersNext (number_of self.old) (rest_of self.old) result
             (number_of self.new) (rest_of self.new) }
@@ -88,8 +92,9 @@ impl<'a> Packets<'a> {
         self.advance()
     }
 
-    /// How many packets are left, or the first fault among them. It goes through the bytes to the end and takes no memory, so
-    /// a caller that keeps packets may ask first whether all of them are whole.
+    /// How many packets are left, or the first fault among them. It goes through the bytes to the
+    /// end and takes no memory, so a caller that keeps packets may ask first whether all of them
+    /// are whole.
     pub fn count(self) -> Result<u64, TraceFault>
         ensures ok { IfOk result (λ count. (packets : List Packet) ×
             Hold (rest_of self.entry) packets × (count ≡ length packets)) }

@@ -132,7 +132,8 @@ fn address(cursor: &mut BitCursor<'_>, widths: Parameters) -> u32
     cursor.take(30) as u32 * 4
 }
 
-/// A difference with its three flags, each of which says something where it differs from the bit before it.
+/// A difference with its three flags, each of which says something where it differs from the bit
+/// before it.
 fn report(cursor: &mut BitCursor<'_>, widths: Parameters) -> Report
     ensures { (payload : List ℕ) (i : ℕ) → IsAt cursor.old payload i → IsReportAt widths payload i result }
 {

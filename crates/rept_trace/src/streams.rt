@@ -12,8 +12,9 @@ use std::marker::Model;
 /// The bytes of a stream's length.
 const LENGTH: usize = 4;
 
-/// A trace file of several streams of packets, one of each hart, that are all in the file whole. Streams are numbered from 0. Contracts see the list of the streams, each as its bytes,
-/// and whether code may be compressed.
+/// A trace file of several streams of packets, one of each hart, that are all in the file whole.
+/// Streams are numbered from 0. Contracts see the list of the streams, each as its bytes, and
+/// whether code may be compressed.
 #[derive(Drop)]
 pub struct Streams<'a> {
     count: u32,
@@ -40,9 +41,11 @@ impl<'a> Streams<'a> {
     ghost use Rattle.rept_trace.specs.Packets.{rest_of, number_of};
     ghost use Rattle.rept_trace.specs.Streams.{StreamFile, OpensStreams};
 
-    /// The streams of a trace file. The file begins with `RTR2`, the count of its streams, 1 to 64, 1 where code may be compressed or else 0, and two zero bytes, and then has, for each stream, its
-    /// length in 32 bits and so many bytes of packets. The refusals are, in this order, `BadMagic`, `BadHeader`, `StreamPastEnd` of the first
-    /// stream that isn't whole, and `Rest`. The packets aren't looked at: a stream of no bytes is a stream. No memory is taken.
+    /// The streams of a trace file. The file begins with `RTR2`, the count of its streams, 1 to 64,
+    /// 1 where code may be compressed or else 0, and two zero bytes, and then has, for each stream,
+    /// its length in 32 bits and so many bytes of packets. The refusals are, in this order,
+    /// `BadMagic`, `BadHeader`, `StreamPastEnd` of the first stream that isn't whole, and `Rest`.
+    /// The packets aren't looked at: a stream of no bytes is a stream. No memory is taken.
     pub fn open(bytes: &'a [u8]) -> Result<Streams<'a>, TraceFault>
         ensures opens { OpensStreams bytes.now result }
 
@@ -59,7 +62,8 @@ impl<'a> Streams<'a> {
         self.count
     }
 
-    /// The packets of the stream of this number, from its first on, with their times and contexts. `halves` of each answers the same: whether byte 5 of the header is 1.
+    /// The packets of the stream of this number, from its first on, with their times and contexts.
+    /// `halves` of each answers the same: whether byte 5 of the header is 1.
     pub fn packets(&self, s: u32) -> Packets<'a>
         requires { s < length self.now.streams }
         ensures bytes { slice_get self.now.streams s ≡ Some (rest_of result).bytes }

@@ -6,7 +6,7 @@ use Rattle.rept_machine.proofs.StepLaws.{written_by_registers}
 use Rattle.rept_steps.specs.Course.{Course, Row, IsRow, row_at, IsSoundCourse}
 use Rattle.rept_order.specs.Moments.{IsMoment, Act, IsAct, WhollyBefore, WhollyAfter}
 use Rattle.rept_order.specs.Moments.Moment.{before, after}
-use Rattle.rept_order.specs.Moments.Act.{row, dark}
+use Rattle.rept_order.specs.Moments.Act.{row, untraced}
 use Rattle.rept_order.specs.History.{History, Ending, tick, state_at}
 use Rattle.rept_order.specs.Points.{thread_registers}
 use Rattle.rept_order.specs.Legs.{Point, number_of, registers_on}
@@ -54,8 +54,8 @@ module _ {W : Type 0} (t : Trip W) (h : History) (sound : IsSoundCourse t.course
   abbrev run : Run
   run = run_on t.course h
 
-  told : IsTold C (seen_by C (alone_by C.threads C.dark)) (last_by C (alone_by C.threads C.dark))
-  told = told_by C sound (alone_by C.threads C.dark) refl
+  told : IsTold C (seen_by C (alone_by C.threads C.untraced)) (last_by C (alone_by C.threads C.untraced))
+  told = told_by C sound (alone_by C.threads C.untraced) refl
 
   before_leg : (r : Row) → IsRow C r → registers_on C h (leg_of C r) ≡ (h.world (tick C h (before r))).register r.thread
   before_leg r is = ap (λ (y : Point). thread_registers C h y.thread y.number) (point_number C r.thread r.step (thread_inside C r is) (omega arith)) ∙ registers_before C D h x r.thread r.step is
@@ -116,9 +116,9 @@ module _ {W : Type 0} (t : Trip W) (h : History) (sound : IsSoundCourse t.course
         let less = acts_before C D h x (row r) k (before (row_on C j)) inside by its way in
         absurd (omega arith)
 
-    early_dark : (j k : ℕ) → IsAct C dark → IsRow C (row_on C j) → tick C h (before (row_on C j)) ≤ k → k < h.ticks → By (h.happening k) dark → S.moments.dark_before j ≡ true → ⊥
-    early_dark j k is its from inside by first =
-        let less = acts_before C D h x dark k (before (row_on C j)) inside by its (told.dark_before j is its first) in
+    early_untraced : (j k : ℕ) → IsAct C untraced → IsRow C (row_on C j) → tick C h (before (row_on C j)) ≤ k → k < h.ticks → By (h.happening k) untraced → S.moments.untraced_before j ≡ true → ⊥
+    early_untraced j k is its from inside by first =
+        let less = acts_before C D h x untraced k (before (row_on C j)) inside by its (told.untraced_before j is its first) in
         absurd (omega arith)
 
     -- nothing writes since a row
@@ -133,19 +133,19 @@ module _ {W : Type 0} (t : Trip W) (h : History) (sound : IsSoundCourse t.course
               | inr (inl later) ↦ early_row r j k is its from inside by later
               | inr (inr ahead) ↦ late_row r k is to inside by ahead
             ]
-        each dark k out from to inside by writes =
-            let is = act_is C D h x dark k inside by in
-            early_dark j k is its from inside by (none.dark (told.is_dark is))
+        each untraced k out from to inside by writes =
+            let is = act_is C D h x untraced k inside by in
+            early_untraced j k is its from inside by (none.untraced (told.is_untraced is))
 
     -- nothing writes before the moment
-    never : S.moments.is_dark ≡ false → ((k : ℕ) → StepWrites S run k a → S.moments.ahead k m ≡ true) → order.NoneWrites C D h (spot_on C m a) 0 (λ act. ⊥)
+    never : S.moments.is_untraced ≡ false → ((k : ℕ) → StepWrites S run k a → S.moments.ahead k m ≡ true) → order.NoneWrites C D h (spot_on C m a) 0 (λ act. ⊥)
     never light none = record { none = λ act k out from to inside by writes. each act k to inside by writes }
       where
         each : (act : Act) (k : ℕ) → k < tick C h (last_on C m) → k < h.ticks → By (h.happening k) act → ActWrites C D h act a → ⊥
         each (row r) k to inside by writes =
             let is = act_is C D h x (row r) k inside by in
             late_row r k is to inside by (none (leg_of C r) (row_step r a is writes))
-        each dark k to inside by writes = false≢true (sym light ∙ told.is_dark (act_is C D h x dark k inside by))
+        each untraced k to inside by writes = false≢true (sym light ∙ told.is_untraced (act_is C D h x untraced k inside by))
 
     -- a row that writes, and lies wholly before the moment, is over then
     over : (j : ℕ) → IsRow C (row_on C j) → RowWrites C D h (row_on C j) a → S.moments.past j m ≡ true → tick C h (after (row_on C j)) ≤ tick C h (last_on C m)

@@ -79,9 +79,9 @@ module _ {W : Type 0} (S : Setting W) (K : Knowledge) (x : Spot) (legs : AreLegs
 
   last_true : (j : ℕ) → is_last S K x j ≡ true → IsLastCandidate S K x j
   last_true j e =
-      let one = and_parts (is_candidate S K x j) ((not S.moments.is_dark || S.moments.dark_before j) && all_below (is_behind j) S.legs.count) e in
-      let two = and_parts (not S.moments.is_dark || S.moments.dark_before j) (all_below (is_behind j) S.legs.count) one.1 in
-      record { one = candidate_true j one.0; after = λ k its other. after_by k its other (all_true (is_behind j) S.legs.count two.1 k (may_below k its.may)); dark = dark_by two.0 }
+      let one = and_parts (is_candidate S K x j) ((not S.moments.is_untraced || S.moments.untraced_before j) && all_below (is_behind j) S.legs.count) e in
+      let two = and_parts (not S.moments.is_untraced || S.moments.untraced_before j) (all_below (is_behind j) S.legs.count) one.1 in
+      record { one = candidate_true j one.0; after = λ k its other. after_by k its other (all_true (is_behind j) S.legs.count two.1 k (may_below k its.may)); untraced = untraced_by two.0 }
     where
       after_from : (k : ℕ) → comes_after S.moments j k ≡ true → IsEarlierRow S.moments k j
       after_from k e = let parts = and_parts (S.moments.later j k) (not (S.moments.later k j)) e in record { later = parts.0; apart = not-true (S.moments.later k j) parts.1 }
@@ -97,22 +97,22 @@ module _ {W : Type 0} (S : Setting W) (K : Knowledge) (x : Spot) (legs : AreLegs
                 ]
           ]
 
-      dark_by : (not S.moments.is_dark || S.moments.dark_before j) ≡ true → S.moments.is_dark ≡ true → S.moments.dark_before j ≡ true
-      dark_by e dark =
-          elim (or_cases (not S.moments.is_dark) (S.moments.dark_before j) e) [
-            | inl light ↦ absurd (true_not S.moments.is_dark light dark)
+      untraced_by : (not S.moments.is_untraced || S.moments.untraced_before j) ≡ true → S.moments.is_untraced ≡ true → S.moments.untraced_before j ≡ true
+      untraced_by e untraced =
+          elim (or_cases (not S.moments.is_untraced) (S.moments.untraced_before j) e) [
+            | inl light ↦ absurd (true_not S.moments.is_untraced light untraced)
             | inr before ↦ before
           ]
 
   last_from : (j : ℕ) → IsLastCandidate S K x j → is_last S K x j ≡ true
   last_from j h =
-      and_from (is_candidate S K x j) ((not S.moments.is_dark || S.moments.dark_before j) && all_below (is_behind j) S.legs.count) (candidate_from j h.one)
-      (and_from (not S.moments.is_dark || S.moments.dark_before j) (all_below (is_behind j) S.legs.count) (dark_by S.moments.is_dark refl)
+      and_from (is_candidate S K x j) ((not S.moments.is_untraced || S.moments.untraced_before j) && all_below (is_behind j) S.legs.count) (candidate_from j h.one)
+      (and_from (not S.moments.is_untraced || S.moments.untraced_before j) (all_below (is_behind j) S.legs.count) (untraced_by S.moments.is_untraced refl)
       (all_from (is_behind j) S.legs.count (λ k less. behind k (is_candidate S K x k) refl)))
     where
-      dark_by : (b : Bool) → S.moments.is_dark ≡ b → (not S.moments.is_dark || S.moments.dark_before j) ≡ true
-      dark_by true dark = or_right (not S.moments.is_dark) (S.moments.dark_before j) (h.dark dark)
-      dark_by false light = or_left (not S.moments.is_dark) (S.moments.dark_before j) (not_from_false S.moments.is_dark light)
+      untraced_by : (b : Bool) → S.moments.is_untraced ≡ b → (not S.moments.is_untraced || S.moments.untraced_before j) ≡ true
+      untraced_by true untraced = or_right (not S.moments.is_untraced) (S.moments.untraced_before j) (h.untraced untraced)
+      untraced_by false light = or_left (not S.moments.is_untraced) (S.moments.untraced_before j) (not_from_false S.moments.is_untraced light)
 
       behind : (k : ℕ) (b : Bool) → is_candidate S K x k ≡ b → is_behind j k ≡ true
       behind k false none = or_right (eqb k j) (not (is_candidate S K x k) || comes_after S.moments j k) (or_left (not (is_candidate S K x k)) (comes_after S.moments j k) (not_from_false (is_candidate S K x k) none))
@@ -126,15 +126,15 @@ module _ {W : Type 0} (S : Setting W) (K : Knowledge) (x : Spot) (legs : AreLegs
 
   none_true : has_none S K x ≡ true → HasNoCandidate S K x
   none_true e =
-      let parts = and_parts (not S.moments.is_dark) (all_below (λ k. not (is_candidate S K x k)) S.legs.count) e in
+      let parts = and_parts (not S.moments.is_untraced) (all_below (λ k. not (is_candidate S K x k)) S.legs.count) e in
       record {
         rows = λ k its. true_not (is_candidate S K x k) (all_true (λ k. not (is_candidate S K x k)) S.legs.count parts.1 k (may_below k its.may)) (candidate_from k its);
-        light = not-true S.moments.is_dark parts.0;
+        light = not-true S.moments.is_untraced parts.0;
       }
 
   none_from : HasNoCandidate S K x → has_none S K x ≡ true
   none_from h =
-      and_from (not S.moments.is_dark) (all_below (λ k. not (is_candidate S K x k)) S.legs.count) (not_from_false S.moments.is_dark h.light)
+      and_from (not S.moments.is_untraced) (all_below (λ k. not (is_candidate S K x k)) S.legs.count) (not_from_false S.moments.is_untraced h.light)
       (all_from (λ k. not (is_candidate S K x k)) S.legs.count (λ k less. not_from_false (is_candidate S K x k) (false_from_ne_true (is_candidate S K x k) (λ its. h.rows k (candidate_true k its)))))
 
   by_certain : (j : ℕ) → IsLastCandidate S K x j → (b : Bool) → is_certain S K x j ≡ b → IsWriter S K x (cond b (writers.TheVariants.Writes j) (writers.TheVariants.MayWrite j))

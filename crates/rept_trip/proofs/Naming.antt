@@ -17,7 +17,7 @@ use Rattle.rept_trip.proofs.Pointing.{moment_inside, moment_last}
 
 module _ (C : Course) (sound : IsSoundCourse C) where
   -- the first thread, if it is the only one, ends by the last point
-  count_by : (o : Option (List StepRow)) → alone_by C.threads C.dark ≡ o → length C.threads ≡ 1 → length (rows_of C 0) ≤ (seen_by C o).legs.count
+  count_by : (o : Option (List StepRow)) → alone_by C.threads C.untraced ≡ o → length C.threads ≡ 1 → length (rows_of C 0) ≤ (seen_by C o).legs.count
   count_by (Some rows) e one = let all = count_is C rows e in omega arith
   count_by None e one =
       let some : 0 < length C.threads = omega arith in
@@ -26,7 +26,7 @@ module _ (C : Course) (sound : IsSoundCourse C) where
       omega arith
 
   end_named : (b : Bool) → (length C.threads == 1) ≡ b → moment_named C (if b then point_named 0 (seen C).legs.count else record { thread = 0; place = places.End }) ≡ at_end
-  end_named true e = moment_last C 0 (seen C).legs.count (count_by (alone_by C.threads C.dark) refl (eqb-true (length C.threads) 1 e))
+  end_named true e = moment_last C 0 (seen C).legs.count (count_by (alone_by C.threads C.untraced) refl (eqb-true (length C.threads) 1 e))
   end_named false e = refl
 
   named : (x : Moment) → IsMoment C x → moment_named C (named_on C x) ≡ x
@@ -35,4 +35,4 @@ module _ (C : Course) (sound : IsSoundCourse C) where
   named at_end is = end_named (length C.threads == 1) refl
 
   pub place_named : (m : ℕ) → m ≤ (seen C).moments.end → moment_named C (place_on C m) ≡ last_on C m
-  place_named m few = named (last_on C m) ((told_by C sound (alone_by C.threads C.dark) refl).moment m few)
+  place_named m few = named (last_on C m) ((told_by C sound (alone_by C.threads C.untraced) refl).moment m few)

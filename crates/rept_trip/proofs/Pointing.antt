@@ -65,7 +65,7 @@ module _ (C : Course) (sound : IsSoundCourse C) where
             record { within = omega arith; moment = ap (numbers_of C).last at ∙ last_end C sound (numbers_of C) names ∙ sym (moment_last C t p past) }
       ]
 
-  module _ (rows : List StepRow) (e : alone_by C.threads C.dark ≡ Some rows) where
+  module _ (rows : List StepRow) (e : alone_by C.threads C.untraced ≡ Some rows) where
     at_first : (p : ℕ) → p ≤ length rows → IsAtPoint C (Some rows) 0 p (moment_in (seen_by C (Some rows)) (number_of C 0 p))
     at_first p few =
         let at : moment_in (seen_by C (Some rows)) (number_of C 0 p) ≡ p = ap (moment_in (seen_alone rows)) (zero-add p) ∙ moment_alone rows p few in
@@ -86,12 +86,12 @@ module _ (C : Course) (sound : IsSoundCourse C) where
         let early : p ≤ length (rows_of C 0) = subst (λ (k : ℕ). p ≤ length (rows_of C k)) (sym first) few in
         subst (λ (k : ℕ). IsAtPoint C (Some rows) k p (moment_in (seen_by C (Some rows)) (number_of C k p))) first (at_first p (omega arith))
 
-  at_by : (o : Option (List StepRow)) → alone_by C.threads C.dark ≡ o → (t p : ℕ) → t < length C.threads → p ≤ length (rows_of C t) → IsAtPoint C o t p (moment_in (seen_by C o) (number_of C t p))
+  at_by : (o : Option (List StepRow)) → alone_by C.threads C.untraced ≡ o → (t p : ℕ) → t < length C.threads → p ≤ length (rows_of C t) → IsAtPoint C o t p (moment_in (seen_by C o) (number_of C t p))
   at_by (Some rows) e t p below few = at_single rows e t p below few
   at_by None e t p below few = at_many t p below few
 
-  pub at_point : (t p : ℕ) → t < length C.threads → p ≤ length (rows_of C t) → IsAtPoint C (alone_by C.threads C.dark) t p (moment_in (seen C) (number_of C t p))
-  at_point t p below few = at_by (alone_by C.threads C.dark) refl t p below few
+  pub at_point : (t p : ℕ) → t < length C.threads → p ≤ length (rows_of C t) → IsAtPoint C (alone_by C.threads C.untraced) t p (moment_in (seen C) (number_of C t p))
+  at_point t p below few = at_by (alone_by C.threads C.untraced) refl t p below few
 
   -- a point is no later than a later one
   begun : (t q p : ℕ) → q < length (rows_of C t) → p < length (rows_of C t) → q ≤ p → PrecedesOrIs C (first_event C (row_of t q)) (first_event C (row_of t p))
@@ -130,10 +130,10 @@ module _ {W : Type 0} (trip : Trip W) (sound : IsSoundCourse trip.course) (t : �
   abbrev at : ℕ → ℕ
   at p = moment_in (seen trip.course) (number_of trip.course t p)
 
-  told : IsTold C (seen_by C (alone_by C.threads C.dark)) (last_by C (alone_by C.threads C.dark))
-  told = told_by C sound (alone_by C.threads C.dark) refl
+  told : IsTold C (seen_by C (alone_by C.threads C.untraced)) (last_by C (alone_by C.threads C.untraced))
+  told = told_by C sound (alone_by C.threads C.untraced) refl
 
-  is_at : (p : ℕ) → p ≤ n → IsAtPoint C (alone_by C.threads C.dark) t p (at p)
+  is_at : (p : ℕ) → p ≤ n → IsAtPoint C (alone_by C.threads C.untraced) t p (at p)
   is_at p few = at_point C sound t p below few
 
   way_of : (p k : ℕ) → p ≤ n → IsRow C (row_on C k) → S.moments.ahead k (at p) ≡ true → NotLater C (moment_of_point C t p) (before (row_on C k))
@@ -196,7 +196,7 @@ module _ {W : Type 0} (trip : Trip W) (sound : IsSoundCourse trip.course) (t : �
     last_back q p j few most final reaches = record {
       one = record { may = final.one.may; reaches = reaches };
       after = λ k its other. final.after k (candidate_on q p k few most its) other;
-      dark = final.dark;
+      untraced = final.untraced;
     }
 
     pub none_back : (q p : ℕ) → q ≤ p → p ≤ n → HasNoCandidate S K (spot (at p) a) → HasNoCandidate S K (spot (at q) a)

@@ -9,9 +9,9 @@ use Rattle.rept_machine.specs.Step.{IsStep}
 use Rattle.rept_machine.proofs.StepLaws.{written_by_registers}
 use Rattle.rept_steps.specs.declared.threads.ThreadRows.{ThreadRows}
 use Rattle.rept_steps.specs.Course.{Course, row_of, rows_of, row_at, is_call_row, calls, IsSoundCourse}
-use Rattle.rept_order.specs.Moments.{Act, IsAct, Stretch, stretch, Falls, ArePause}
+use Rattle.rept_order.specs.Moments.{Act, IsAct, Stretch, stretch, MayAct, ArePause}
 use Rattle.rept_order.specs.Moments.Moment.{before, after, at_end}
-use Rattle.rept_order.specs.Moments.Act.{row, dark}
+use Rattle.rept_order.specs.Moments.Act.{row, untraced}
 use Rattle.rept_order.specs.Moments.ArePause.{between, last}
 use Rattle.rept_order.specs.History.{History, Ending}
 use Rattle.rept_order.specs.Points.{state_from}
@@ -81,7 +81,7 @@ numbered_run C run o = record { register = run.register; memory = λ m. run.memo
 
 module _ {W : Type 0} (sets : Sets W) (moves : Moves W) (rules : Rules) (C : Course) (D : Ending) (run : interleaved.CourseRun) (sound : IsSoundCourse C) (x : IsCourseRun C D run) where
   -- of one thread in one slice, all of which is told
-  module _ (rows : List StepRow) (e : alone_by C.threads C.dark ≡ Some rows) where
+  module _ (rows : List StepRow) (e : alone_by C.threads C.untraced ≡ Some rows) where
     abbrev S : Setting W
     S = setting_by sets moves rules (given_by C D (Some rows))
 
@@ -139,16 +139,16 @@ module _ {W : Type 0} (sets : Sets W) (moves : Moves W) (rules : Rules) (C : Cou
         let here : p ≡ number_of C 0 (length (rows_of C 0)) = let whole : number_of C 0 (length (rows_of C 0)) ≡ length (rows_of C 0) = zero-add (length (rows_of C 0)) in omega arith in
         ap (λ (k : ℕ). run.register k r) here ∙ x.registers_end 0 r v (omega arith) some is
 
-    -- only the row itself falls between the moments before and after it
-    only_own : (i : ℕ) → i < length rows → (act : Act) → IsAct C act → Falls C act (stretch (before (row_of 0 i)) (after (row_of 0 i))) → act ≡ row (row_of 0 i)
-    only_own i less (row q) is falls =
-        let spared = (alone_quiet C sound (is_alone C rows e) (λ q a. not (same_row q (row_of 0 i))) 0 (row_of 0 i) (is_row C rows e i less) (not_from_true (same_row (row_of 0 i) (row_of 0 i)) (row_self (row_of 0 i) (row_of 0 i) refl))).quiet.spared (row q) is falls in
+    -- only the row itself may act between the moments before and after it
+    only_own : (i : ℕ) → i < length rows → (act : Act) → IsAct C act → MayAct C act (stretch (before (row_of 0 i)) (after (row_of 0 i))) → act ≡ row (row_of 0 i)
+    only_own i less (row q) is may_act =
+        let spared = (alone_quiet C sound (is_alone C rows e) (λ q a. not (same_row q (row_of 0 i))) 0 (row_of 0 i) (is_row C rows e i less) (not_from_true (same_row (row_of 0 i) (row_of 0 i)) (row_self (row_of 0 i) (row_of 0 i) refl))).quiet.spared (row q) is may_act in
         ap row (row_true q (row_of 0 i) (not-false (same_row q (row_of 0 i)) spared))
-    only_own i less dark is falls = absurd (none_number (sym (is_alone C rows e).told ∙ is.1))
+    only_own i less untraced is may_act = absurd (none_number (sym (is_alone C rows e).told ∙ is.1))
 
-    still : (i a : ℕ) → i < length rows → (StepWrites S it i a → ⊥) → (act : Act) → IsAct C act → Falls C act (stretch (before (row_of 0 i)) (after (row_of 0 i))) → WritesIn C D run act a → ⊥
-    still i a less none act is falls writes =
-        let own = subst (λ (y : Act). WritesIn C D run y a) (only_own i less act is falls) writes in
+    still : (i a : ℕ) → i < length rows → (StepWrites S it i a → ⊥) → (act : Act) → IsAct C act → MayAct C act (stretch (before (row_of 0 i)) (after (row_of 0 i))) → WritesIn C D run act a → ⊥
+    still i a less none act is may_act writes =
+        let own = subst (λ (y : Act). WritesIn C D run y a) (only_own i less act is may_act) writes in
         let its = match_is (row_at C (row_of 0 i)) (λ its_row. WritesBy its_row.instr D.image_end (interleaved.state_before_row C run (row_of 0 i)) (interleaved.state_after_row C run (row_of 0 i)) a) own in
         let at : slice_get rows i ≡ Some its.0 = ap (λ (xs : List StepRow). slice_get xs i) (sym (rows_are C rows e)) ∙ its.1 in
         none (record {
@@ -157,7 +157,7 @@ module _ {W : Type 0} (sets : Sets W) (moves : Moves W) (rules : Rules) (C : Cou
           writes = written_by_registers its.0.instr D.image_end (interleaved.state_before_row C run (row_of 0 i)) (interleaved.state_after_row C run (row_of 0 i)) (runs.state_before S it i) (runs.state_after S it i its.0) a (ap run.register (zero-add i)) (ap (λ (k : ℕ). run.register (suc k)) (zero-add i) ∙ ap run.register (one_more i)) its.2;
         })
 
-    quiet : (a m w : ℕ) → S.moments.next m w ≡ true → S.moments.dark m w ≡ false → ((i : ℕ) → S.moments.falls i m w ≡ true → StepWrites S it i a → ⊥) → it.memory w a ≡ it.memory m a
+    quiet : (a m w : ℕ) → S.moments.next m w ≡ true → S.moments.untraced m w ≡ false → ((i : ℕ) → S.moments.may_act i m w ≡ true → StepWrites S it i a → ⊥) → it.memory w a ≡ it.memory m a
     quiet a m w next light none =
         let at = next_is (length rows) m w next in
         let less = at.0 in
@@ -175,7 +175,8 @@ module _ {W : Type 0} (sets : Sets W) (moves : Moves W) (rules : Rules) (C : Cou
       quiet = quiet;
     }
 
-  -- of any other run: only the last values of numbers that are no points' are others than those of its names
+  -- of any other run: only the last values of numbers that are no points' are others than those of
+  -- its names
   many_runs : 0 < length C.threads → Runs (setting_by sets moves rules (given_by C D None)) (numbered_run C run None)
   many_runs some =
       let r = seen_runs sets moves rules C D (numbers_of C) run sound (are_numbers C sound) some x in
@@ -186,13 +187,13 @@ module _ {W : Type 0} (sets : Sets W) (moves : Moves W) (rules : Rules) (C : Cou
         steps = r.steps;
         registers_end = λ p k v final low is. r.registers_end p k v final low (subst (λ (t : ℕ). slice_get (D.registers t) k ≡ Some v) (thread_here C p some final.0) is);
         bytes_end = r.bytes_end;
-        quiet = λ a m w next light none. r.quiet a m w next light (λ i falls k. none i falls (record { row = k.row; is_row = k.is_row; writes = k.writes }));
+        quiet = λ a m w next light none. r.quiet a m w next light (λ i may_act k. none i may_act (record { row = k.row; is_row = k.is_row; writes = k.writes }));
       }
 
-  runs_by : 0 < length C.threads → (o : Option (List StepRow)) → alone_by C.threads C.dark ≡ o → Runs (setting_by sets moves rules (given_by C D o)) (numbered_run C run o)
+  runs_by : 0 < length C.threads → (o : Option (List StepRow)) → alone_by C.threads C.untraced ≡ o → Runs (setting_by sets moves rules (given_by C D o)) (numbered_run C run o)
   runs_by some (Some rows) e = single_runs rows e
   runs_by some None e = many_runs some
 
 -- each execution is a run
 pub history_runs : {W : Type 0} (t : Trip W) (h : History) → IsSoundCourse t.course → 0 < length t.course.threads → IsHistoryOf t h → Runs (setting_on t) (run_on t.course h)
-history_runs t h sound some x = runs_by t.sets t.moves t.rules t.course t.ending (run_of_history t.course h) sound (execution_is_run t.course t.ending h x) some (alone_by t.course.threads t.course.dark) refl
+history_runs t h sound some x = runs_by t.sets t.moves t.rules t.course t.ending (run_of_history t.course h) sound (execution_is_run t.course t.ending h x) some (alone_by t.course.threads t.course.untraced) refl

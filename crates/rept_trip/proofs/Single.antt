@@ -22,13 +22,13 @@ same_rows e = cc
 none_some : {x : List StepRow} → None ≡ Some x → ⊥
 none_some e = cc
 
--- these threads, with no dark, are one thread in one slice with these rows
-record IsSingle (threads : List ThreadRows) (dark : Option ℕ) (rows : List StepRow) : Type 0 where
+-- these threads, with no untraced prefix, are one thread in one slice with these rows
+record IsSingle (threads : List ThreadRows) (untraced : Option ℕ) (rows : List StepRow) : Type 0 where
   thread : ThreadRows
   slice : Slice
   only : threads ≡ thread ∷ []
   whole : thread.slices ≡ slice ∷ []
-  told : dark ≡ None
+  told : untraced ≡ None
   own : thread.steps ≡ rows
 
 single_slice : (thread : ThreadRows) (rows : List StepRow) (slices : List Slice) → thread.slices ≡ slices → rows_in slices thread.steps ≡ Some rows → IsSingle (thread ∷ []) None rows
@@ -36,11 +36,11 @@ single_slice thread rows [] same e = absurd (none_some e)
 single_slice thread rows (s ∷ []) same e = record { thread = thread; slice = s; only = refl; whole = same; told = refl; own = same_rows e }
 single_slice thread rows (s ∷ u ∷ slices) same e = absurd (none_some e)
 
-is_single : (threads : List ThreadRows) (dark : Option ℕ) (rows : List StepRow) → alone_by threads dark ≡ Some rows → IsSingle threads dark rows
-is_single [] dark rows e = absurd (none_some e)
+is_single : (threads : List ThreadRows) (untraced : Option ℕ) (rows : List StepRow) → alone_by threads untraced ≡ Some rows → IsSingle threads untraced rows
+is_single [] untraced rows e = absurd (none_some e)
 is_single (thread ∷ []) None rows e = single_slice thread rows thread.slices refl e
 is_single (thread ∷ []) (Some d) rows e = absurd (none_some e)
-is_single (thread ∷ other ∷ threads) dark rows e = absurd (none_some e)
+is_single (thread ∷ other ∷ threads) untraced rows e = absurd (none_some e)
 
 -- its moments are its points
 pub moment_alone : (rows : List StepRow) (p : ℕ) → p ≤ length rows → moment_in (seen_alone rows) p ≡ p
@@ -50,9 +50,9 @@ moment_alone rows p few =
       | inr past ↦ ap (λ (o : Option StepRow). moment_by (points_of (length rows)) o p) past.1 ∙ (let far = past.0 in omega arith)
     ]
 
-module _ (C : Course) (rows : List StepRow) (e : alone_by C.threads C.dark ≡ Some rows) where
-  single : IsSingle C.threads C.dark rows
-  single = is_single C.threads C.dark rows e
+module _ (C : Course) (rows : List StepRow) (e : alone_by C.threads C.untraced ≡ Some rows) where
+  single : IsSingle C.threads C.untraced rows
+  single = is_single C.threads C.untraced rows e
 
   pub is_alone : IsAlone C
   is_alone = let s = single in record { thread = s.thread; slice = s.slice; only = s.only; whole = s.whole; told = s.told }
@@ -61,7 +61,7 @@ module _ (C : Course) (rows : List StepRow) (e : alone_by C.threads C.dark ≡ S
   one_thread = ap (λ (xs : List ThreadRows). length xs) single.only
 
   pub rows_are : rows_of C 0 ≡ rows
-  rows_are = ap (λ (xs : List ThreadRows). rows_of (record { threads = xs; dark = None }) 0) single.only ∙ single.own
+  rows_are = ap (λ (xs : List ThreadRows). rows_of (record { threads = xs; untraced = None }) 0) single.only ∙ single.own
 
   pub count_is : length (rows_of C 0) ≡ length rows
   count_is = ap (λ (xs : List StepRow). length xs) rows_are

@@ -9,13 +9,13 @@ use Rattle.rept_order.specs.Events.{first_event, last_event, Precedes, PrecedesO
 use Rattle.rept_order.specs.Events.IsBefore.{by_row}
 use Rattle.rept_order.specs.Moments.{Moment, IsMoment, IsAct, WhollyBefore, WhollyAfter, stores}
 use Rattle.rept_order.specs.Moments.Moment.{before}
-use Rattle.rept_order.specs.Moments.Act.{row, dark}
+use Rattle.rept_order.specs.Moments.Act.{row, untraced}
 use Rattle.rept_order.specs.Times.{wholly_before}
 use Rattle.rept_order.specs.Legs.{number_of, point_at, row_from}
 use Rattle.rept_order.specs.Interleaved.{leg_of}
 use Rattle.rept_order.proofs.Sequence.{first_is_event, last_is_event, directly, or_after}
 use Rattle.rept_order.proofs.Times.{precedes_irreflexive}
-use Rattle.rept_order.proofs.Falling.{before_true, after_true, after_from}
+use Rattle.rept_order.proofs.Acting.{before_true, after_true, after_from}
 use Rattle.rept_order.proofs.Legs.{number_point, point_number, thread_inside}
 use Rattle.rept_course.specs.Names.{AreNames}
 use Rattle.rept_course.specs.Numbered.{row_on}
@@ -26,8 +26,9 @@ use Rattle.rept_moments.proofs.Apart.{are_numbers}
 use Rattle.rept_places.specs.Places.{last_by}
 use Rattle.rept_trip.proofs.Single.{is_alone, rows_are, row_here, is_row, own_row, last_low, last_high, is_moment}
 
--- These rows and moments are those of the run, and of each number this is the last of its moments: rows are those of their points, and what is said of a row that
--- lies wholly before another one, before a moment, or after one, is so by the order.
+-- These rows and moments are those of the run, and of each number this is the last of its moments:
+-- rows are those of their points, and what is said of a row that lies wholly before another one,
+-- before a moment, or after one, is so by the order.
 pub record IsTold (C : Course) (x : SeenMoments) (last : ℕ → Moment) : Type 0 where
   pub there : (i : ℕ) (its_row : StepRow) → x.legs.row i ≡ Some its_row → row_at C (row_on C i) ≡ Some its_row
   pub here : (r : Row) (its_row : StepRow) → row_at C r ≡ Some its_row → x.legs.row (leg_of C r) ≡ Some its_row
@@ -36,8 +37,8 @@ pub record IsTold (C : Course) (x : SeenMoments) (last : ℕ → Moment) : Type 
   pub past : (j m : ℕ) → m ≤ x.moments.end → IsRow C (row_on C j) → stores C (row_on C j) ≡ true → x.moments.past j m ≡ true → WhollyBefore C (row (row_on C j)) (last m)
   pub ahead : (k m : ℕ) → m ≤ x.moments.end → IsRow C (row_on C k) → x.moments.ahead k m ≡ true → WhollyAfter C (row (row_on C k)) (last m)
   pub ahead_from : (k m : ℕ) → m ≤ x.moments.end → IsRow C (row_on C k) → WhollyAfter C (row (row_on C k)) (last m) → x.moments.ahead k m ≡ true
-  pub is_dark : IsAct C dark → x.moments.is_dark ≡ true
-  pub dark_before : (j : ℕ) → IsAct C dark → IsRow C (row_on C j) → x.moments.dark_before j ≡ true → WhollyBefore C dark (before (row_on C j))
+  pub is_untraced : IsAct C untraced → x.moments.is_untraced ≡ true
+  pub untraced_before : (j : ℕ) → IsAct C untraced → IsRow C (row_on C j) → x.moments.untraced_before j ≡ true → WhollyBefore C untraced (before (row_on C j))
 
 -- the row at the number of its point
 pub same_leg : (C : Course) (r : Row) → IsRow C r → row_on C (leg_of C r) ≡ r
@@ -67,14 +68,14 @@ module _ (C : Course) (sound : IsSoundCourse C) where
     past = λ j m few is some e. before_true C sound (row (row_on C j)) ((numbers_of C).last m) is (names.named m few).0 (stores_past (stores C (row_on C j)) (wholly_before C (row (row_on C j)) ((numbers_of C).last m)) some e);
     ahead = λ k m few is e. after_true C sound (row (row_on C k)) ((numbers_of C).last m) is (names.named m few).0 e;
     ahead_from = λ k m few is h. after_from C sound (row (row_on C k)) ((numbers_of C).last m) h;
-    is_dark = λ is. ap is_some is.1;
-    dark_before = λ j is its e. before_true C sound dark (before (row_on C j)) is its (stores_past (is_some C.dark) (wholly_before C dark (before (row_on C j))) (ap is_some is.1) e);
+    is_untraced = λ is. ap is_some is.1;
+    untraced_before = λ j is its e. before_true C sound untraced (before (row_on C j)) is its (stores_past (is_some C.untraced) (wholly_before C untraced (before (row_on C j))) (ap is_some is.1) e);
   }
 
   -- by points, of one thread in one slice, all of which is told
-  module _ (rows : List StepRow) (e : alone_by C.threads C.dark ≡ Some rows) where
-    no_dark : IsAct C dark → ⊥
-    no_dark is = none_number (sym (is_alone C rows e).told ∙ is.1)
+  module _ (rows : List StepRow) (e : alone_by C.threads C.untraced ≡ Some rows) where
+    no_untraced : IsAct C untraced → ⊥
+    no_untraced is = none_number (sym (is_alone C rows e).told ∙ is.1)
 
     row_low : (j : ℕ) → IsRow C (row_on C j) → j < length rows
     row_low j is =
@@ -152,10 +153,10 @@ module _ (C : Course) (sound : IsSoundCourse C) where
       ahead_from = λ k m few is h.
           let low = row_low k is in
           le-leb m k (ahead_of k m low (subst (λ (r : Row). WhollyAfter C (row r) (last_by C (Some rows) m)) (row_here C rows e k (omega arith)) h));
-      is_dark = λ is. absurd (no_dark is);
-      dark_before = λ j is its t. absurd (no_dark is);
+      is_untraced = λ is. absurd (no_untraced is);
+      untraced_before = λ j is its t. absurd (no_untraced is);
     }
 
-  pub told_by : (o : Option (List StepRow)) → alone_by C.threads C.dark ≡ o → IsTold C (seen_by C o) (last_by C o)
+  pub told_by : (o : Option (List StepRow)) → alone_by C.threads C.untraced ≡ o → IsTold C (seen_by C o) (last_by C o)
   told_by (Some rows) e = told_single rows e
   told_by None e = told_many

@@ -1,4 +1,5 @@
--- A path of one thread as a trip: that thread in one slice, at no known time, all of which is told. This project's own.
+-- A path of one thread as a trip: that thread in one slice, at no known time, all of which is told.
+-- This project's own.
 use Rattle.std.specs.Prelude.{ℕ, zero, suc, List, []}
 use Rattle.rept_steps.specs.Runs.{course_of, run_of_one}
 use Rattle.rept_report.specs.OneThread.{ThreadPath}

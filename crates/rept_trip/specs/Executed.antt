@@ -1,4 +1,5 @@
--- The executions of a trip, and what of them the numbers of its points and moments stand for, and the names by which a session tells them. This project's own.
+-- The executions of a trip, and what of them the numbers of its points and moments stand for, and
+-- the names by which a session tells them. This project's own.
 use Rattle.std.specs.Prelude.{ℕ}
 use Rattle.rept_steps.specs.Course.{Course, row_of}
 use Rattle.rept_order.specs.History.{History, IsExecution}

@@ -9,7 +9,8 @@ use Rattle.rept_report.specs.Spots.{Spot}
 use Rattle.rept_report.specs.Views.{may_write}
 use Rattle.rept_report.specs.Writers.{is_certain}
 
--- whether something holds of each number below one, and the greatest number below one of which it holds
+-- whether something holds of each number below one, and the greatest number below one of which it
+-- holds
 abbrev pub all_below : (ℕ → Bool) → ℕ → Bool
 all_below test zero = true
 all_below test (suc n) = test n && all_below test n
@@ -26,15 +27,16 @@ is_candidate S K x i = may_write S K i x.address && not (S.moments.ahead i x.mom
 abbrev pub comes_after : Moments → ℕ → ℕ → Bool
 comes_after moments j k = moments.later j k && not (moments.later k j)
 
--- whether row j is a candidate that lies wholly after all others, and after all writers that aren't traced
+-- whether row j is a candidate that lies wholly after all others, and after all writers that aren't
+-- traced
 abbrev pub is_last : {W : Type 0} → Setting W → Knowledge → Spot → ℕ → Bool
 is_last S K x j =
-    is_candidate S K x j && ((not S.moments.is_dark || S.moments.dark_before j)
+    is_candidate S K x j && ((not S.moments.is_untraced || S.moments.untraced_before j)
     && all_below (λ k. k == j || (not (is_candidate S K x k) || comes_after S.moments j k)) S.legs.count)
 
 -- whether no row is a candidate, and each writer is traced
 abbrev pub has_none : {W : Type 0} → Setting W → Knowledge → Spot → Bool
-has_none S K x = not S.moments.is_dark && all_below (λ k. not (is_candidate S K x k)) S.legs.count
+has_none S K x = not S.moments.is_untraced && all_below (λ k. not (is_candidate S K x k)) S.legs.count
 
 -- what is said of the last candidate, or where there is none
 abbrev pub said_of : {W : Type 0} → Setting W → Knowledge → Spot → Option ℕ → Writer

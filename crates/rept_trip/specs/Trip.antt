@@ -1,5 +1,5 @@
--- What is analysed: what the threads of a run executed and when, how the run ended, and by which sets of values and which rules of its rows it is
--- read. This project's own.
+-- What is analysed: what the threads of a run executed and when, how the run ended, and by which
+-- sets of values and which rules of its rows it is read. This project's own.
 use Rattle.std.specs.Prelude.{ℕ, nat_lt, if◌then◌else◌, List, length, Option, Some, None}
 use Rattle.rept_isa.specs.declared.row.StepRow.{StepRow}
 use Rattle.rept_steps.specs.Course.{Course}
@@ -25,7 +25,8 @@ pub record Trip (W : Type 0) : Type 0 where
 abbrev pub thread_on : Course → ℕ → ℕ
 thread_on C p = if nat_lt (point_at C p).thread (length C.threads) then (point_at C p).thread else 0
 
--- the last values of registers of the thread of a point; where there is one thread in one slice, all of which is told, those of that thread
+-- the last values of registers of the thread of a point; where there is one thread in one slice,
+-- all of which is told, those of that thread
 abbrev pub values_by : Course → (ℕ → List ℕ) → Option (List StepRow) → ℕ → List ℕ
 values_by C registers (Some rows) p = registers 0
 values_by C registers None p = registers (thread_on C p)
@@ -41,7 +42,7 @@ given_by C D one = record {
 }
 
 abbrev pub given_on : Course → Ending → Given
-given_on C D = given_by C D (alone_by C.threads C.dark)
+given_on C D = given_by C D (alone_by C.threads C.untraced)
 
 -- the setting in which a report speaks of it
 abbrev pub setting_on : {W : Type 0} → Trip W → Setting W

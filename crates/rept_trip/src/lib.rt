@@ -1,4 +1,5 @@
-//! What is analysed: a run of any number of threads and how it ended, as the report takes it, and what the report says of its executions.
+//! What is analysed: a run of any number of threads and how it ended, as the report takes it, and
+//! what the report says of its executions.
 #![tactic(auto)]
 
 pub mod laws;

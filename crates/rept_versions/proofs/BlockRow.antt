@@ -6,7 +6,7 @@ use Rattle.std.proofs.lemmas.List.{append_assoc, get_or_default, length-append, 
 use Rattle.std.proofs.lemmas.List.Edits.{length-insert, length-remove, insert-append_left, insert-append_right, remove-append_left, remove-append_right}
 use Rattle.rept_versions.specs.declared.span.Span.{Span}
 use Rattle.rept_versions.specs.Line.{nth, no_span}
-use Rattle.rept_versions.specs.Blocks.{flat, block, IsPacked, AreEmpty}
+use Rattle.rept_versions.specs.Blocks.{flat, block, IsPacked, AreEmptyBlocks}
 
 -- the blocks before one, all full, that one, and those after it
 pub record Split (bs : List (List Span)) (k : ℕ) : Type 0 where
@@ -206,7 +206,7 @@ module _ (bs : List (List Span)) (k : ℕ) (packed : IsPacked bs) (at : k < leng
 pub held : (bs : List (List Span)) (k : ℕ) (now : List Span) → k < length bs → now ≡ get_or bs k now → now ≡ block bs k
 held bs k now at is = is ∙ get_or_default bs k now [] at
 
-pub empty_on : (bs : List (List Span)) (n : ℕ) → AreEmpty bs n → AreEmpty (bs ++ [] ∷ []) (n + 1)
+pub empty_on : (bs : List (List Span)) (n : ℕ) → AreEmptyBlocks bs n → AreEmptyBlocks (bs ++ [] ∷ []) (n + 1)
 empty_on bs n e = record {
   len = length-append bs ([] ∷ []) ∙ omega (arith, e.len);
   packed = packed_on bs e.packed e.none;

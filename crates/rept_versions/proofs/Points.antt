@@ -8,7 +8,7 @@ use Rattle.rept_versions.specs.Line.{Line, value_at}
 use Rattle.rept_versions.specs.Row.{AddsTo}
 use Rattle.rept_versions.specs.Facts.{StoreStays, change, Carry, Between, Spreads, StopsAtValue, TracksOr}
 use Rattle.rept_versions.specs.Moves.{SpreadsOn, StopsOn}
-use Rattle.rept_versions.specs.OnLine.{Parts, store, fact_on, key}
+use Rattle.rept_versions.specs.OnLine.{LineParts, store, fact_on, key}
 
 abbrev course : ℕ → ℕ → ℕ → ℕ → Carry
 course a from to v = record { address = a; from = from; to = to; value = v }
@@ -47,7 +47,7 @@ pub keyed : (from to a k : ℕ) → from < 4294967296 → to < 4294967296 → Be
 keyed from to a k lf lt (inl b) = (k - key 0 a, omega (arith, lf, lt, b.0, b.1), omega (arith, lf, lt, b.0, b.1), inl (omega (arith, b.0), omega (arith, b.1)))
 keyed from to a k lf lt (inr b) = (k - key 0 a, omega (arith, lf, lt, b.0, b.1), omega (arith, lf, lt, b.0, b.1), inr (omega (arith, b.0), omega (arith, b.1)))
 
-module _ (old new : Parts) (row : new.row ≡ old.row) where
+module _ (old new : LineParts) (row : new.row ≡ old.row) where
   pub stays : new.line ≡ old.line → StoreStays (store old) (store new)
   stays line = record {
     fact = λ q b. ap (λ l. fact_on l q b) line;
@@ -89,7 +89,7 @@ module _ (old new : Parts) (row : new.row ≡ old.row) where
         differs = s.differs;
       }
 
-pub tracks : (old new : Parts) → new.line ≡ old.line → (a : ℕ) → (r : Result ⊤ AllocError) → AddsTo old.row new.row a r → TracksOr (change true (store old) (store new)) a r
+pub tracks : (old new : LineParts) → new.line ≡ old.line → (a : ℕ) → (r : Result ⊤ AllocError) → AddsTo old.row new.row a r → TracksOr (change true (store old) (store new)) a r
 tracks old new line a (Ok u) p = record {
   fact = λ q b. ap (λ l. fact_on l q b) line;
   spare = ap (λ l. l.room - length l.spans) line;
@@ -108,13 +108,13 @@ tracks old new line a (Err e) p = (
   λ _. p.2,
 )
 
-abbrev pub More : Parts → Parts → ℕ → ℕ → ℕ → ℕ → Type 0
+abbrev pub More : LineParts → LineParts → ℕ → ℕ → ℕ → ℕ → Type 0
 More old new a from to v = Spreads (change true (store old) (store new)) (course a from to v) × ((q : ℕ) × Between from to q × (fact_on old.line q a ≡ None))
 
-abbrev pub Told : Parts → ℕ → ℕ → (ℕ → Type 0) → Type 0
+abbrev pub Told : LineParts → ℕ → ℕ → (ℕ → Type 0) → Type 0
 Told old from a P = (v : ℕ) → fact_on old.line from a ≡ Some v → P v
 
-module _ (old new : Parts) (row : new.row ≡ old.row) (a from to k1 k2 : ℕ) (lf : from < 4294967296) (lt : to < 4294967296) (is1 : k1 ≡ key from a) (is2 : k2 ≡ key to a) where
+module _ (old new : LineParts) (row : new.row ≡ old.row) (a from to k1 k2 : ℕ) (lf : from < 4294967296) (lt : to < 4294967296) (is1 : k1 ≡ key from a) (is2 : k2 ≡ key to a) where
   at : (v : ℕ) → fact_on old.line from a ≡ Some v → value_at old.line.spans k1 ≡ Some v
   at v e = subst (λ k. value_at old.line.spans k ≡ Some v) (sym is1) (sym (fact_in old.line from a lf) ∙ e)
 

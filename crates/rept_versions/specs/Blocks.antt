@@ -16,7 +16,7 @@ IsPacked [] = ⊤
 IsPacked (b ∷ bs) = (length b ≤ 2048) × (length b < 2048 → flat bs ≡ []) × IsPacked bs
 
 -- so many blocks with no span
-pub record AreEmpty (bs : List (List Span)) (count : ℕ) : Type 0 where
+pub record AreEmptyBlocks (bs : List (List Span)) (count : ℕ) : Type 0 where
   pub len : length bs ≡ count
   pub packed : IsPacked bs
   pub none : flat bs ≡ []

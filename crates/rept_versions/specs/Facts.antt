@@ -5,7 +5,7 @@ use Rattle.rept_versions.specs.declared.facts.Learnt.{Learnt}
 use Rattle.rept_versions.specs.declared.facts.Learnt.TheVariants.{Old, New, Clash}
 use Rattle.rept_versions.specs.declared.facts.Carried.{Carried}
 use Rattle.rept_versions.specs.declared.facts.Carried.TheVariants.{Same, More, Stop}
-use Rattle.rept_versions.specs.declared.facts.Stretch.{Stretch}
+use Rattle.rept_versions.specs.declared.facts.ValueStretch.{ValueStretch}
 
 -- the value that is known at a point of an address
 abbrev pub KnownValues : Type 0
@@ -85,7 +85,8 @@ Learns c f (Ok (Clash known asked)) = StoreStays c.old c.new × (c.old.fact f.po
 abbrev pub Between : ℕ → ℕ → ℕ → Type 0
 Between from to q = ((from ≤ q) × (q ≤ to)) ⊎ ((to ≤ q) × (q ≤ from))
 
--- the value is known at each point of the course, where before it was that value or nothing; nothing else changed
+-- the value is known at each point of the course, where before it was that value or nothing;
+-- nothing else changed
 pub record Spreads (c : StoreChange) (course : Carry) : Type 0 where
   pub here : (q : ℕ) → Between course.from course.to q → c.new.fact q course.address ≡ Some course.value
   pub free : (q w : ℕ) → Between course.from course.to q → c.old.fact q course.address ≡ Some w → w ≡ course.value
@@ -108,7 +109,8 @@ pub record StopsAtValue (c : StoreChange) (course : Carry) (stop found : ℕ) : 
   pub other : c.old.fact stop course.address ≡ Some found
   pub differs : found ≢ course.value
 
--- the value was carried to the point next to one at which nothing is known and that there is no room for
+-- the value was carried to the point next to one at which nothing is known and that there is no
+-- room for
 pub record FailsForRoom (c : StoreChange) (course : Carry) : Type 0 where
   pub plain : c.joins ≡ false
   pub stop : ℕ
@@ -136,20 +138,21 @@ abbrev pub TracksOr : StoreChange → ℕ → Result ⊤ AllocError → Type 0
 TracksOr c a (Ok u) = TracksAddress c.old c.new a
 TracksOr c a (Err e) = StoreStays c.old c.new × (Contains c.old.tracked a → ⊥) × (c.joins ≡ true → c.old.places ≤ length c.old.tracked)
 
--- the value of the stretch is known from its first point to its last, and neither at the point before nor at the one after
-pub record IsWholeStretch (told : KnownValues) (a : ℕ) (s : Stretch) : Type 0 where
+-- the value of the stretch is known from its first point to its last, and neither at the point
+-- before nor at the one after
+pub record IsWholeStretch (told : KnownValues) (a : ℕ) (s : ValueStretch) : Type 0 where
   pub ordered : s.first ≤ s.last
   pub value : (q : ℕ) → s.first ≤ q → q ≤ s.last → told q a ≡ Some s.value
   pub begins : (q : ℕ) → q + 1 ≡ s.first → told q a ≢ Some s.value
   pub ends : told (s.last + 1) a ≢ Some s.value
 
 -- the first stretch of one value that ends at p or later; between p and it nothing is known
-pub record IsNextStretch (told : KnownValues) (a p : ℕ) (s : Stretch) : Type 0 where
+pub record IsNextStretch (told : KnownValues) (a p : ℕ) (s : ValueStretch) : Type 0 where
   pub run : IsWholeStretch told a s
   pub reaches : p ≤ s.last
   pub free : (q : ℕ) → p ≤ q → q < s.first → told q a ≡ None
 
 -- what `next_stretch` answers
-abbrev pub Nexts : KnownValues → ℕ → ℕ → Option Stretch → Type 0
+abbrev pub Nexts : KnownValues → ℕ → ℕ → Option ValueStretch → Type 0
 Nexts told a p (Some s) = IsNextStretch told a p s
 Nexts told a p None = (q : ℕ) → p ≤ q → told q a ≡ None

@@ -1,4 +1,5 @@
--- A store of byte facts as a plain list of numbers and values: the number is the one of a point of an address.
+-- A store of byte facts as a plain list of numbers and values: the number is the one of a point of
+-- an address.
 use Rattle.std.specs.Prelude.{◌≡◌, ◌≢◌, ℕ, ◌+◌, ◌<◌, ◌≤◌, ◌⊎◌, ltb, if◌then◌else◌, nat_eq, List, Option, Some, None, slice_get}
 use Rattle.std.specs.Map.{lookup}
 use Rattle.rept_versions.specs.OnLine.{key}

@@ -10,9 +10,9 @@ key p a = a * 4294967296 + p
 abbrev pub fact_on : Line → KnownValues
 fact_on line p a = if ltb p 4294967296 then value_at line.spans (key p a) else None
 
-pub record Parts : Type 0 where
+pub record LineParts : Type 0 where
   pub line : Line
   pub row : VersionRow
 
-abbrev pub store : Parts → Store
+abbrev pub store : LineParts → Store
 store s = record { fact = fact_on s.line; tracked = s.row.items; spare = s.line.room - length s.line.spans; places = s.row.room }

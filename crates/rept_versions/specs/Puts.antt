@@ -2,8 +2,8 @@
 use Rattle.std.specs.Prelude.{◌≡◌, ◌≢◌, ℕ, ◌+◌, ◌-◌, ◌<◌, ◌≤◌, length, Option, Some, None}
 use Rattle.rept_versions.specs.declared.line.Put.{Put}
 use Rattle.rept_versions.specs.declared.line.Put.TheVariants.{Old, New, Clash, Full}
-use Rattle.rept_versions.specs.declared.line.Step.{Step}
-use Rattle.rept_versions.specs.declared.line.Step.TheVariants.{Done, Stop, Joined}
+use Rattle.rept_versions.specs.declared.line.SpanStep.{SpanStep}
+use Rattle.rept_versions.specs.declared.line.SpanStep.TheVariants.{Done, Stop, Joined}
 use Rattle.rept_versions.specs.Line.{Line, nth, value_at, Added, Filled, StoppedBelow, FilledDown, StoppedDown}
 
 abbrev pub Puts : Line → Line → ℕ → ℕ → Put → Type 0
@@ -31,12 +31,12 @@ pub record DownOn (old new : Line) (i to : ℕ) : Type 0 where
   pub at : i - 1 < length new.spans
   pub on : (later : Line) (r : Option ℕ) → Downs new later (i - 1) to r → Downs old later i to r
 
-abbrev pub UpStep : Line → Line → ℕ → ℕ → Step → Type 0
+abbrev pub UpStep : Line → Line → ℕ → ℕ → SpanStep → Type 0
 UpStep old new i to Done = Ups old new i to None
 UpStep old new i to (Stop stop) = Ups old new i to (Some stop)
 UpStep old new i to Joined = UpOn old new i to
 
-abbrev pub DownStep : Line → Line → ℕ → ℕ → Step → Type 0
+abbrev pub DownStep : Line → Line → ℕ → ℕ → SpanStep → Type 0
 DownStep old new i to Done = Downs old new i to None
 DownStep old new i to (Stop stop) = Downs old new i to (Some stop)
 DownStep old new i to Joined = DownOn old new i to

@@ -1,4 +1,5 @@
-//! A block of spans in a ring, so that it gives up a span at one end and takes one in at the other without moving the rest.
+//! A block of spans in a ring, so that it gives up a span at one end and takes one in at the other
+//! without moving the rest.
 
 ghost use Rattle.std.specs.Prelude.{◌≡◌, ◌+◌, ◌-◌, ◌<◌, ◌≤◌, ◌∷◌, ◌++◌, [], IfOk, length, take, set, insert, remove};
 ghost use Rattle.rept_versions.specs.Line.{nth};
@@ -8,16 +9,16 @@ use std::alloc::{AllocError as OutOfMemory, Global};
 use std::collections::VecDeque;
 use std::marker::Model;
 
-/// So many spans are in a full block.
+/// How many spans are in a full block.
 pub const BLOCK: usize = 2048;
 
 /// Up to 2048 spans, with the room for them.
 #[derive(Drop)]
-pub struct Block {
+pub struct SpanBlock {
     ring: VecDeque<Span>,
 }
 
-impl Model for Block {
+impl Model for SpanBlock {
     ghost use Rattle.std.specs.Prelude.{List, ◌≤◌};
     ghost use Rattle.std.specs.VecDeque.{deque_len, deque_capacity};
     ghost use Rattle.rept_versions.specs.declared.span.Span.{Span};
@@ -29,12 +30,12 @@ impl Model for Block {
     ghost invariant = { λ b. record { fits : deque_len b.ring ≤ 2048; room : 2048 ≤ deque_capacity b.ring } };
 }
 
-impl Block {
+impl SpanBlock {
     /// An empty block.
     pub fn new(alloc: Global) -> Result<Self, OutOfMemory>
         ensures { IfOk result (λ b. b ≡ []) }
     {
-        Ok(Block {
+        Ok(SpanBlock {
             ring: VecDeque::with_capacity(alloc, BLOCK)?,
         })
     }

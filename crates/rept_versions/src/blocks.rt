@@ -1,10 +1,11 @@
-//! A row of spans in blocks, in which a span is put in or taken out without moving all those that follow.
+//! A row of spans in blocks, in which a span is put in or taken out without moving all those that
+//! follow.
 
 ghost use Rattle.std.specs.Prelude.{◌≡◌, ℕ, suc, ◌+◌, ◌*◌, ◌<◌, ◌≤◌, [], IfOk, length, set, insert, remove};
 ghost use Rattle.rept_versions.specs.Line.{nth};
-ghost use Rattle.rept_versions.specs.Blocks.{AreEmpty};
+ghost use Rattle.rept_versions.specs.Blocks.{AreEmptyBlocks};
 
-use crate::block::{BLOCK, Block};
+use crate::block::{BLOCK, SpanBlock};
 use crate::span::Span;
 use std::alloc::{AllocError as OutOfMemory, Global};
 use std::marker::Model;
@@ -12,7 +13,7 @@ use std::marker::Model;
 /// Spans, with room for more. Each block is full, up to one after which all are empty.
 #[derive(Drop)]
 pub struct Blocks {
-    blocks: Vec<Block>,
+    blocks: Vec<SpanBlock>,
     len: usize,
     room: usize,
 }
@@ -30,12 +31,12 @@ impl Model for Blocks {
 }
 
 /// Empty blocks.
-fn empty_blocks(alloc: Global, count: usize) -> Result<Vec<Block>, OutOfMemory>
-    ensures { IfOk result (λ blocks. AreEmpty blocks.items count) }
+fn empty_blocks(alloc: Global, count: usize) -> Result<Vec<SpanBlock>, OutOfMemory>
+    ensures { IfOk result (λ blocks. AreEmptyBlocks blocks.items count) }
 {
     let mut blocks = Vec::with_capacity(alloc, count)?;
     for _ in 0..count {
-        blocks.push(Block::new(alloc)?)?;
+        blocks.push(SpanBlock::new(alloc)?)?;
     }
     Ok(blocks)
 }

@@ -1,4 +1,5 @@
-//! A point of an address as one number, so that the points of an address stand side by side and addresses don't meet in between.
+//! A point of an address as one number, so that the points of an address stand side by side and
+//! addresses don't meet in between.
 
 ghost use Rattle.std.specs.Prelude.{◌≡◌, ◌+◌, ◌<◌, ◌≤◌};
 ghost use Rattle.rept_versions.specs.OnLine.{key};

@@ -1,4 +1,5 @@
-//! What is known of the bytes of memory at the points of a path: a trait, a plain list that is the reference, and spans.
+//! What is known of the bytes of memory at the points of a path: a trait, a plain list that is the
+//! reference, and spans.
 #![tactic(auto)]
 
 mod block;
@@ -11,7 +12,7 @@ mod span;
 mod span_facts;
 mod tracked;
 
-pub use facts::{ByteFacts, Carried, Learnt, Stretch};
+pub use facts::{ByteFacts, Carried, Learnt, ValueStretch};
 pub use plain_facts::PlainFacts;
 pub use span_facts::SpanFacts;
 pub use std::alloc::AllocError as OutOfMemory;

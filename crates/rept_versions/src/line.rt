@@ -1,4 +1,5 @@
-//! Spans of a line of numbers that have a value each: what is read, put in one place, and carried on.
+//! Spans of a line of numbers that have a value each: what is read, put in one place, and carried
+//! on.
 
 ghost use Rattle.std.specs.Prelude.{◌≡◌, ◌≢◌, ℕ, suc, ◌+◌, ◌-◌, ◌<◌, ◌≤◌, true, length, Some, None, Option, [], insert, IfOk, IfErr, IsSome, MatchBool, MatchOption, MatchResult};
 ghost use Rattle.rept_versions.specs.Moves.{MovesOnLine};
@@ -11,13 +12,14 @@ use std::alloc::{AllocError as OutOfMemory, Global};
 use std::cell::Cell;
 use std::marker::Model;
 
-/// So many places to each side of the last one a search looks first.
+/// How many places to each side of the last one a search looks at first.
 const NEAR: usize = 8;
 
-/// So many places to each side it looks then.
+/// How many places to each side a search looks at then.
 const FAR: usize = 128;
 
-/// So many last answers are kept: those of the bytes of a word, which are mostly looked at by turns, apart.
+/// How many last answers are kept: those of the bytes of a word, which are mostly looked at by
+/// turns, apart.
 const LANES: usize = 4;
 
 /// What `put` did.
@@ -35,7 +37,7 @@ pub enum Put {
 
 /// A span and its place.
 #[derive(Clone, Copy)]
-struct Found {
+struct PlacedSpan {
     place: usize,
     span: Span,
 }
@@ -47,13 +49,14 @@ pub enum Spread {
     Same,
     /// It is now, and at one of them nothing was.
     More,
-    /// The first number that has another value, the value that was carried as far as the one before it, and the other value.
+    /// The first number that has another value, the value that was carried as far as the one before
+    /// it, and the other value.
     Stop(u64, u8, u8),
 }
 
 /// What one step of `up` or `down` did.
 #[derive(Clone, Copy, PartialEq, Eq, Debug)]
-pub enum Step {
+pub enum SpanStep {
     /// The span goes as far as it should.
     Done,
     /// It goes up to a number that has another value.
@@ -73,8 +76,8 @@ fn lane(k: u64) -> usize
 #[derive(Drop)]
 pub struct SpanLine {
     spans: Blocks,
-    // What the last search in each lane answered. The next one is mostly for a number close by, and begins around that place.
-    // It only saves work: no clause says what it keeps.
+    // What the last search in each lane answered. The next one is mostly for a number close by, and
+    // begins around that place. It only saves work: no clause says what it keeps.
     near: [Cell<usize>; LANES],
 }
 
@@ -100,7 +103,7 @@ impl SpanLine {
     }
 
     /// The first span that ends at k or later.
-    fn seek(&self, k: u64) -> Option<Found>
+    fn seek(&self, k: u64) -> Option<PlacedSpan>
         ensures first { MatchOption result (IsFirst self.now.spans k (length self.now.spans)) (λ f. FirstAt self.now.spans k f.place f.span) }
         ensures rising { IsRising self.now.spans }
     {
@@ -113,14 +116,14 @@ impl SpanLine {
             return self.seek_up(near, k);
         }
         if s.low <= k || near == 0 {
-            return Some(Found {
+            return Some(PlacedSpan {
                 place: near,
                 span: s,
             });
         }
         let t = self.at(near - 1);
         if t.high < k {
-            return Some(Found {
+            return Some(PlacedSpan {
                 place: near,
                 span: s,
             });
@@ -129,7 +132,7 @@ impl SpanLine {
     }
 
     /// What `seek` answers where the span at a place ends below k.
-    fn seek_up(&self, near: usize, k: u64) -> Option<Found>
+    fn seek_up(&self, near: usize, k: u64) -> Option<PlacedSpan>
         requires within { near < length self.now.spans }
         requires below { (nth self.now.spans near).high < k }
         ensures first { MatchOption result (IsFirst self.now.spans k (length self.now.spans)) (λ f. FirstAt self.now.spans k f.place f.span) }
@@ -142,7 +145,7 @@ impl SpanLine {
         let t = self.at(next);
         if k <= t.high {
             self.near[lane(k)].set(next);
-            return Some(Found {
+            return Some(PlacedSpan {
                 place: next,
                 span: t,
             });
@@ -150,7 +153,8 @@ impl SpanLine {
         self.seek_between(next + 1, self.end_after(next, k), k)
     }
 
-    /// All spans from this place on end at k or later. It is a little after a given place, or else the end.
+    /// All spans from this place on end at k or later. It is a little after a given place, or else
+    /// the end.
     fn end_after(&self, place: usize, k: u64) -> usize
         requires { place < length self.now.spans }
         ensures after { place < result }
@@ -170,7 +174,7 @@ impl SpanLine {
     }
 
     /// What `seek` answers where the span at a place ends at k or later.
-    fn seek_down(&self, near: usize, s: Span, k: u64) -> Option<Found>
+    fn seek_down(&self, near: usize, s: Span, k: u64) -> Option<PlacedSpan>
         requires within { near < length self.now.spans }
         requires span { s ≡ nth self.now.spans near }
         requires reaches { k ≤ s.high }
@@ -179,7 +183,7 @@ impl SpanLine {
     {
         if s.low <= k {
             self.near[lane(k)].set(near);
-            return Some(Found {
+            return Some(PlacedSpan {
                 place: near,
                 span: s,
             });
@@ -187,7 +191,8 @@ impl SpanLine {
         self.seek_between(self.begin_before(near, k), near, k)
     }
 
-    /// All spans before this place end below k. It is a little before a given place, or else the first one.
+    /// All spans before this place end below k. It is a little before a given place, or else the
+    /// first one.
     fn begin_before(&self, place: usize, k: u64) -> usize
         requires within { place < length self.now.spans }
         requires reaches { k ≤ (nth self.now.spans place).high }
@@ -206,7 +211,7 @@ impl SpanLine {
     }
 
     /// What `seek` answers where the place is one of a range, or the end: by halves.
-    fn seek_between(&self, from: usize, to: usize, k: u64) -> Option<Found>
+    fn seek_between(&self, from: usize, to: usize, k: u64) -> Option<PlacedSpan>
         requires ordered { from ≤ to }
         requires bound { to ≤ length self.now.spans }
         requires below { (j : ℕ) → j < from → (nth self.now.spans j).high < k }
@@ -228,7 +233,7 @@ impl SpanLine {
             return None;
         }
         self.near[lane(k)].set(low);
-        Some(Found {
+        Some(PlacedSpan {
             place: low,
             span: self.at(low),
         })
@@ -477,8 +482,9 @@ impl SpanLine {
         }
     }
 
-    /// Lets span i end at `to` or later, or up to the next span, and joins it with that one if it has the same value.
-    fn up_step(&mut self, i: usize, to: u64) -> Step
+    /// Lets span i end at `to` or later, or up to the next span, and joins it with that one if it
+    /// has the same value.
+    fn up_step(&mut self, i: usize, to: u64) -> SpanStep
         requires at { i < length self.old.spans }
         requires joined { AreSpansJoined self.old.spans }
         ensures step { UpStep self.old self.new i to result }
@@ -486,27 +492,28 @@ impl SpanLine {
     {
         let s = self.at(i);
         if to <= s.high {
-            return Step::Done;
+            return SpanStep::Done;
         }
         if i == self.count() - 1 {
             self.raise(i, to);
-            return Step::Done;
+            return SpanStep::Done;
         }
         let t = self.next(i);
         if to < t.low {
             self.raise(i, to);
             self.meet(i);
-            return Step::Done;
+            return SpanStep::Done;
         }
         self.raise(i, t.low - 1);
         if t.value != s.value {
-            return Step::Stop(t.low);
+            return SpanStep::Stop(t.low);
         }
         self.join(i);
-        Step::Joined
+        SpanStep::Joined
     }
 
-    /// Lets span i end at `to` or later, over spans of the same value. It stops at another value, and answers where that is.
+    /// Lets span i end at `to` or later, over spans of the same value. It stops at another value,
+    /// and answers where that is.
     fn up(&mut self, i: usize, to: u64) -> Option<u64>
         requires at { i < length self.old.spans }
         requires joined { AreSpansJoined self.old.spans }
@@ -515,15 +522,16 @@ impl SpanLine {
     {
         loop {
             match self.up_step(i, to) {
-                Step::Done => return None,
-                Step::Stop(stop) => return Some(stop),
-                Step::Joined => {}
+                SpanStep::Done => return None,
+                SpanStep::Stop(stop) => return Some(stop),
+                SpanStep::Joined => {}
             }
         }
     }
 
-    /// Lets span i begin at `to` or earlier, or down to the span before, and joins it with that one if it has the same value.
-    fn down_step(&mut self, i: usize, to: u64) -> Step
+    /// Lets span i begin at `to` or earlier, or down to the span before, and joins it with that one
+    /// if it has the same value.
+    fn down_step(&mut self, i: usize, to: u64) -> SpanStep
         requires at { i < length self.old.spans }
         requires joined { AreSpansJoined self.old.spans }
         ensures step { DownStep self.old self.new i to result }
@@ -531,24 +539,24 @@ impl SpanLine {
     {
         let s = self.at(i);
         if s.low <= to {
-            return Step::Done;
+            return SpanStep::Done;
         }
         if i == 0 {
             self.lower(i, to);
-            return Step::Done;
+            return SpanStep::Done;
         }
         let t = self.at(i - 1);
         if t.high < to {
             self.lower(i, to);
             self.meet(i - 1);
-            return Step::Done;
+            return SpanStep::Done;
         }
         self.lower(i, t.high + 1);
         if t.value != s.value {
-            return Step::Stop(t.high);
+            return SpanStep::Stop(t.high);
         }
         self.join(i - 1);
-        Step::Joined
+        SpanStep::Joined
     }
 
     /// Lets span i begin at `to` or earlier, likewise.
@@ -561,9 +569,9 @@ impl SpanLine {
         let mut at = i;
         loop {
             match self.down_step(at, to) {
-                Step::Done => return None,
-                Step::Stop(stop) => return Some(stop),
-                Step::Joined => at -= 1,
+                SpanStep::Done => return None,
+                SpanStep::Stop(stop) => return Some(stop),
+                SpanStep::Joined => at -= 1,
             }
         }
     }
@@ -612,7 +620,8 @@ impl SpanLine {
         }
     }
 
-    /// Puts the value at `from` at each number up or down to `to`. It stops at the first other value.
+    /// Puts the value at `from` at each number up or down to `to`. It stops at the first other
+    /// value.
     pub fn carry(&mut self, from: u64, to: u64) -> Spread
         requires some { IsSome (value_at self.old.spans from) }
         requires joined { AreSpansJoined self.old.spans }
@@ -630,7 +639,7 @@ impl SpanLine {
         }
     }
 
-    /// So many spans can be added.
+    /// How many spans can be added.
     pub fn spare(&self) -> usize
         ensures value { result ≡ self.now.room - length self.now.spans }
     {

@@ -3,14 +3,15 @@
 ghost use Rattle.std.specs.Prelude.{◌≡◌, ◌≢◌, ℕ, ◌+◌, ◌<◌, ◌≤◌, Option, Some, None, IsSome, MatchBool, length};
 ghost use Rattle.rept_versions.specs.Listed.{BeginsAt, EndsAt, LeastOf, Leasts, Toward, fact_in};
 
-use crate::facts::{ByteFacts, Carried, Learnt, Stretch};
+use crate::facts::{ByteFacts, Carried, Learnt, ValueStretch};
 use crate::keys::{key, point_of};
 use crate::tracked::Tracked;
 use indexmap::IndexMap;
 use std::alloc::{AllocError as OutOfMemory, Global};
 use std::marker::Model;
 
-/// Byte facts as a list in the order in which they were learnt. Each new fact may take memory, so `spare` is 0.
+/// Byte facts as a list in the order in which they were learnt. Each new fact may take memory, so
+/// `spare` is 0.
 #[derive(Drop)]
 pub struct PlainFacts {
     facts: IndexMap<u64, u8>,
@@ -201,14 +202,14 @@ impl ByteFacts for PlainFacts {
         self.row.at(k)
     }
 
-    fn next_stretch(&self, a: u32, point: u32) -> Option<Stretch> {
+    fn next_stretch(&self, a: u32, point: u32) -> Option<ValueStretch> {
         let least = match self.least(key(point, a), key(4294967295, a)) {
             None => return None,
             Some(k) => point_of(k, a),
         };
         match self.known(least, a) {
             None => None,
-            Some(value) => Some(Stretch {
+            Some(value) => Some(ValueStretch {
                 first: self.first_of(a, least, value),
                 last: self.last_of(a, least, value),
                 value,

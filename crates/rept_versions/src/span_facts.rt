@@ -1,15 +1,17 @@
-//! Byte facts as spans: points of one address that stand side by side and have one value take one place together.
+//! Byte facts as spans: points of one address that stand side by side and have one value take one
+//! place together.
 
 ghost use Rattle.std.specs.Prelude.{◌≡◌, ℕ, ◌+◌, ◌*◌, ◌<◌, ◌≤◌, Bool, true, IfOk, IsSome, Some, length, slice_get};
 
-use crate::facts::{ByteFacts, Carried, Learnt, Stretch};
+use crate::facts::{ByteFacts, Carried, Learnt, ValueStretch};
 use crate::keys::{key, point_of};
 use crate::line::{Put, SpanLine, Spread};
 use crate::tracked::Tracked;
 use std::alloc::{AllocError as OutOfMemory, Global};
 use std::marker::Model;
 
-/// So many places a point there are at least: of several threads a value may be known in many slices and not between them.
+/// How many places a point there are at least: of several threads a value may be known in many
+/// slices and not between them.
 const MORE: usize = 16;
 
 /// Byte facts as spans of points with one value. All memory is taken by `make`.
@@ -22,9 +24,9 @@ pub struct SpanFacts {
 impl Model for SpanFacts {
     ghost use Rattle.std.specs.Prelude.{◌<◌};
     ghost use Rattle.rept_versions.specs.Line.{AreSpansJoined};
-    ghost use Rattle.rept_versions.specs.OnLine.{Parts};
+    ghost use Rattle.rept_versions.specs.OnLine.{LineParts};
 
-    ghost Value = { Parts };
+    ghost Value = { LineParts };
 
     ghost view = { λ s. record { line = s.line; row = s.row } };
 
@@ -85,7 +87,7 @@ impl ByteFacts for SpanFacts {
         self.row.at(k)
     }
 
-    fn next_stretch(&self, a: u32, point: u32) -> Option<Stretch> {
+    fn next_stretch(&self, a: u32, point: u32) -> Option<ValueStretch> {
         match self.line.next_from(key(point, a)) {
             None => None,
             Some(s) => {
@@ -102,7 +104,7 @@ impl ByteFacts for SpanFacts {
                 } else {
                     point_of(s.high, a)
                 };
-                Some(Stretch {
+                Some(ValueStretch {
                     first,
                     last,
                     value: s.value,

@@ -1,14 +1,15 @@
--- Two views that have the same of a row's own cells let the same be concluded from it, by the same needs.
+-- Two views that have the same of a row's own cells let the same be concluded from it, by the same
+-- needs.
 use Rattle.std.proofs.Common.{ℕ, inl, sym, ◌∙◌}
 use Rattle.std.specs.List.{Contains}
 use Rattle.rept_isa.specs.declared.row.StepRow.{StepRow}
 use Rattle.rept_reason.specs.declared.fact.Cell.{Cell}
 use Rattle.rept_reason.specs.declared.fact.Cell.TheVariants.{Register, Byte}
-use Rattle.rept_view.specs.declared.drawn.When.{When}
-use Rattle.rept_view.specs.declared.drawn.When.TheVariants.{Before, After}
-use Rattle.rept_view.specs.declared.drawn.Drawn.{Drawn}
+use Rattle.rept_view.specs.declared.inferred.When.{When}
+use Rattle.rept_view.specs.declared.inferred.When.TheVariants.{Before, After}
+use Rattle.rept_view.specs.declared.inferred.Conclusion.{Conclusion}
 use Rattle.rept_view.specs.Seen.{Seen, IsLawful}
-use Rattle.rept_view.specs.Rules.{Rules, AreLawful, IsRowCell, IsRowByte, HasSameCells}
+use Rattle.rept_view.specs.Rules.{Rules, AreLawfulRules, IsRowCell, IsRowByte, HasSameCells}
 
 module _ (rules : Rules) (row : StepRow) where
   -- the row's own bytes are where its base is, and that is one of its own cells
@@ -35,5 +36,5 @@ module _ (rules : Rules) (row : StepRow) where
   same_cells_back s t same w c own = sym (same w c (cell_of s t w c same own))
 
   -- what one of them lets one conclude, so does the other
-  pub drawn_alike : AreLawful rules → (s t : Seen) (d : Drawn) → IsLawful s → IsLawful t → HasSameCells rules row s t → Contains (rules.draw row s) d → Contains (rules.draw row t) d
-  drawn_alike lawful s t d ls lt same has = lawful.needs_enough row s t d ls lt has (λ n needed. same n.when n.cell (lawful.needs_own row s d n ls has needed).0)
+  pub inferred_alike : AreLawfulRules rules → (s t : Seen) (d : Conclusion) → IsLawful s → IsLawful t → HasSameCells rules row s t → Contains (rules.infer row s) d → Contains (rules.infer row t) d
+  inferred_alike lawful s t d ls lt same has = lawful.needs_enough row s t d ls lt has (λ n needed. same n.when n.cell (lawful.needs_own row s d n ls has needed).0)

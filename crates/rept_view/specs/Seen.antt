@@ -1,9 +1,10 @@
--- What is known around a row of a path: of registers and bytes before and after it. This project's own.
+-- What is known around a row of a path: of registers and bytes before and after it. This project's
+-- own.
 use Rattle.std.specs.Prelude.{◌≡◌, ℕ, ◌<◌, ◌≤◌, Option, Some}
 use Rattle.rept_partial.specs.declared.range.Range.{Range}
 use Rattle.rept_machine.specs.State.{State}
-use Rattle.rept_view.specs.declared.drawn.When.{When}
-use Rattle.rept_view.specs.declared.drawn.When.TheVariants.{Before, After}
+use Rattle.rept_view.specs.declared.inferred.When.{When}
+use Rattle.rept_view.specs.declared.inferred.When.TheVariants.{Before, After}
 use Rattle.rept_reason.specs.declared.fact.Cell.{Cell}
 use Rattle.rept_reason.specs.declared.fact.Cell.TheVariants.{Register, Byte}
 
@@ -15,7 +16,8 @@ pub record Seen : Type 0 where
   -- the range in which a register lies
   pub range : When → ℕ → Range
 
--- x0 is 0 (RISC-V unprivileged manual 20191213, chapter 2.1), and a known register's range is its value alone
+-- x0 is 0 (RISC-V unprivileged manual 20191213, chapter 2.1), and a known register's range is its
+-- value alone
 pub record IsLawful (s : Seen) : Type 0 where
   pub zero_known : (w : When) → s.register w 0 ≡ Some 0
   pub known : (w : When) (r v : ℕ) → s.register w r ≡ Some v → ((s.range w r).lo ≡ v) × ((s.range w r).hi ≡ v)

@@ -5,7 +5,8 @@ ghost use Rattle.rept_view.specs.Rules.{offset_of};
 
 use rept_isa::Instr;
 
-/// The offset from the register in the place of rs1 at which an instruction's bytes begin. 0 where its form has none.
+/// The offset from the register in the place of rs1 at which an instruction's bytes begin. 0 where
+/// its form has none.
 pub fn offset_of(instr: &Instr) -> i32
     ensures { result ≡ offset_of instr.now }
 {

@@ -2,40 +2,48 @@
 
 ghost use Rattle.std.specs.Prelude.{◌≡◌, ℕ, ◌+◌, ◌<◌, ◌≤◌, ◌^◌, min, Contains};
 ghost use Rattle.rept_alias.specs.Accesses.{call_hits};
-ghost use Rattle.rept_view.specs.Rules.{Rules, AreLawful};
+ghost use Rattle.rept_view.specs.Rules.{Rules, AreLawfulRules};
 
-use crate::drawn::{Drawn, Need, RegisterAt};
+use crate::inferred::{Conclusion, Premise, RegisterAt};
 use crate::view::RowView;
 use rept_alias::CallAccess;
 use rept_isa::StepRow;
 use smallvec::SmallVec;
 use std::alloc::Global;
 
-/// The rules by which a row lets facts on its own registers and bytes be drawn, and which bytes it may write. Beside them an analysis
-/// asks an instruction for its turn, the registers that it reads and writes, the offset at which its bytes begin, whether it stores or
-/// calls, whether the row's exit fits, and what it makes of sets of values. `rules` names the answers as functions of the row and of
-/// what is seen, and each implementation proves their laws. No call takes memory: each list keeps within the room that it has in place.
+/// The rules by which a row lets facts on its own registers and bytes be applied, and which bytes
+/// it may write. Beside them an analysis asks an instruction for its turn, the registers that it
+/// reads and writes, the offset at which its bytes begin, whether it stores or calls, whether the
+/// row's exit fits, and what it makes of sets of values. `rules` names the answers as functions of
+/// the row and of what is seen, and each implementation proves their laws. No call takes memory:
+/// each list keeps within the room that it has in place.
 pub trait RowRules: Drop {
     ghost rules: { Rules };
 
-    /// How often rules were drawn by this value: a number that never falls, and stays at its greatest one.
-    ghost draws: { Self → ℕ };
+    /// How often rules were applied by this value: a number that never falls, and stays at its
+    /// greatest one.
+    ghost infers: { Self → ℕ };
 
     /// All that the row lets one conclude.
-    fn draw<V: RowView>(&mut self, alloc: Global, row: &StepRow, view: &V) -> SmallVec<Drawn, 16>
-        ensures list { result.items ≡ rules.draw row.now (V.seen view.now) }
+    fn infer<V: RowView>(
+        &mut self,
+        alloc: Global,
+        row: &StepRow,
+        view: &V,
+    ) -> SmallVec<Conclusion, 16>
+        ensures list { result.items ≡ rules.infer row.now (V.seen view.now) }
         ensures inline { result.capacity ≡ 16 }
-        ensures raised { draws self.new ≡ min (draws self.old + 1) 18446744073709551615 };
+        ensures raised { infers self.new ≡ min (infers self.old + 1) 18446744073709551615 };
 
     /// What one of these conclusions rests on, in the rule's order.
     fn needs<V: RowView>(
         alloc: Global,
         row: &StepRow,
         view: &V,
-        drawn: &Drawn,
-    ) -> SmallVec<Need, 10>
-        requires { Contains (rules.draw row.now (V.seen view.now)) drawn.now }
-        ensures list { result.items ≡ rules.needs row.now (V.seen view.now) drawn.now }
+        inferred: &Conclusion,
+    ) -> SmallVec<Premise, 10>
+        requires { Contains (rules.infer row.now (V.seen view.now)) inferred.now }
+        ensures list { result.items ≡ rules.needs row.now (V.seen view.now) inferred.now }
         ensures inline { result.capacity ≡ 10 };
 
     /// The bytes that the row may write, where the program's own memory ends at `image_end`.
@@ -56,5 +64,5 @@ pub trait RowRules: Drop {
         ensures value { result ≡ rules.places row.now }
         ensures few { result ≤ 8 };
 
-    ghost lawful: { AreLawful rules };
+    ghost lawful: { AreLawfulRules rules };
 }

@@ -4,12 +4,13 @@ ghost use Rattle.std.specs.Prelude.{◌≡◌};
 ghost use Rattle.rept_reason.specs.Facts.{flat};
 ghost use Rattle.rept_view.specs.Seen.{Seen, IsLawful};
 
-use crate::drawn::When;
+use crate::inferred::When;
 use rept_isa::Reg;
 use rept_partial::{Flat, Range};
 
-/// What is known of registers and bytes before and after a row, and within which ranges its registers lie. x0 is 0, and a known
-/// register's range is its value alone. `seen` names all of it as functions.
+/// What is known of registers and bytes before and after a row, and within which ranges its
+/// registers lie. x0 is 0, and a known register's range is its value alone. `seen` names all of it
+/// as functions.
 pub trait RowView {
     ghost seen: { Self → Seen };
 

@@ -17,8 +17,8 @@ use Rattle.rept_path.specs.Code.{Code}
 use Rattle.rept_encode.specs.Bits.{start_bit}
 use Rattle.rept_encode.specs.Encoded.{TellsAfter, LeadsOver, coded, IsReporting, AreReporting}
 use Rattle.rept_encode.proofs.Sending.{written_held}
-use Rattle.rept_weave.specs.declared.stretch.Stretch.{Stretch}
-use Rattle.rept_weave.specs.declared.fault.Place.{Place}
+use Rattle.rept_weave.specs.declared.stretch.HartStretch.{HartStretch}
+use Rattle.rept_weave.specs.declared.fault.HartPlace.{HartPlace}
 use Rattle.rept_weave.specs.declared.fault.WeaveFault.{WeaveFault}
 use Rattle.rept_weave.specs.declared.fault.WeaveFault.TheVariants.{HartCount, InnerCall, JumpEnds, TooLong, OutOfMemory}
 use Rattle.rept_weave.specs.Stamped.{AddsPackets}
@@ -59,7 +59,7 @@ unfolding bit_of field
 ended_spells halves = record { format = refl; subformat = refl; enable = refl; mode = refl; number = refl; options = refl }
 
 -- all packets of a stretch
-pub stretch_on : (halves : Bool) (s : Stretch) (old one two three new reports : List ℕ) → AddsStart halves s old one → two ≡ one ++ reports → AddsPackets (timed halves) two three (ended ∷ []) → AddsPackets (timed halves) three new (end_of s ∷ []) → TellsAfter halves reports s.steps → AreStraight s.steps (length s.steps - 1) → AddsStretch halves s old new
+pub stretch_on : (halves : Bool) (s : HartStretch) (old one two three new reports : List ℕ) → AddsStart halves s old one → two ≡ one ++ reports → AddsPackets (timed halves) two three (ended ∷ []) → AddsPackets (timed halves) three new (end_of s ∷ []) → TellsAfter halves reports s.steps → AreStraight s.steps (length s.steps - 1) → AddsStretch halves s old new
 stretch_on halves s old one two three new reports start is end until t straight =
     let first : StepRow = start.0 in
     let same : t.first ≡ first = (let e : ◌≡◌ {A = Option StepRow} (Some t.first) (Some first) = sym t.begins ∙ start.1 in cc) in
@@ -81,7 +81,7 @@ stretch_on halves s old one two three new reports start is end until t straight 
       whole,
     )
 
-sent_on : (halves : Bool) (ss : List Stretch) (s : Stretch) (ps qs : List Packet) → AreSent halves ss ps → IsStretchSent halves s qs → AreSent halves (ss ++ s ∷ []) (ps ++ qs)
+sent_on : (halves : Bool) (ss : List HartStretch) (s : HartStretch) (ps qs : List Packet) → AreSent halves ss ps → IsStretchSent halves s qs → AreSent halves (ss ++ s ∷ []) (ps ++ qs)
 sent_on halves [] s ps qs x y = (qs, [], rw x (sym (append-nil qs)), y, refl)
 sent_on halves (r ∷ ss) s ps qs x y =
     let front : List Packet = x.0 in
@@ -89,9 +89,9 @@ sent_on halves (r ∷ ss) s ps qs x y =
     (front, later ++ qs, ap (λ (xs : List Packet). xs ++ qs) x.2 ∙ append_assoc front later qs, x.3, sent_on halves ss s later qs x.4 y)
 
 -- one stretch more
-pub told_on : (halves : Bool) (ss : List Stretch) (i : ℕ) (s : Stretch) (old new : List ℕ) → i < length ss → s ≡ get_or ss i s → AreStretchesTold halves (take i ss) old → AddsStretch halves s old new → AreStretchesTold halves (take (i + 1) ss) new
+pub told_on : (halves : Bool) (ss : List HartStretch) (i : ℕ) (s : HartStretch) (old new : List ℕ) → i < length ss → s ≡ get_or ss i s → AreStretchesTold halves (take i ss) old → AddsStretch halves s old new → AreStretchesTold halves (take (i + 1) ss) new
 told_on halves ss i s old new lt is x y =
-    let more : take (i + 1) ss ≡ take i ss ++ s ∷ [] = take_more ss i s lt ∙ ap (λ (r : Stretch). take i ss ++ r ∷ []) (sym is) in
+    let more : take (i + 1) ss ≡ take i ss ++ s ∷ [] = take_more ss i s lt ∙ ap (λ (r : HartStretch). take i ss ++ r ∷ []) (sym is) in
     let a = y.2 in
     let e = a.appended in
     rw more (x.0 ++ y.0, rw e (written_append (timed halves) old a.bytes x.0 y.0 x.1 a.written), sent_on halves (take i ss) s x.0 y.0 x.2 y.1)
@@ -107,20 +107,20 @@ streams_then : (a b c : List ℕ) (ss ts : List (List ℕ)) → AreStreamsThen a
 streams_then a b c [] ts x y = rw (← x) y
 streams_then a b c (s ∷ ss) ts x y = (x.0, x.1, streams_then x.0 b c ss ts x.2 y)
 
-each_on : (halves : Bool) (hs : List (List Stretch)) (ss : List (List ℕ)) (h : List Stretch) (s : List ℕ) → AreStreamsOf halves hs ss → IsStreamOf halves h s → AreStreamsOf halves (hs ++ h ∷ []) (ss ++ s ∷ [])
+each_on : (halves : Bool) (hs : List (List HartStretch)) (ss : List (List ℕ)) (h : List HartStretch) (s : List ℕ) → AreStreamsOf halves hs ss → IsStreamOf halves h s → AreStreamsOf halves (hs ++ h ∷ []) (ss ++ s ∷ [])
 each_on halves [] ss h s x y = rw x (y, refl)
 each_on halves (g ∷ hs) [] h s x y = absurd x
 each_on halves (g ∷ hs) (r ∷ ss) h s x y = (x.0, each_on halves hs ss h s x.1 y)
 
-each_counts : (halves : Bool) (hs : List (List Stretch)) (ss : List (List ℕ)) → AreStreamsOf halves hs ss → length ss ≡ length hs
+each_counts : (halves : Bool) (hs : List (List HartStretch)) (ss : List (List ℕ)) → AreStreamsOf halves hs ss → length ss ≡ length hs
 each_counts halves [] ss x = ap (length {A = List ℕ}) x
 each_counts halves (g ∷ hs) [] x = absurd x
 each_counts halves (g ∷ hs) (r ∷ ss) x = let e = each_counts halves hs ss x.1 in omega arith
 
 -- one hart more
-pub front_on : (halves : Bool) (count : ℕ) (hs : List (List Stretch)) (i : ℕ) (h : List Stretch) (old new : List ℕ) → i < length hs → h ≡ get_or hs i h → IsTraceFront halves count (take i hs) old → AddsHart halves h old new → IsTraceFront halves count (take (i + 1) hs) new
+pub front_on : (halves : Bool) (count : ℕ) (hs : List (List HartStretch)) (i : ℕ) (h : List HartStretch) (old new : List ℕ) → i < length hs → h ≡ get_or hs i h → IsTraceFront halves count (take i hs) old → AddsHart halves h old new → IsTraceFront halves count (take (i + 1) hs) new
 front_on halves count hs i h old new lt is x y =
-    let more : take (i + 1) hs ≡ take i hs ++ h ∷ [] = take_more hs i h lt ∙ ap (λ (g : List Stretch). take i hs ++ g ∷ []) (sym is) in
+    let more : take (i + 1) hs ≡ take i hs ++ h ∷ [] = take_more hs i h lt ∙ ap (λ (g : List HartStretch). take i hs ++ g ∷ []) (sym is) in
     let held : IsStreamOf halves h y.stream = (y.told.0, written_held (timed halves) y.stream y.told.0 y.told.1, y.told.2) in
     rw more (record {
       streams = x.streams ++ y.stream ∷ [];
@@ -132,13 +132,13 @@ front_on halves count hs i h old new lt is x y =
       each = each_on halves (take i hs) x.streams h y.stream x.each held;
     })
 
-pub front_empty : (halves : Bool) (count : ℕ) (hs : List (List Stretch)) (text : List ℕ) → text ≡ header_bytes several_streams (heading_of count halves) → IsTraceFront halves count (take 0 hs) text
+pub front_empty : (halves : Bool) (count : ℕ) (hs : List (List HartStretch)) (text : List ℕ) → text ≡ header_bytes several_streams (heading_of count halves) → IsTraceFront halves count (take 0 hs) text
 front_empty halves count hs text is = record { streams = []; body = []; layout = is; whole = λ later. refl; each = refl }
 
 -- all harts
-pub front_woven : (halves : Bool) (hs done : List (List Stretch)) (text : List ℕ) → done ≡ hs → 0 < length hs → length hs ≤ 64 → IsTraceFront halves (length hs) done text → IsWoven halves hs text
+pub front_woven : (halves : Bool) (hs done : List (List HartStretch)) (text : List ℕ) → done ≡ hs → 0 < length hs → length hs ≤ 64 → IsTraceFront halves (length hs) done text → IsWoven halves hs text
 front_woven halves hs done text is some few x =
-    let each : AreStreamsOf halves hs x.streams = subst (λ (ds : List (List Stretch)). AreStreamsOf halves ds x.streams) is x.each in
+    let each : AreStreamsOf halves hs x.streams = subst (λ (ds : List (List HartStretch)). AreStreamsOf halves ds x.streams) is x.each in
     let n : length x.streams ≡ length hs = each_counts halves hs x.streams each in
     let whole : AreStreamsThen x.body x.streams [] = subst (λ (xs : List ℕ). AreStreamsThen xs x.streams []) (append-nil x.body) (x.whole []) in
     record {
@@ -161,14 +161,14 @@ straight_on rows i row is lt none all j r le get = elim (cases_eq j i) [
 ]
 
 -- causes
-pub in_hart : (hart : List Stretch) (at : Place) (s : Stretch) (fault : WeaveFault) → slice_get hart at.stretch ≡ Some s → IsStretchCause at s.steps fault → IsHartCause at.hart hart fault
+pub in_hart : (hart : List HartStretch) (at : HartPlace) (s : HartStretch) (fault : WeaveFault) → slice_get hart at.stretch ≡ Some s → IsStretchCause at s.steps fault → IsHartCause at.hart hart fault
 in_hart hart at s HartCount get x = absurd x
 in_hart hart at s (InnerCall p) get x = (x.0, (s, ap (λ (k : ℕ). slice_get hart k) x.1 ∙ get, x.2))
 in_hart hart at s (JumpEnds p) get x = (x.0, (s, ap (λ (k : ℕ). slice_get hart k) x.1 ∙ get, x.2))
 in_hart hart at s (TooLong hart_number) get x = absurd x
 in_hart hart at s OutOfMemory get x = tt
 
-pub in_harts : (harts : List (List Stretch)) (i : ℕ) (hart : List Stretch) (fault : WeaveFault) → slice_get harts i ≡ Some hart → i < length harts → IsHartCause i hart fault → IsCause harts fault
+pub in_harts : (harts : List (List HartStretch)) (i : ℕ) (hart : List HartStretch) (fault : WeaveFault) → slice_get harts i ≡ Some hart → i < length harts → IsHartCause i hart fault → IsCause harts fault
 in_harts harts i hart HartCount get lt x = absurd x
 in_harts harts i hart (InnerCall p) get lt x = (hart, ap (λ (k : ℕ). slice_get harts k) x.0 ∙ get, x.1)
 in_harts harts i hart (JumpEnds p) get lt x = (hart, ap (λ (k : ℕ). slice_get harts k) x.0 ∙ get, x.1)

@@ -1,5 +1,6 @@
--- The numbers whose bytes, the lowest first, are the payloads of the two packets with a time and a context (Efficient Trace for RISC-V 2.0, the tables of format 3), with times of
--- 64 bits and contexts of 32. The privilege is that of a user.
+-- The numbers whose bytes, the lowest first, are the payloads of the two packets with a time and a
+-- context (Efficient Trace for RISC-V 2.0, the tables of format 3), with times of 64 bits and
+-- contexts of 32. The privilege is that of a user.
 use Rattle.std.specs.Prelude.{◌≡◌, ℕ, ◌+◌, ◌*◌, ◌/◌, ◌%◌, ◌^◌, Bool, List, [], ◌∷◌, ◌++◌, if◌then◌else◌}
 use Rattle.std.specs.Int.{w128, to_le_bytes}
 use Rattle.rept_trace.specs.declared.parameters.Parameters.{Parameters}

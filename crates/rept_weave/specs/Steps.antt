@@ -8,23 +8,23 @@ use Rattle.rept_trace.specs.Header.{several_streams, heading_of, header_bytes}
 use Rattle.rept_trace.specs.Streams.{AreStreamsThen}
 use Rattle.rept_encode.specs.Walkable.{IsFirstJumpEnd}
 use Rattle.rept_encode.specs.Written.{AreWritten}
-use Rattle.rept_weave.specs.declared.stretch.Stretch.{Stretch}
-use Rattle.rept_weave.specs.declared.fault.Place.{Place}
+use Rattle.rept_weave.specs.declared.stretch.HartStretch.{HartStretch}
+use Rattle.rept_weave.specs.declared.fault.HartPlace.{HartPlace}
 use Rattle.rept_weave.specs.declared.fault.WeaveFault.{WeaveFault}
 use Rattle.rept_weave.specs.declared.fault.WeaveFault.TheVariants.{HartCount, InnerCall, JumpEnds, TooLong, OutOfMemory}
 use Rattle.rept_weave.specs.Stamped.{AddsPackets}
 use Rattle.rept_weave.specs.Woven.{start_of, IsStretchSent, AreSent, AreStreamsOf, IsInnerCall, IsInStretch}
 
 -- The start packet of a stretch was added.
-abbrev pub AddsStart : Bool → Stretch → List ℕ → List ℕ → Type 0
+abbrev pub AddsStart : Bool → HartStretch → List ℕ → List ℕ → Type 0
 AddsStart halves s old new = (first : StepRow) × (slice_get s.steps 0 ≡ Some first) × AddsPackets (timed halves) old new (start_of s first ∷ [])
 
 -- All packets of a stretch were added.
-abbrev pub AddsStretch : Bool → Stretch → List ℕ → List ℕ → Type 0
+abbrev pub AddsStretch : Bool → HartStretch → List ℕ → List ℕ → Type 0
 AddsStretch halves s old new = (packets : List Packet) × IsStretchSent halves s packets × AddsPackets (timed halves) old new packets
 
 -- The bytes are the packets of these stretches.
-abbrev pub AreStretchesTold : Bool → List Stretch → List ℕ → Type 0
+abbrev pub AreStretchesTold : Bool → List HartStretch → List ℕ → Type 0
 AreStretchesTold halves stretches bytes = (packets : List Packet) × AreWritten (timed halves) bytes packets × AreSent halves stretches packets
 
 -- a stream, with its length in front
@@ -32,14 +32,14 @@ abbrev pub framed : List ℕ → List ℕ
 framed stream = to_le_bytes w32 (length stream) ++ stream
 
 -- The stream of a hart was added.
-pub record AddsHart (halves : Bool) (hart : List Stretch) (old new : List ℕ) : Type 0 where
+pub record AddsHart (halves : Bool) (hart : List HartStretch) (old new : List ℕ) : Type 0 where
   pub stream : List ℕ
   pub appended : new ≡ old ++ framed stream
   pub few : length stream < 2 ^ 32
   pub told : AreStretchesTold halves hart stream
 
 -- The header of a file of so many streams, and the streams of these harts.
-pub record IsTraceFront (halves : Bool) (count : ℕ) (harts : List (List Stretch)) (trace : List ℕ) : Type 0 where
+pub record IsTraceFront (halves : Bool) (count : ℕ) (harts : List (List HartStretch)) (trace : List ℕ) : Type 0 where
   pub streams : List (List ℕ)
   pub body : List ℕ
   pub layout : trace ≡ header_bytes several_streams (heading_of count halves) ++ body
@@ -47,7 +47,7 @@ pub record IsTraceFront (halves : Bool) (count : ℕ) (harts : List (List Stretc
   pub each : AreStreamsOf halves harts streams
 
 -- why a stretch isn't written that stands at this place
-abbrev pub IsStretchCause : Place → List StepRow → WeaveFault → Type 0
+abbrev pub IsStretchCause : HartPlace → List StepRow → WeaveFault → Type 0
 IsStretchCause at rows HartCount = ⊥
 IsStretchCause at rows (InnerCall p) = (p.hart ≡ at.hart) × (p.stretch ≡ at.stretch) × IsInnerCall rows p.step
 IsStretchCause at rows (JumpEnds p) = (p.hart ≡ at.hart) × (p.stretch ≡ at.stretch) × IsFirstJumpEnd rows p.step
@@ -55,7 +55,7 @@ IsStretchCause at rows (TooLong hart) = ⊥
 IsStretchCause at rows OutOfMemory = Unit {0}
 
 -- why the hart of this number isn't written
-abbrev pub IsHartCause : ℕ → List Stretch → WeaveFault → Type 0
+abbrev pub IsHartCause : ℕ → List HartStretch → WeaveFault → Type 0
 IsHartCause h hart HartCount = ⊥
 IsHartCause h hart (InnerCall p) = (p.hart ≡ h) × IsInStretch hart p IsInnerCall
 IsHartCause h hart (JumpEnds p) = (p.hart ≡ h) × IsInStretch hart p IsFirstJumpEnd

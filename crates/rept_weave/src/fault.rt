@@ -5,7 +5,7 @@ use thiserror::Error;
 /// A step of a stretch of a hart. All three are counted from 0.
 #[derive(Clone, Copy, Debug, PartialEq, Eq, Error)]
 #[error("hart {hart}, stretch {stretch}, step {step}")]
-pub struct Place {
+pub struct HartPlace {
     pub hart: usize,
     pub stretch: usize,
     pub step: usize,
@@ -19,10 +19,11 @@ pub enum WeaveFault {
     HartCount,
     /// The step is a call and not the last one of its stretch.
     #[error("{0}: a call isn't the last step of its stretch")]
-    InnerCall(Place),
-    /// The step is the first of its stretch that is a call and directly follows an uninferable jump.
+    InnerCall(HartPlace),
+    /// The step is the first of its stretch that is a call and directly follows an uninferable
+    /// jump.
     #[error("{0}: a call directly follows an uninferable jump")]
-    JumpEnds(Place),
+    JumpEnds(HartPlace),
     /// The packets of the hart of this number take 2^32 bytes or more.
     #[error("hart {0} has too many packets")]
     TooLong(usize),

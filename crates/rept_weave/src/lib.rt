@@ -6,6 +6,6 @@ mod stamped;
 pub mod stretch;
 mod writer;
 
-pub use fault::{Place, WeaveFault};
-pub use stretch::{Hart, Harts, Stretch};
+pub use fault::{HartPlace, WeaveFault};
+pub use stretch::{Hart, HartStretch, Harts};
 pub use writer::weave;

@@ -21,7 +21,8 @@ pub struct Start {
     pub context: u32,
 }
 
-/// An address without its lowest bits, which aren't sent, in 33 bits: past its last one stand copies of it.
+/// An address without its lowest bits, which aren't sent, in 33 bits: past its last one stand
+/// copies of it.
 fn wide(halves: bool, address: u32) -> u64
     ensures number { result ≡ wide halves address }
     ensures below { result < 2 ^ 33 }

@@ -6,9 +6,11 @@ use rept_steps::Steps;
 use std::alloc::{AllocError as OutOfMemory, Global};
 use std::marker::Model;
 
-/// Steps of one thread that a hart executed one after another, without leaving the program. A call is the last step of its stretch: there the hart leaves the program. All times of a trace are of one clock.
+/// Steps of one thread that a hart executed one after another, without leaving the program. A call
+/// is the last step of its stretch: there the hart leaves the program. All times of a trace are of
+/// one clock.
 #[derive(Drop)]
-pub struct Stretch {
+pub struct HartStretch {
     /// The number of the thread's process (`pr_pid`).
     pub process: u32,
     /// The steps happened not before this time.
@@ -21,14 +23,14 @@ pub struct Stretch {
 /// The stretches of one hart, in order. Contracts see a list.
 #[derive(Drop)]
 pub struct Hart {
-    items: Vec<Stretch>,
+    items: Vec<HartStretch>,
 }
 
 impl Model for Hart {
     ghost use Rattle.std.specs.Prelude.{List};
-    ghost use Rattle.rept_weave.specs.declared.stretch.Stretch.{Stretch};
+    ghost use Rattle.rept_weave.specs.declared.stretch.HartStretch.{HartStretch};
 
-    ghost Value = { List Stretch };
+    ghost Value = { List HartStretch };
 
     ghost view = { λ h. h.items.items };
 }
@@ -43,8 +45,9 @@ impl Hart {
         }
     }
 
-    /// Adds a stretch after the others. A refusal, which comes only where memory runs out, leaves the hart as it was and lets go of the stretch.
-    pub fn push(&mut self, stretch: Stretch) -> Result<(), OutOfMemory>
+    /// Adds a stretch after the others. A refusal, which comes only where memory runs out, leaves
+    /// the hart as it was and lets go of the stretch.
+    pub fn push(&mut self, stretch: HartStretch) -> Result<(), OutOfMemory>
         ensures ok { OnOk result (self.new ≡ self.old ++ stretch ∷ []) }
         ensures err { OnErr result (self.new ≡ self.old) }
     {
@@ -53,7 +56,7 @@ impl Hart {
     }
 
     /// The stretches, in order.
-    pub fn all(&self) -> &[Stretch]
+    pub fn all(&self) -> &[HartStretch]
         ensures { result.now ≡ self.now }
     {
         self.items.as_slice()
@@ -68,9 +71,9 @@ pub struct Harts {
 
 impl Model for Harts {
     ghost use Rattle.std.specs.Prelude.{List};
-    ghost use Rattle.rept_weave.specs.declared.stretch.Stretch.{Stretch};
+    ghost use Rattle.rept_weave.specs.declared.stretch.HartStretch.{HartStretch};
 
-    ghost Value = { List (List Stretch) };
+    ghost Value = { List (List HartStretch) };
 
     ghost view = { λ h. h.items.items };
 }
@@ -85,7 +88,8 @@ impl Harts {
         }
     }
 
-    /// Adds a hart after the others. A refusal, which comes only where memory runs out, leaves the list as it was and lets go of the hart.
+    /// Adds a hart after the others. A refusal, which comes only where memory runs out, leaves the
+    /// list as it was and lets go of the hart.
     pub fn push(&mut self, hart: Hart) -> Result<(), OutOfMemory>
         ensures ok { OnOk result (self.new ≡ self.old ++ hart ∷ []) }
         ensures err { OnErr result (self.new ≡ self.old) }

@@ -10,9 +10,9 @@ ghost use Rattle.rept_weave.specs.Stamped.{AddsPackets};
 ghost use Rattle.rept_weave.specs.Steps.{AddsStart, AddsStretch, AddsHart, AreStretchesTold, IsTraceFront, IsStretchCause, IsHartCause, framed};
 ghost use Rattle.rept_weave.specs.Woven.{IsInnerCall, IsWoven, IsCause, ended, end_of};
 
-use crate::fault::{Place, WeaveFault};
+use crate::fault::{HartPlace, WeaveFault};
 use crate::stamped::{Start, push_context, push_start};
-use crate::stretch::{Hart, Harts, Stretch};
+use crate::stretch::{Hart, HartStretch, Harts};
 use rept_encode::{EncodeFault, encode_after_start, start_bit};
 use rept_isa::StepRow;
 use rept_word::{OutOfMemory, Text};
@@ -40,7 +40,7 @@ fn push_first(
     alloc: Global,
     out: &mut Text,
     halves: bool,
-    stretch: &Stretch,
+    stretch: &HartStretch,
 ) -> Result<(), OutOfMemory>
     requires { IsWalkable halves stretch.now.steps }
     ensures { OnOk result (AddsStart halves stretch.now out.old out.new) }
@@ -64,12 +64,13 @@ fn push_ended(out: &mut Text, halves: bool) -> Result<(), OutOfMemory>
     Ok(())
 }
 
-/// Adds the packets of a stretch: the start packet, those that tell branches and addresses, the end of the trace, and a context packet of the time at which the stretch has ended.
+/// Adds the packets of a stretch: the start packet, those that tell branches and addresses, the end
+/// of the trace, and a context packet of the time at which the stretch has ended.
 fn push_packets(
     alloc: Global,
     out: &mut Text,
     halves: bool,
-    stretch: &Stretch,
+    stretch: &HartStretch,
     reports: &[u8],
 ) -> Result<(), OutOfMemory>
     requires walkable { IsWalkable halves stretch.now.steps }
@@ -89,21 +90,21 @@ fn push_stretch(
     alloc: Global,
     out: &mut Text,
     halves: bool,
-    stretch: &Stretch,
-    at: Place,
+    stretch: &HartStretch,
+    at: HartPlace,
 ) -> Result<(), WeaveFault>
     requires { IsWalkable halves stretch.now.steps }
     ensures ok { OnOk result (AddsStretch halves stretch.now out.old out.new) }
     ensures err { IfErr result (IsStretchCause at stretch.now.steps) }
 {
     if let Some(step) = inner_call(stretch.steps.rows()) {
-        return Err(WeaveFault::InnerCall(Place { step, ..at }));
+        return Err(WeaveFault::InnerCall(HartPlace { step, ..at }));
     }
     let reports = match encode_after_start(alloc, halves, &stretch.steps) {
         Ok(reports) => reports,
         Err(EncodeFault::JumpEnds(step)) => {
             let step = step as usize;
-            return Err(WeaveFault::JumpEnds(Place { step, ..at }));
+            return Err(WeaveFault::JumpEnds(HartPlace { step, ..at }));
         }
         Err(EncodeFault::OutOfMemory) => return Err(WeaveFault::OutOfMemory),
     };
@@ -122,7 +123,7 @@ fn stream_of(alloc: Global, halves: bool, hart: &Hart, number: usize) -> Result<
     let stretches = hart.all();
     let mut stream = Text::new(alloc);
     for i in 0..stretches.len() {
-        let at = Place {
+        let at = HartPlace {
             hart: number,
             stretch: i,
             step: 0,
@@ -179,12 +180,18 @@ fn header(alloc: Global, halves: bool, count: u8) -> Result<Text, OutOfMemory>
     Ok(text)
 }
 
-/// A trace of what harts did, as the bytes of a file: one stream for each hart, in order, which has for each stretch a start packet of its begin and its thread, packets that tell its branches and
-/// addresses, the end of the trace, and a context packet of its end. `halves` says whether code may be compressed: byte 5 of the header is 1 then, and addresses are sent with 31 bits. A walk along the packets of a
-/// stretch has its steps, in each code that has their instructions: up to the last step, over which a gap leads. Each stretch must have a step, and each step must be one that a hart can make, short only where code may be compressed.
+/// A trace of what harts did, as the bytes of a file: one stream for each hart, in order, which has
+/// for each stretch a start packet of its begin and its thread, packets that tell its branches and
+/// addresses, the end of the trace, and a context packet of its end. `halves` says whether code may
+/// be compressed: byte 5 of the header is 1 then, and addresses are sent with 31 bits. A walk along
+/// the packets of a stretch has its steps, in each code that has their instructions: up to the last
+/// step, over which a gap leads. Each stretch must have a step, and each step must be one that a
+/// hart can make, short only where code may be compressed.
 ///
-/// The refusals are `HartCount`; `InnerCall` of a call that isn't the last step of its stretch; `JumpEnds` of the first call of a stretch that directly follows an uninferable jump; and `TooLong` of a hart.
-/// Times aren't looked at: `rept_threads::rebuilding::rebuild_many` refuses those that go back, and skips what is before the greatest begin of the harts' first stretches.
+/// The refusals are `HartCount`; `InnerCall` of a call that isn't the last step of its stretch;
+/// `JumpEnds` of the first call of a stretch that directly follows an uninferable jump; and
+/// `TooLong` of a hart. Times aren't looked at: `rept_threads::rebuilding::rebuild_many` refuses
+/// those that go back, and skips what is before the greatest begin of the harts' first stretches.
 pub fn weave(alloc: Global, halves: bool, harts: &Harts) -> Result<Text, WeaveFault>
     requires { All (All (λ s. IsWalkable halves s.steps)) harts.now }
     ensures woven { IfOk result (IsWoven halves harts.now) }

@@ -1,6 +1,6 @@
--- The bits of a packet's payload (Efficient Trace for RISC-V 2.0, on the encoder's output packets: fields are
--- packed from the least significant bit on, and bits at a payload's end that equal the last one kept may be left
--- out).
+-- The bits of a packet's payload (Efficient Trace for RISC-V 2.0, on the encoder's output packets:
+-- fields are packed from the least significant bit on, and bits at a payload's end that equal the
+-- last one kept may be left out).
 use Rattle.std.specs.Prelude.{ℕ, zero, suc, ◌+◌, ◌-◌, ◌*◌, ◌/◌, ◌%◌, ◌^◌, ◌==◌, min, List, length, slice_index, Bool, if◌then◌else◌}
 
 -- Bit number i, the lowest of each byte first. The last bit goes on for ever.

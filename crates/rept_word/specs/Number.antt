@@ -1,5 +1,5 @@
--- Words of 32 bits: sign extension (RISC-V unprivileged manual, chapter 2.3), and the numbers whose binary digits
--- are all 1.
+-- Words of 32 bits: sign extension (RISC-V unprivileged manual, chapter 2.3), and the numbers whose
+-- binary digits are all 1.
 use Rattle.std.specs.Prelude.{◌≡◌, ℕ, ◌+◌, ◌-◌, ◌%◌, ◌^◌, ◌≤◌, nat_lt, if◌then◌else◌}
 
 -- the low bits of v, as a number of so many bits in two's complement, written with 32 bits

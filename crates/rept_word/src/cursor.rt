@@ -2,8 +2,8 @@
 
 ghost use Rattle.std.specs.Prelude.{◌≡◌, ◌<◌, ◌≤◌, ◌-◌, ◌^◌, length};
 
-/// Takes the bits of a payload in order, the lowest of each byte first, as the packets of Efficient Trace for RISC-V are
-/// packed. Past the payload's end its last bit comes again, without end.
+/// Takes the bits of a payload in order, the lowest of each byte first, as the packets of Efficient
+/// Trace for RISC-V are packed. Past the payload's end its last bit comes again, without end.
 #[derive(Clone, Copy)]
 pub struct BitCursor<'a> {
     payload: &'a [u8],
@@ -30,7 +30,8 @@ impl<'a> BitCursor<'a> {
         }
     }
 
-    /// The number that the next `n` bits spell, the first of them lowest. Any number of takes may follow.
+    /// The number that the next `n` bits spell, the first of them lowest. Any number of takes may
+    /// follow.
     pub fn take(&mut self, n: u32) -> u64
         requires { n ≤ 64 }
         ensures value { (payload : List ℕ) (i : ℕ) →
@@ -49,9 +50,9 @@ impl<'a> BitCursor<'a> {
         value
     }
 
-    /// Some of so many bits that come next, at least one: those that the byte at the cursor has, or all of them where
-    /// only the payload's last bit comes.
-    fn part(&mut self, most: u32) -> Part
+    /// Some of so many bits that come next, at least one: those that the byte at the cursor has, or
+    /// all of them where only the payload's last bit comes.
+    fn part(&mut self, most: u32) -> SpelledBits
         requires some { 0 < most }
         requires few { most ≤ 64 }
         ensures value { (payload : List ℕ) (i : ℕ) →
@@ -68,11 +69,11 @@ impl<'a> BitCursor<'a> {
         let count = most.min(8 - u32::from(self.bit));
         let bits = u64::from(self.payload[self.byte] >> self.bit) % (1 << count);
         self.pass(count as u8);
-        Part { bits, count }
+        SpelledBits { bits, count }
     }
 
-    /// So many bits, all like the payload's last one, at which the cursor is.
-    fn repeated(&self, count: u32) -> Part
+    /// This many bits, all like the payload's last one, at which the cursor is.
+    fn repeated(&self, count: u32) -> SpelledBits
         requires few { count ≤ 64 }
         requires last { self.now.bit ≡ 7 }
         requires whole { self.now.byte + 1 ≡ length self.now.payload.now }
@@ -83,10 +84,11 @@ impl<'a> BitCursor<'a> {
     {
         let last = (self.payload[self.byte] >> self.bit) % 2 == 1;
         let bits = if last { ones(count) } else { 0 };
-        Part { bits, count }
+        SpelledBits { bits, count }
     }
 
-    /// Goes on by so many bits of the byte at the cursor. At the payload's last bit the cursor stays there.
+    /// Goes on by so many bits of the byte at the cursor. At the payload's last bit the cursor
+    /// stays there.
     fn pass(&mut self, count: u8)
         requires { self.old.bit + count ≤ 8 }
         ensures at { (payload : List ℕ) (i : ℕ) →
@@ -105,7 +107,7 @@ impl<'a> BitCursor<'a> {
 
 /// Bits that come one after the other, as the number that they spell.
 #[derive(Clone, Copy)]
-struct Part {
+struct SpelledBits {
     bits: u64,
     count: u32,
 }

@@ -3,8 +3,8 @@
 ghost use Rattle.std.specs.Prelude.{◌≡◌, ◌+◌, ◌*◌, ◌%◌, ◌^◌, ◌≤◌, ℕ};
 ghost use Rattle.rept_word.specs.Number.{sign_extended, IsCover};
 
-/// The low `bits` bits of `v`, with the highest of them repeated above, as the RISC-V unprivileged manual extends
-/// immediates and loaded bytes by their sign (chapters 2.3 and 2.6).
+/// The low `bits` bits of `v`, with the highest of them repeated above, as the RISC-V unprivileged
+/// manual extends immediates and loaded bytes by their sign (chapters 2.3 and 2.6).
 pub fn sext(v: u32, bits: u32) -> u32
     requires some { 1 ≤ bits }
     requires in_word { bits ≤ 32 }
@@ -19,8 +19,8 @@ pub fn sext(v: u32, bits: u32) -> u32
     }
 }
 
-/// The number by which an odd `v` is multiplied to give 1 modulo 2^32. Each of five steps of Newton's iteration doubles the
-/// count of right bits.
+/// The number by which an odd `v` is multiplied to give 1 modulo 2^32. Each of five steps of
+/// Newton's iteration doubles the count of right bits.
 pub fn inverse_odd(v: u32) -> u32
     requires { v % 2 ≡ 1 }
     ensures { v * result % 2 ^ 32 ≡ 1 }

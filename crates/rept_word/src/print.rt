@@ -16,7 +16,8 @@ impl Text {
         self.push_count(u64::from(n))
     }
 
-    /// As `push_decimal`, for a count of 64 bits.
+    /// Appends a count of 64 bits in decimal, with no sign and no leading zero. A refusal, which
+    /// comes only where memory runs out, leaves the text as it was.
     pub fn push_count(&mut self, n: u64) -> Result<(), OutOfMemory>
         ensures ok { OnOk result (self.new ≡ self.old ++ decimal n) }
         ensures err { OnErr result (self.new ≡ self.old) }

@@ -32,7 +32,8 @@ impl Text {
         }
     }
 
-    /// Appends the piece. A refusal, which comes only where memory runs out, leaves the text as it was.
+    /// Appends the piece. A refusal, which comes only where memory runs out, leaves the text as it
+    /// was.
     pub fn push(&mut self, piece: &[u8]) -> Result<(), OutOfMemory>
         ensures ok { OnOk result (self.new ≡ self.old ++ piece.now) }
         ensures err { OnErr result (self.new ≡ self.old) }

@@ -1,4 +1,5 @@
--- The command line as a command of `clap`: four subcommands, whose words go by their places. This project's own.
+-- The command line as a command of `clap`: four subcommands, whose words go by their places. This
+-- project's own.
 use Rattle.std.specs.Prelude.{true, Some, codes}
 use Rattle.clap.specs.Words.{App, Rule, Text, new_app, new_rule, with_rule, with_subcommand}
 use Rattle.clap.specs.declared.builder.ArgAction.TheVariants.{Set}

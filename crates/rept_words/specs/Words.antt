@@ -18,8 +18,8 @@ pub record CoreNames : Type 0 where
   pub core : List ℕ
   pub trace : List ℕ
 
--- `open` and `bits` name three files and may name the packet to begin from; `maps` names two, and the same; `self` gives a seed and a count of
--- steps
+-- `open` and `bits` name three files and may name the packet to begin from; `maps` names two, and
+-- the same; `self` gives a seed and a count of steps
 pub data Meaning : Type 0 where
   Open : Domain → Names → Option ℕ → Meaning
   Maps : CoreNames → Option ℕ → Meaning

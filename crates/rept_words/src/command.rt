@@ -94,7 +94,8 @@ fn with_command<'a>(
     program.subcommand(command?)
 }
 
-/// The command `rept`, with the subcommands `open`, `bits`, `maps` and `self`, whose words go by their places. It has no help of its own.
+/// The command `rept`, with the subcommands `open`, `bits`, `maps` and `self`, whose words go by
+/// their places. It has no help of its own.
 pub fn rept_command<'a>(alloc: Global) -> Result<Command<'a>, OutOfMemory>
     ensures { IfOk result (λ c. app_of c ≡ rept_app) }
 {

@@ -16,8 +16,9 @@ use rept_number::decimal;
 use rept_word::OutOfMemory;
 use std::alloc::{AllocError, Global};
 
-/// What the words ask for. None exactly where they have no meaning: where a word is empty or begins with a hyphen, where
-/// they are none of the forms, or a number is out of form or of range. The only refusal is out of memory.
+/// What the words ask for. None exactly where they have no meaning: where a word is empty or begins
+/// with a hyphen, where they are none of the forms, or a number is out of form or of range. The
+/// only refusal is out of memory.
 pub fn meaning<'a>(alloc: Global, words: &'a [String]) -> Result<Option<Request<'a>>, OutOfMemory>
     ensures { IfOk result (λ r. option_map asked_by r ≡ meaning_of (map string_bytes words.entry.now)) }
 {

@@ -8,7 +8,8 @@ pub struct FileNames<'a> {
     pub trace: &'a str,
 }
 
-/// The names of the files of a crash whose core file lists the files of the program: core file and instruction trace.
+/// The names of the files of a crash whose core file lists the files of the program: core file and
+/// instruction trace.
 #[derive(Clone, Copy, Debug)]
 pub struct CoreNames<'a> {
     pub core: &'a str,
@@ -27,13 +28,15 @@ pub enum Domain {
 /// What the words ask for.
 #[derive(Clone, Copy, Debug)]
 pub enum Request<'a> {
-    /// `open EXE CORE TRACE [FROM]`, or `bits` with the same words: `from` is the number of the packet to begin from.
+    /// `open EXE CORE TRACE [FROM]`, or `bits` with the same words: `from` is the number of the
+    /// packet to begin from.
     Open {
         domain: Domain,
         names: FileNames<'a>,
         from: Option<u32>,
     },
-    /// `maps CORE TRACE [FROM]`: the executable and shared objects are those that the core file lists.
+    /// `maps CORE TRACE [FROM]`: the executable and shared objects are those that the core file
+    /// lists.
     Maps {
         names: CoreNames<'a>,
         from: Option<u32>,

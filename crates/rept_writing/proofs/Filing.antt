@@ -1,4 +1,5 @@
--- That what is kept stays true when a row is added, and what it says of the first row that may write an address.
+-- That what is kept stays true when a row is added, and what it says of the first row that may
+-- write an address.
 use Rattle.std.proofs.Common.{◌≡◌, ℕ, ◌<◌, ◌≤◌, ◌^◌, ◌⊎◌, Bool, true, false, List, Option, Some, None, inl, inr, refl, sym, arith, subst}
 use Rattle.std.specs.Prelude.{min, max}
 use Rattle.std.specs.List.{Contains}
@@ -26,7 +27,8 @@ sooner_first P Q R k end (Some m) (Some n) p q each x y = (omega (arith, x.0, y.
     least : R (min m n)
     least = elim either [ inl e ↦ subst R (sym e) (p m x.2) | inr e ↦ subst R (sym e) (q n y.2) ]
 
--- the first of which the one or the other holds, where the other one is looked for only before the one that was found
+-- the first of which the one or the other holds, where the other one is looked for only before the
+-- one that was found
 pub first_of_both : (P Q R : ℕ → Type 0) (k end : ℕ) (x y : Option ℕ) → ((j : ℕ) → P j → R j) → ((j : ℕ) → Q j → R j) → ((j : ℕ) → R j → P j ⊎ Q j) → IsFirst P k end x → IsFirst Q k (unwrap_or x end) y → IsFirst R k end (sooner x y)
 first_of_both P Q R k end None None p q each x y = sooner_first P Q R k end None None p q each x y
 first_of_both P Q R k end None (Some n) p q each x y = sooner_first P Q R k end None (Some n) p q each x y

@@ -1,4 +1,4 @@
--- What the rows of one kind tell of those that may fall between two numbers, or before or after one.
+-- What the rows of one kind tell of those that may act between two numbers, or before or after one.
 use Rattle.std.proofs.Common.{◌≡◌, ℕ, ◌+◌, ◌<◌, ◌≤◌, ◌⊎◌, Bool, true, false, List, length, get_or, Option, None, Some, inl, inr, refl, sym, ◌∙◌, ap, subst, arith}
 use Rattle.std.specs.Prelude.{max, slice_get}
 use Rattle.std.specs.List.{Contains}
@@ -11,7 +11,7 @@ use Rattle.rept_writing.specs.declared.columns.Columns.{Columns}
 use Rattle.rept_writing.specs.declared.list.Writing.{Writing}
 use Rattle.rept_writing.specs.Hits.{IsFreeSince, IsMeeting, IsNextHitBelow, IsNextMeeting, IsPastHitFrom, IsSplitAt, Link, hits_at, writing_hits}
 use Rattle.rept_writing.specs.Filed.{IsFirst, sooner}
-use Rattle.rept_writing.specs.Falling.{AreColumns, IsAround, IsSince, IsSplit}
+use Rattle.rept_writing.specs.Acting.{AreColumns, IsAround, IsSince, IsSplitByActing}
 use Rattle.rept_writing.proofs.Filing.{first_within, sooner_first}
 use Rattle.rept_writing.proofs.Passing.{at_or_after, place_of}
 
@@ -34,11 +34,11 @@ not_meeting list link j x b is says isnt met =
     let same : met.writing ≡ x = cc in
     true≢false (sym (says (subst (Meets link) same (met.hits, met.above, met.below))) ∙ isnt)
 
--- the rows that were gone back over fall before a number
+-- the rows that were gone back over may act before a number
 abbrev pub IsGoneBack : List Writing → Columns → (ℕ → ℕ → ℕ → ℕ → Type 0)
 IsGoneBack list c p end found a = (q : ℕ) (x : Writing) → p ≤ q → q < end → slice_get list (get_or c.places.items q 0) ≡ Some x → call_hits x.access a ≡ true → x.to ≤ found
 
--- those that were gone over fall to no lower number
+-- those that were gone over may act to no lower number
 abbrev pub IsGoneOver : List Writing → Columns → (ℕ → ℕ → ℕ → ℕ → Type 0)
 IsGoneOver list c start p found a = (q : ℕ) (x : Writing) → start ≤ q → q < p → slice_get list (get_or c.places.items q 0) ≡ Some x → call_hits x.access a ≡ true → found ≤ x.from
 
@@ -47,15 +47,15 @@ abbrev pub NoneMeets : List Writing → Columns → Link → ℕ → ℕ → Typ
 NoneMeets list c link start p = (q : ℕ) → start ≤ q → q < p → IsMeeting list link (get_or c.places.items q 0) → ⊥
 
 module _ (list : List Writing) (c : Columns) (a : AreColumns list c) where
-  -- a row that falls above a number isn't before the place up to which none does
-  not_past : (m low p : ℕ) (x : Writing) → IsSplit c.lasts.items (m + 1) low → p < length c.places.items → slice_get list (get_or c.places.items p 0) ≡ Some x → m < x.to → low ≤ p
+  -- a row that may act above a number isn't before the place up to which none does
+  not_past : (m low p : ℕ) (x : Writing) → IsSplitByActing c.lasts.items (m + 1) low → p < length c.places.items → slice_get list (get_or c.places.items p 0) ≡ Some x → m < x.to → low ≤ p
   not_past m low p x cut inside is above = elim (cases_lt p low) [
     | inl lt ↦ absurd (omega (arith, cut.below p lt, a.no_later p p x (omega arith) inside is, above))
     | inr le ↦ le
   ]
 
-  -- and one that falls to a number up to one is before the place from which on none does
-  not_ahead : (w high p : ℕ) (x : Writing) → IsSplit c.firsts.items (w + 1) high → p < length c.places.items → slice_get list (get_or c.places.items p 0) ≡ Some x → x.from ≤ w → p < high
+  -- and one that may act to a number up to one is before the place from which on none does
+  not_ahead : (w high p : ℕ) (x : Writing) → IsSplitByActing c.firsts.items (w + 1) high → p < length c.places.items → slice_get list (get_or c.places.items p 0) ≡ Some x → x.from ≤ w → p < high
   not_ahead w high p x cut inside is below = elim (cases_lt p high) [
     | inl lt ↦ lt
     | inr le ↦ absurd (omega (arith, cut.above p le (omega (arith, inside, a.as_many_firsts)), a.no_sooner p p x (omega arith) inside is, below))
@@ -67,7 +67,7 @@ module _ (list : List Writing) (c : Columns) (a : AreColumns list c) where
       let (p, inside, e) = place_of c.places.items j (a.complete j x is kind) in
       (p, inside, e, subst (λ (n : ℕ). slice_get list n ≡ Some x) (sym e) is)
 
-  pub around_of : (m w low high first after : ℕ) → IsSplit c.lasts.items (m + 1) low → IsSplit c.firsts.items (w + 1) high → first ≡ get_or c.places.items low (length list) → after ≡ get_or c.places.items high (length list) → IsAround list c.is_call (record { from = m; to = w; address = 0 }) first after
+  pub around_of : (m w low high first after : ℕ) → IsSplitByActing c.lasts.items (m + 1) low → IsSplitByActing c.firsts.items (w + 1) high → first ≡ get_or c.places.items low (length list) → after ≡ get_or c.places.items high (length list) → IsAround list c.is_call (record { from = m; to = w; address = 0 }) first after
   around_of m w low high first after late ahead is_first is_after j x is kind above below =
       let (p, inside, e, at) = place j x is kind in
       let from = not_past m low p x late inside at above in
@@ -79,8 +79,9 @@ module _ (list : List Writing) (c : Columns) (a : AreColumns list c) where
         ],
       )
 
-  -- none meets a link, where all that fall to its second number or before lie among those that fall up to its first one
-  pub none_apart : (k m w b late end : ℕ) → IsSplit c.lasts.items (m + 1) late → IsSplit c.firsts.items (w + 1) end → end ≤ late → IsFirst (λ j. Contains c.places.items j × IsMeeting list (record { from = m; to = w; address = b }) j) k (length list) None
+  -- none meets a link, where all that may act to its second number or before lie among those that
+  -- may act up to its first one
+  pub none_apart : (k m w b late end : ℕ) → IsSplitByActing c.lasts.items (m + 1) late → IsSplitByActing c.firsts.items (w + 1) end → end ≤ late → IsFirst (λ j. Contains c.places.items j × IsMeeting list (record { from = m; to = w; address = b }) j) k (length list) None
   none_apart k m w b late end passed ahead apart j from lt (there, met) =
       let (q, inside, e) = place_of c.places.items j there in
       let at = subst (λ (n : ℕ). slice_get list n ≡ Some met.writing) (sym e) met.stands in
@@ -88,7 +89,7 @@ module _ (list : List Writing) (c : Columns) (a : AreColumns list c) where
       let high = not_ahead w end q met.writing ahead inside at met.below in
       omega (arith, low, high, apart)
 
-  module _ (k m w b late begin end : ℕ) (passed : IsSplit c.lasts.items (m + 1) late) (cut : IsSplit c.places.items k begin) (ahead : IsSplit c.firsts.items (w + 1) end) where
+  module _ (k m w b late begin end : ℕ) (passed : IsSplitByActing c.lasts.items (m + 1) late) (cut : IsSplitByActing c.places.items k begin) (ahead : IsSplitByActing c.firsts.items (w + 1) end) where
     met_place : (j : ℕ) → k ≤ j → Contains c.places.items j → IsMeeting list (record { from = m; to = w; address = b }) j → (q : ℕ) × (max late begin ≤ q) × (q < end) × (q < length c.places.items) × (get_or c.places.items q 0 ≡ j)
     met_place j from there met =
         let (q, inside, e) = place_of c.places.items j there in

@@ -5,7 +5,7 @@ use Rattle.std.proofs.lemmas.Bool.{cases_lt}
 use Rattle.std.proofs.lemmas.List.{get_or_default}
 use Rattle.rept_writing.specs.declared.list.Writing.{Writing}
 use Rattle.rept_writing.specs.Hits.{hits_at}
-use Rattle.rept_writing.specs.Falling.{IsSplit}
+use Rattle.rept_writing.specs.Acting.{IsSplitByActing}
 
 -- what was passed over
 abbrev pub NoneHits : List Writing → List ℕ → ℕ → ℕ → (ℕ → Type 0)
@@ -18,5 +18,5 @@ place_of wide j (m, inside, is) = (m, inside, get_or_default wide m 0 j inside �
 pub contains_at : (wide : List ℕ) (m j : ℕ) → m < length wide → get_or wide m 0 ≡ j → Contains wide j
 contains_at wide m j inside is = (m, inside, get_or_default wide m j 0 inside ∙ is)
 
-pub at_or_after : (wide : List ℕ) (k start m : ℕ) → IsSplit wide k start → k ≤ get_or wide m 0 → start ≤ m
+pub at_or_after : (wide : List ℕ) (k start m : ℕ) → IsSplitByActing wide k start → k ≤ get_or wide m 0 → start ≤ m
 at_or_after wide k start m cut low = elim (cases_lt m start) [ inl lt ↦ absurd (omega (arith, cut.below m lt, low)) | inr le ↦ le ]

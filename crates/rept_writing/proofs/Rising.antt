@@ -1,4 +1,5 @@
--- How the rows of one kind are found, and that what is kept of them stays true where a row like the old one takes its place.
+-- How the rows of one kind are found, and that what is kept of them stays true where a row like the
+-- old one takes its place.
 use Rattle.std.proofs.Common.{◌≡◌, ℕ, ◌+◌, ◌-◌, ◌<◌, ◌≤◌, ◌⊎◌, List, [], ◌∷◌, ◌++◌, length, get_or, inl, inr, refl, sym, ◌∙◌, ap, subst, arith}
 use Rattle.std.specs.Prelude.{max, set, slice_get, Some}
 use Rattle.std.specs.List.{All, Contains}
@@ -10,7 +11,7 @@ use Rattle.std.proofs.lemmas.List.Sorted.{IsNonDecreasingBy-push, IsNonDecreasin
 use Rattle.std.proofs.lemmas.Option.{slice_get-get_or, slice_get_within}
 use Rattle.rept_writing.specs.declared.columns.Columns.{Columns}
 use Rattle.rept_writing.specs.declared.list.Writing.{Writing}
-use Rattle.rept_writing.specs.Falling.{AreColumns, AreLeastOnward, AreTaken, FallsAs}
+use Rattle.rept_writing.specs.Acting.{AreColumns, AreLeastOnward, AreTaken, MayActAs}
 use Rattle.rept_writing.proofs.Keeping.{set_elsewhere, set_there}
 
 -- from a place on each number is the least one onward, and before it each is as it was
@@ -138,26 +139,26 @@ columns_taken list c new t kind places lasts least = record {
   no_later = λ p q w le lt is. omega (arith, ap (λ (xs : List ℕ). get_or xs q 0) lasts, t.no_later p q w le (omega (arith, lt, ap length places)) (subst (λ (xs : List ℕ). slice_get list (get_or xs p 0) ≡ Some w) places is));
 }
 
--- what may stand at an index now fell as it does before
-was_there : (list : List Writing) (k : ℕ) (d w : Writing) (j : ℕ) (x : Writing) → k < length list → FallsAs (get_or list k d) w → slice_get (set list k w) j ≡ Some x → (y : Writing) × (slice_get list j ≡ Some y) × FallsAs y x
+-- what may stand at an index now might act as it does before
+was_there : (list : List Writing) (k : ℕ) (d w : Writing) (j : ℕ) (x : Writing) → k < length list → MayActAs (get_or list k d) w → slice_get (set list k w) j ≡ Some x → (y : Writing) × (slice_get list j ≡ Some y) × MayActAs y x
 was_there list k d w j x lt alike is = elim (cases_eq j k) [
   | inl same ↦
       let now : Some w ≡ Some x = sym (set_there list k w lt) ∙ subst (λ (n : ℕ). slice_get (set list k w) n ≡ Some x) same is in
       let e : w ≡ x = cc in
-      (get_or list k d, subst (λ (n : ℕ). slice_get list n ≡ Some (get_or list k d)) (sym same) (slice_get-get_or list k d lt), subst (FallsAs (get_or list k d)) e alike)
+      (get_or list k d, subst (λ (n : ℕ). slice_get list n ≡ Some (get_or list k d)) (sym same) (slice_get-get_or list k d lt), subst (MayActAs (get_or list k d)) e alike)
   | inr ne ↦ (x, sym (set_elsewhere list k j w ne) ∙ is, record { from = refl; to = refl; kind = refl })
 ]
 
-pub columns_replaced : (list : List Writing) (k : ℕ) (d w : Writing) (c : Columns) → k < length list → FallsAs (get_or list k d) w → AreColumns list c → AreColumns (set list k w) c
+pub columns_replaced : (list : List Writing) (k : ℕ) (d w : Writing) (c : Columns) → k < length list → MayActAs (get_or list k d) w → AreColumns list c → AreColumns (set list k w) c
 columns_replaced list k d w c lt alike a = record {
   rising = a.rising;
   apart = a.apart;
   inside = subst (λ (n : ℕ). All (λ (j : ℕ). j < n) c.places.items) (sym (length-set list k w)) a.inside;
-  complete = λ j x is kind. let (y, was, falls) = was_there list k d w j x lt alike is in a.complete j y was (sym falls.kind ∙ kind);
+  complete = λ j x is kind. let (y, was, may_act) = was_there list k d w j x lt alike is in a.complete j y was (sym may_act.kind ∙ kind);
   as_many_firsts = a.as_many_firsts;
   as_many_lasts = a.as_many_lasts;
   firsts_rise = a.firsts_rise;
   lasts_rise = a.lasts_rise;
-  no_sooner = λ p q x le less is. let (y, was, falls) = was_there list k d w (get_or c.places.items q 0) x lt alike is in omega (arith, a.no_sooner p q y le less was, falls.from);
-  no_later = λ p q x le less is. let (y, was, falls) = was_there list k d w (get_or c.places.items p 0) x lt alike is in omega (arith, a.no_later p q y le less was, falls.to);
+  no_sooner = λ p q x le less is. let (y, was, may_act) = was_there list k d w (get_or c.places.items q 0) x lt alike is in omega (arith, a.no_sooner p q y le less was, may_act.from);
+  no_later = λ p q x le less is. let (y, was, may_act) = was_there list k d w (get_or c.places.items p 0) x lt alike is in omega (arith, a.no_later p q y le less was, may_act.to);
 }

@@ -1,4 +1,5 @@
--- How the bytes that rows of a list may write are kept, so that they are found by address. This project's own.
+-- How the bytes that rows of a list may write are kept, so that they are found by address. This
+-- project's own.
 use Rattle.std.specs.Prelude.{◌≡◌, ℕ, ◌+◌, ◌<◌, ◌≤◌, ◌^◌, ◌⊎◌, zero, suc, List, [], ◌∷◌, ◌++◌, get_or, length, true, Option, Some, None, Result, MatchResult, if◌then◌else◌, min}
 use Rattle.std.specs.List.{All, Contains}
 use Rattle.std.specs.List.Sorted.{IsNonDecreasing, IsPartitionPoint}
@@ -39,7 +40,8 @@ abbrev pub IsFirst : (ℕ → Type 0) → ℕ → ℕ → Option ℕ → Type 0
 IsFirst P k end None = (j : ℕ) → k ≤ j → j < end → P j → ⊥
 IsFirst P k end (Some h) = (k ≤ h) × (h < end) × P h × ((j : ℕ) → k ≤ j → j < h → P j → ⊥)
 
--- the number after the greatest one from a number on and below k of which P holds, or the former number where there is none
+-- the number after the greatest one from a number on and below k of which P holds, or the former
+-- number where there is none
 pub record IsPast (P : ℕ → Type 0) (low k past : ℕ) : Type 0 where
   pub from : low ≤ past
   pub before : (past ≡ low) ⊎ ((j : ℕ) × (past ≡ j + 1) × (j < k) × P j)
@@ -87,8 +89,8 @@ pub record IsKeptByAddress (access : CallAccess) (index : ℕ) (old new : List H
   pub second : StartsAtWord access.second
   pub is : new ≡ old ++ hits_of access index
 
--- Each address that the row at an index may write stands among the single ones with that index, or the index among those of rows of
--- many addresses, but not both; and nothing else stands there.
+-- Each address that the row at an index may write stands among the single ones with that index, or
+-- the index among those of rows of many addresses, but not both; and nothing else stands there.
 pub record IsFiled (list : List Writing) (narrow : List Hit) (wide : List ℕ) : Type 0 where
   pub sound : All (λ h. hits_at list h.index h.address ≡ true) narrow
   pub complete : (j a : ℕ) → a < 2 ^ 32 → hits_at list j a ≡ true → Contains narrow (hit a j) ⊎ Contains wide j

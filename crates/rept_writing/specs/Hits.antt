@@ -24,7 +24,8 @@ pub record IsFirstHit (list : List Writing) (k a h : ℕ) : Type 0 where
   pub hits : hits_at list h a ≡ true
   pub none_before : (j : ℕ) → k ≤ j → j < h → hits_at list j a ≡ false
 
--- the first row from an index to before another one that may write the address, or that there is none
+-- the first row from an index to before another one that may write the address, or that there is
+-- none
 abbrev pub IsNextHitBelow : List Writing → ℕ → ℕ → ℕ → Option ℕ → Type 0
 IsNextHitBelow list k end a None = (j : ℕ) → k ≤ j → j < end → hits_at list j a ≡ false
 IsNextHitBelow list k end a (Some h) = (h < end) × IsFirstHit list k a h
@@ -35,7 +36,7 @@ pub record Link : Type 0 where
   pub to : ℕ
   pub address : ℕ
 
--- the row may write the address, and may fall between the numbers
+-- the row may write the address, and may act between the numbers
 pub record IsMeeting (list : List Writing) (link : Link) (j : ℕ) : Type 0 where
   pub writing : Writing
   pub stands : slice_get list j ≡ Some writing
@@ -71,10 +72,11 @@ pub record IsPastHitFrom (list : List Writing) (low number a past : ℕ) : Type 
   pub before : (past ≡ low) ⊎ ((j : ℕ) × (past ≡ j + 1) × IsHitBefore list number a j)
   pub none_after : (j : ℕ) → past ≤ j → IsHitBefore list number a j → ⊥
 
--- no row that stands before a number and may write the address falls at this number or a later one
+-- no row that stands before a number and may write the address may act at this number or a later
+-- one
 abbrev pub IsFreeSince : List Writing → ℕ → ℕ → ℕ → Type 0
 IsFreeSince list number a since = (j : ℕ) → (w : Writing) → slice_get list j ≡ Some w → w.at < number → call_hits w.access a ≡ true → w.to ≤ since
 
--- no row that stands at a number or later and may write the address falls before this number
+-- no row that stands at a number or later and may write the address may act before this number
 abbrev pub IsFreeUntil : List Writing → ℕ → ℕ → ℕ → Type 0
 IsFreeUntil list number a until = (j : ℕ) → (w : Writing) → slice_get list j ≡ Some w → number ≤ w.at → call_hits w.access a ≡ true → until ≤ w.from

@@ -1,4 +1,4 @@
 pub mod Hits
 pub mod Filed
-pub mod Falling
+pub mod Acting
 pub mod Bounded

@@ -1,4 +1,4 @@
-//! The rows of one kind, calls or the others, and when they may fall.
+//! The rows of one kind, calls or the others, and when they may act.
 
 ghost use Rattle.std.specs.Prelude.{◌≡◌, ◌↔◌, ℕ, ◌+◌, ◌-◌, ◌<◌, ◌≤◌, [], ◌∷◌, ◌++◌, IfOk, Some, true, get_or, length, max, slice_get};
 ghost use Rattle.std.specs.List.{Contains};
@@ -7,15 +7,16 @@ ghost use Rattle.rept_alias.specs.Accesses.{call_hits};
 ghost use Rattle.rept_writing.specs.Hits.{IsMeeting};
 ghost use Rattle.rept_writing.specs.Bounded.{AreOfKindWithin};
 ghost use Rattle.rept_writing.specs.Filed.{IsFirst};
-ghost use Rattle.rept_writing.specs.Falling.{AreColumns, AreLeastOnward, AreTaken, IsAround, IsUntil, IsSince, room_of};
+ghost use Rattle.rept_writing.specs.Acting.{AreColumns, AreLeastOnward, AreTaken, IsAround, IsUntil, IsSince, room_of};
 
-use crate::bounds::{Bounds, bounds_of_all};
+use crate::bounds::{StoreBounds, bounds_of_all};
 use crate::cuts::{below_near, up_to_near};
 use crate::list::Writing;
 use std::alloc::{AllocError as OutOfMemory, Global};
 use std::cell::Cell;
 
-/// The indices of the rows of one kind, with what tells fast which of them may fall between two numbers.
+/// The indices of the rows of one kind, with what tells fast which of them may act between two
+/// numbers.
 #[derive(Drop)]
 pub struct Columns {
     /// whether they are calls
@@ -26,7 +27,8 @@ pub struct Columns {
     firsts: Vec<u32>,
     /// the greatest `to` of each one and those before it
     lasts: Vec<u32>,
-    /// where the searches of `lasts`, of `firsts` and of `places` ended last. It only saves work: no clause rests on it.
+    /// where the searches of `lasts`, of `firsts` and of `places` ended last. It only saves work:
+    /// no clause rests on it.
     near_last: Cell<usize>,
     near_first: Cell<usize>,
     near_place: Cell<usize>,
@@ -66,7 +68,8 @@ impl Columns {
         settle(&mut self.firsts);
     }
 
-    /// Takes each row of the kind, where none is there yet. What is kept as `firsts` is the `from` of each.
+    /// Takes each row of the kind, where none is there yet. What is kept as `firsts` is the `from`
+    /// of each.
     fn take_all(&mut self, list: &[Writing])
         requires places { self.old.places.items ≡ [] }
         requires firsts { self.old.firsts.items ≡ [] }
@@ -113,7 +116,7 @@ impl Columns {
         self.lasts.push_reserved(to.max(last));
     }
 
-    /// Between which indices the rows of the kind stand that may fall between two numbers.
+    /// Between which indices the rows of the kind stand that may act between two numbers.
     pub fn around(&self, list: &[Writing], m: u32, w: u32) -> (usize, usize)
         requires { AreColumns list.now self.now }
         ensures { IsAround list.now self.now.is_call (record { from = m; to = w; address = 0 }) result.0 result.1 }
@@ -127,7 +130,8 @@ impl Columns {
         )
     }
 
-    /// The first row of the kind from an index on that may write the address and may fall between two numbers.
+    /// The first row of the kind from an index on that may write the address and may act between
+    /// two numbers.
     pub fn next_meeting(&self, list: &[Writing], k: usize, m: u32, w: u32, a: u32) -> Option<usize>
         requires { AreColumns list.now self.now }
         ensures { IsFirst (λ j. Contains self.now.places.items j × IsMeeting list.now (record { from = m; to = w; address = a }) j) k (length list.now) result }
@@ -148,14 +152,15 @@ impl Columns {
     }
 
     /// The bounds of what the rows of the kind may write.
-    pub fn bounds(&self, list: &[Writing]) -> Bounds
+    pub fn bounds(&self, list: &[Writing]) -> StoreBounds
         requires { AreColumns list.now self.now }
         ensures { AreOfKindWithin list.now self.now.is_call result }
     {
         bounds_of_all(list, self.places.as_slice())
     }
 
-    /// A number that is no less than those after which the rows of the kind before an index may fall.
+    /// A number that is no less than those after which the rows of the kind before an index may
+    /// act.
     pub fn last_before(&self, list: &[Writing], k: usize) -> u32
         requires { AreColumns list.now self.now }
         ensures { IsSince list.now self.now.is_call (λ j w. j < k) result }
@@ -164,7 +169,8 @@ impl Columns {
         if p == 0 { 0 } else { self.lasts[p - 1] }
     }
 
-    /// A number that is no greater than those to which the rows of the kind from an index on may fall.
+    /// A number that is no greater than those to which the rows of the kind from an index on may
+    /// act.
     pub fn first_from(&self, list: &[Writing], k: usize) -> u32
         requires { AreColumns list.now self.now }
         ensures { IsUntil list.now self.now.is_call (λ j w. k ≤ j) result }
@@ -177,8 +183,8 @@ impl Columns {
         }
     }
 
-    /// A number that is no less than a given one and than those after which the rows of the kind before an index may fall that may
-    /// write the address.
+    /// A number that is no less than a given one and than those after which the rows of the kind
+    /// before an index may act that may write the address.
     pub fn since(&self, list: &[Writing], k: usize, a: u32, least: u32) -> u32
         requires { AreColumns list.now self.now }
         ensures least { least ≤ result }
@@ -195,8 +201,8 @@ impl Columns {
         found
     }
 
-    /// A number that is no greater than a given one and than those to which the rows of the kind from an index on may fall that may
-    /// write the address.
+    /// A number that is no greater than a given one and than those to which the rows of the kind
+    /// from an index on may act that may write the address.
     pub fn until(&self, list: &[Writing], k: usize, a: u32, most: u32) -> u32
         requires { AreColumns list.now self.now }
         ensures most { result ≤ most }
@@ -244,14 +250,14 @@ fn index_at(places: &[usize], p: usize, end: usize) -> usize
     if p < places.len() { places[p] } else { end }
 }
 
-/// Whether a row may write the address and may fall between two numbers.
+/// Whether a row may write the address and may act between two numbers.
 pub fn meets(row: &Writing, m: u32, w: u32, a: u32) -> bool
     ensures { (result ≡ true) ↔ ((call_hits row.now.access a ≡ true) × (m < row.now.to) × (row.now.from ≤ w)) }
 {
     m < row.to && row.from <= w && row.access.may_hit(a)
 }
 
-/// The greater one of a number and that after which a row may fall, if it may write the address.
+/// The greater one of a number and that after which a row may act, if it may write the address.
 pub fn later(found: u32, row: &Writing, a: u32) -> u32
     ensures found { found ≤ result }
     ensures to { call_hits row.now.access a ≡ true → row.now.to ≤ result }
@@ -263,7 +269,7 @@ pub fn later(found: u32, row: &Writing, a: u32) -> u32
     }
 }
 
-/// The lesser one of a number and that to which a row may fall, if it may write the address.
+/// The lesser one of a number and that to which a row may act, if it may write the address.
 pub fn earlier(found: u32, row: &Writing, a: u32) -> u32
     ensures found { result ≤ found }
     ensures from { call_hits row.now.access a ≡ true → result ≤ row.now.from }

@@ -1,10 +1,10 @@
-//! Where numbers that rise pass one. A search that says where it ended last looks there first; that only saves work, and no clause rests
-//! on it.
+//! Where numbers that rise pass one. A search that says where it ended last looks there first; that
+//! only saves work, and no clause rests on it.
 
 ghost use Rattle.std.specs.Prelude.{◌≡◌, ◌+◌, ◌≤◌, true, length};
 ghost use Rattle.std.specs.List.Sorted.{IsNonDecreasing};
 ghost use Rattle.rept_writing.specs.Hits.{AreInOrder, IsSplitAt};
-ghost use Rattle.rept_writing.specs.Falling.{IsSplit};
+ghost use Rattle.rept_writing.specs.Acting.{IsSplitByActing};
 
 use crate::list::Writing;
 use std::cell::Cell;
@@ -12,7 +12,7 @@ use std::cell::Cell;
 /// How many of these indices are below one.
 pub fn below(indices: &[usize], k: usize) -> usize
     requires { IsNonDecreasing indices.now }
-    ensures { IsSplit indices.now k result }
+    ensures { IsSplitByActing indices.now k result }
 {
     indices.partition_point(|j| *j < k)
 }
@@ -20,7 +20,7 @@ pub fn below(indices: &[usize], k: usize) -> usize
 /// Whether so many of these indices are below one.
 fn are_below(indices: &[usize], k: usize, at: usize) -> bool
     requires { IsNonDecreasing indices.now }
-    ensures { result ≡ true → IsSplit indices.now k at }
+    ensures { result ≡ true → IsSplitByActing indices.now k at }
 {
     if at > indices.len() {
         return false;
@@ -31,7 +31,7 @@ fn are_below(indices: &[usize], k: usize, at: usize) -> bool
 /// How many of these indices are below one, with a look first at where the last search ended.
 pub fn below_near(indices: &[usize], k: usize, near: &Cell<usize>) -> usize
     requires { IsNonDecreasing indices.now }
-    ensures { IsSplit indices.now k result }
+    ensures { IsSplitByActing indices.now k result }
 {
     let last = near.get();
     if are_below(indices, k, last) {
@@ -45,7 +45,7 @@ pub fn below_near(indices: &[usize], k: usize, near: &Cell<usize>) -> usize
 /// Whether so many of these numbers are no greater than one.
 fn are_up_to(numbers: &[u32], bound: u32, at: usize) -> bool
     requires { IsNonDecreasing numbers.now }
-    ensures { result ≡ true → IsSplit numbers.now (bound + 1) at }
+    ensures { result ≡ true → IsSplitByActing numbers.now (bound + 1) at }
 {
     if at > numbers.len() {
         return false;
@@ -53,10 +53,11 @@ fn are_up_to(numbers: &[u32], bound: u32, at: usize) -> bool
     (at == 0 || numbers[at - 1] <= bound) && (at == numbers.len() || bound < numbers[at])
 }
 
-/// How many of these numbers are no greater than one, with a look first at where the last search ended.
+/// How many of these numbers are no greater than one, with a look first at where the last search
+/// ended.
 pub fn up_to_near(numbers: &[u32], bound: u32, near: &Cell<usize>) -> usize
     requires { IsNonDecreasing numbers.now }
-    ensures { IsSplit numbers.now (bound + 1) result }
+    ensures { IsSplitByActing numbers.now (bound + 1) result }
 {
     let last = near.get();
     if are_up_to(numbers, bound, last) {
@@ -78,8 +79,9 @@ fn are_before(list: &[Writing], number: u32, at: usize) -> bool
     (at == 0 || list[at - 1].at < number) && (at == list.len() || number <= list[at].at)
 }
 
-/// How many rows stand at lower numbers, with a look first at where the last search ended and at the place after it. The rows must stand
-/// in the order of these; where they don't, it is some index, up to the number of rows.
+/// How many rows stand at lower numbers, with a look first at where the last search ended and at
+/// the place after it. The rows must stand in the order of these; where they don't, it is some
+/// index, up to the number of rows.
 pub fn before_near(list: &[Writing], number: u32, near: &Cell<usize>) -> usize
     ensures bound { result ≤ length list.now }
     ensures split { AreInOrder list.now → IsSplitAt list.now number result }

@@ -8,4 +8,4 @@ mod list;
 mod narrow;
 mod wide;
 
-pub use list::{Writing, Writings};
+pub use list::{StoreIndex, Writing};

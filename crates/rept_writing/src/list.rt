@@ -3,10 +3,10 @@
 ghost use Rattle.std.specs.Prelude.{◌≡◌, ℕ, ◌+◌, ◌<◌, ◌≤◌, [], ◌∷◌, ◌++◌, IfOk, Some, true, false, length, set, slice_get};
 ghost use Rattle.std.specs.Vec.{vec_len, vec_capacity};
 ghost use Rattle.rept_writing.specs.Hits.{IsMeeting, IsNextHitBelow, IsNextMeeting, IsPastHitFrom, IsSplitAt, IsFreeSince, IsFreeUntil, AreInOrder, hits_at};
-ghost use Rattle.rept_writing.specs.Falling.{FallsAs};
+ghost use Rattle.rept_writing.specs.Acting.{MayActAs};
 ghost use Rattle.rept_writing.specs.Filed.{IsFiled, IsFirst, sooner};
 
-use crate::bounds::{Bounds, blocks_of, bound_all, bounds_of_all, widen, with_call, with_row};
+use crate::bounds::{StoreBounds, blocks_of, bound_all, bounds_of_all, widen, with_call, with_row};
 use crate::columns::{Columns, meets};
 use crate::cuts::before_near;
 use crate::narrow::{Hit, file, next_narrow, past_narrow};
@@ -16,13 +16,14 @@ use std::alloc::{AllocError as OutOfMemory, Global};
 use std::cell::Cell;
 use std::marker::Model;
 
-/// So many rows are replaced at least before it is worth the time to find them by address again.
+/// How many rows are replaced at least before it is worth the time to find them by address again.
 const WORN: usize = 64;
 
 /// And one in so many rows.
 const SHARE: usize = 8;
 
-/// Over so many rows at most one is looked for that may write an address, to tell since or until when none falls.
+/// Over so many rows at most one is looked for that may write an address, to tell since or until
+/// when none may act.
 const NEAR: usize = 4096;
 
 /// A row that may write, where it stands in time, and the bytes that it may write.
@@ -32,32 +33,34 @@ pub struct Writing {
     pub row: u32,
     /// the number of the moment before it
     pub at: u32,
-    /// the least number to which it may fall before it
+    /// the least number to which it may act before it
     pub from: u32,
-    /// the number after the greatest one after which it may fall
+    /// the number after the greatest one after which it may act
     pub to: u32,
-    /// whether it may go on for long, as a call of the system may. It only saves work: no clause rests on it.
+    /// whether it may go on for long, as a call of the system may. It only saves work: no clause
+    /// rests on it.
     pub is_call: bool,
     /// the bytes
     pub access: CallAccess,
 }
 
-/// Rows that may write, in the order in which they were added, with room for so many as were asked for. The next row that may
-/// write an address, and the last one before a moment, are found fast once `index` was called, and by a search through the list before.
+/// Rows that may write, in the order in which they were added, with room for so many as were asked
+/// for. The next row that may write an address, and the last one before a moment, are found fast
+/// once `index` was called, and by a search through the list before.
 #[derive(Drop)]
-pub struct Writings {
+pub struct StoreIndex {
     list: Vec<Writing>,
     /// each address of the rows that may write few
     narrow: Vec<Hit>,
     /// the indices of the others
     wide: Vec<usize>,
     /// the bounds of what these may write, for each block of them
-    blocks: Vec<Bounds>,
+    blocks: Vec<StoreBounds>,
     /// the bounds of what all of them may write
-    wide_bounds: Bounds,
+    wide_bounds: StoreBounds,
     /// the bounds of what the calls may write
-    call_bounds: Bounds,
-    /// the calls, and when they may fall
+    call_bounds: StoreBounds,
+    /// the calls, and when they may act
     calls: Columns,
     /// the same of the others
     others: Columns,
@@ -65,31 +68,32 @@ pub struct Writings {
     is_indexed: bool,
     /// how many of the others were replaced since then
     replaced: usize,
-    /// where an address was found last in `narrow`, for each of the four bytes of a word. It only saves work: no clause rests on it.
+    /// where an address was found last in `narrow`, for each of the four bytes of a word. It only
+    /// saves work: no clause rests on it.
     near: [Cell<usize>; 4],
     /// where numbers were found last in the list, to save work too
     near_number: [Cell<usize>; 4],
 }
 
-impl Model for Writings {
+impl Model for StoreIndex {
     ghost use Rattle.std.specs.Prelude.{◌≡◌, ◌<◌, ◌≤◌, true, false, length};
     ghost use Rattle.std.specs.Vec.{vec_capacity};
     ghost use Rattle.std.specs.List.Sorted.{IsSorted};
     ghost use Rattle.rept_writing.specs.Hits.{Listed};
-    ghost use Rattle.rept_writing.specs.Bounded.{AreBounded, AreOfKindWithin, AreWithin};
+    ghost use Rattle.rept_writing.specs.Bounded.{AreBounded, AreInBounds, AreOfKindWithin};
     ghost use Rattle.rept_writing.specs.Filed.{IsFiled, hit_cmp};
-    ghost use Rattle.rept_writing.specs.Falling.{AreColumns, room_of};
+    ghost use Rattle.rept_writing.specs.Acting.{AreColumns, room_of};
 
     ghost Value = { Listed };
 
     ghost view = { λ w. record { list = w.list.items; room = vec_capacity w.list } };
 
-    ghost invariant = { λ w. record { filed : IsFiled w.list.items w.narrow.items w.wide.items; sorted : w.is_indexed ≡ true → IsSorted hit_cmp w.narrow.items; room : vec_capacity w.list ≤ vec_capacity w.wide; calls : w.is_indexed ≡ true → AreColumns w.list.items w.calls; others : w.is_indexed ≡ true → AreColumns w.list.items w.others; bounded : w.is_indexed ≡ true → AreBounded w.list.items w.wide.items w.blocks.items; wide_within : w.is_indexed ≡ true → AreWithin w.list.items w.wide.items (λ m. m < length w.wide.items) w.wide_bounds; calls_within : w.is_indexed ≡ true → AreOfKindWithin w.list.items true w.call_bounds; are_calls : w.calls.is_call ≡ true; are_others : w.others.is_call ≡ false; calls_room : vec_capacity w.list ≤ room_of w.calls; others_room : vec_capacity w.list ≤ room_of w.others } };
+    ghost invariant = { λ w. record { filed : IsFiled w.list.items w.narrow.items w.wide.items; sorted : w.is_indexed ≡ true → IsSorted hit_cmp w.narrow.items; room : vec_capacity w.list ≤ vec_capacity w.wide; calls : w.is_indexed ≡ true → AreColumns w.list.items w.calls; others : w.is_indexed ≡ true → AreColumns w.list.items w.others; bounded : w.is_indexed ≡ true → AreBounded w.list.items w.wide.items w.blocks.items; wide_within : w.is_indexed ≡ true → AreInBounds w.list.items w.wide.items (λ m. m < length w.wide.items) w.wide_bounds; calls_within : w.is_indexed ≡ true → AreOfKindWithin w.list.items true w.call_bounds; are_calls : w.calls.is_call ≡ true; are_others : w.others.is_call ≡ false; calls_room : vec_capacity w.list ≤ room_of w.calls; others_room : vec_capacity w.list ≤ room_of w.others } };
 }
 
-impl Writings {
+impl StoreIndex {
     /// No row, with room for so many rows, and for so many bytes of rows that may write few.
-    pub fn new(alloc: Global, rows: usize, bytes: usize) -> Result<Writings, OutOfMemory>
+    pub fn new(alloc: Global, rows: usize, bytes: usize) -> Result<StoreIndex, OutOfMemory>
         ensures none { IfOk result (λ w. w.list ≡ []) }
         ensures room { IfOk result (λ w. rows ≤ w.room) }
     {
@@ -100,13 +104,13 @@ impl Writings {
         let room = list.capacity();
         let calls = Columns::new(alloc, true, room)?;
         let others = Columns::new(alloc, false, room)?;
-        Ok(Writings {
+        Ok(StoreIndex {
             list,
             narrow,
             wide,
             blocks,
-            wide_bounds: Bounds::none(),
-            call_bounds: Bounds::none(),
+            wide_bounds: StoreBounds::none(),
+            call_bounds: StoreBounds::none(),
             calls,
             others,
             is_indexed: false,
@@ -156,9 +160,9 @@ impl Writings {
         list[k]
     }
 
-    /// Puts a row in the place of the one at an index, if that one may write many addresses and this one may fall between the same
-    /// numbers and is a call where that one is, and answers whether it is so. Of a row of few each address is kept by itself, so that it
-    /// stays.
+    /// Puts a row in the place of the one at an index, if that one may write many addresses and
+    /// this one may act between the same numbers and is a call where that one is, and answers
+    /// whether it is so. Of a row of few each address is kept by itself, so that it stays.
     pub fn replace(&mut self, k: usize, writing: Writing) -> bool
         requires { k < length self.old.list }
         ensures replaced { result ≡ true → self.new.list ≡ set self.old.list k writing }
@@ -168,7 +172,7 @@ impl Writings {
         let Some(place) = place_of(self.wide.as_slice(), k) else {
             return false;
         };
-        if !falls_as(&self.list[k], &writing) {
+        if !may_act_as(&self.list[k], &writing) {
             return false;
         }
         let access = writing.access;
@@ -180,13 +184,14 @@ impl Writings {
         true
     }
 
-    /// Whether so many rows were replaced since `index` that a search may go past many that don't write the address, and it is worth
-    /// the time to call `index` again.
+    /// Whether so many rows were replaced since `index` that a search may go past many that don't
+    /// write the address, and it is worth the time to call `index` again.
     pub fn is_worn(&self) -> bool {
         self.replaced >= WORN && self.replaced >= self.list.len() / SHARE
     }
 
-    /// Makes the rows found fast by address, up to the next row that is added. The list stays as it is; no memory is taken.
+    /// Makes the rows found fast by address, up to the next row that is added. The list stays as it
+    /// is; no memory is taken.
     pub fn index(&mut self)
         ensures { self.new ≡ self.old }
     {
@@ -204,7 +209,8 @@ impl Writings {
         self.replaced = 0;
     }
 
-    /// The index of the first row from index k to before another one that may write the address. None is said exactly where there is none.
+    /// The index of the first row from index k to before another one that may write the address.
+    /// None is said exactly where there is none.
     pub fn next_hit(&self, k: usize, end: usize, a: u32) -> Option<usize>
         ensures { IsNextHitBelow self.now.list k end a result }
     {
@@ -234,7 +240,8 @@ impl Writings {
         }
     }
 
-    /// The index of the first row from index k on that may write the address and may fall between two numbers.
+    /// The index of the first row from index k on that may write the address and may act between
+    /// two numbers.
     pub fn next_meeting(&self, k: usize, m: u32, w: u32, a: u32) -> Option<usize>
         ensures { IsNextMeeting self.now.list k (record { from = m; to = w; address = a }) result }
     {
@@ -271,8 +278,8 @@ impl Writings {
         None
     }
 
-    /// A number at which and after which no row that stands at a lower number and may write the address falls. Not each row is looked
-    /// at, so it may be greater than it needs to be.
+    /// A number at which and after which no row that stands at a lower number and may write the
+    /// address may act. Not each row is looked at, so it may be greater than it needs to be.
     pub fn free_since(&self, number: u32, a: u32) -> u32
         ensures { AreInOrder self.now.list → IsFreeSince self.now.list number a result }
     {
@@ -289,8 +296,8 @@ impl Writings {
         self.calls.since(list, k, a, since)
     }
 
-    /// A number before which no row that stands at this one or a higher one and may write the address falls. Not each row is looked
-    /// at, so it may be less than it needs to be.
+    /// A number before which no row that stands at this one or a higher one and may write the
+    /// address may act. Not each row is looked at, so it may be less than it needs to be.
     pub fn free_until(&self, number: u32, a: u32) -> u32
         ensures { AreInOrder self.now.list → IsFreeUntil self.now.list number a result }
     {
@@ -307,7 +314,8 @@ impl Writings {
         self.calls.until(list, k, a, until)
     }
 
-    /// The first row from an index on that may write the address, or an index before which there is none from that index on.
+    /// The first row from an index on that may write the address, or an index before which there is
+    /// none from that index on.
     fn hit_near(&self, k: usize, a: u32) -> usize
         ensures { (j : ℕ) → k ≤ j → hits_at self.now.list j a ≡ true → result ≤ j }
     {
@@ -318,8 +326,8 @@ impl Writings {
         }
     }
 
-    /// How many rows stand at lower numbers. The rows must stand in the order of these; where they don't, it is some index, up to the
-    /// number of rows.
+    /// How many rows stand at lower numbers. The rows must stand in the order of these; where they
+    /// don't, it is some index, up to the number of rows.
     pub fn before(&self, number: u32) -> usize
         ensures bound { result ≤ length self.now.list }
         ensures split { AreInOrder self.now.list → IsSplitAt self.now.list number result }
@@ -331,8 +339,9 @@ impl Writings {
         )
     }
 
-    /// The index after the last row from an index on at a lower number that may write the address, or that index where there is none.
-    /// The rows must stand in the order of these numbers; where they don't, it is some index, up to the number of rows.
+    /// The index after the last row from an index on at a lower number that may write the address,
+    /// or that index where there is none. The rows must stand in the order of these numbers; where
+    /// they don't, it is some index, up to the number of rows.
     pub fn past_hit(&self, low: usize, number: u32, a: u32) -> usize
         requires { low ≤ length self.now.list }
         ensures bound { result ≤ length self.now.list }
@@ -360,9 +369,9 @@ impl Writings {
     }
 }
 
-/// Whether a row may fall between the same numbers as another one, and is a call where that one is.
-fn falls_as(old: &Writing, new: &Writing) -> bool
-    ensures { result ≡ true → FallsAs old.now new.now }
+/// Whether a row may act between the same numbers as another one, and is a call where that one is.
+fn may_act_as(old: &Writing, new: &Writing) -> bool
+    ensures { result ≡ true → MayActAs old.now new.now }
 {
     old.from == new.from && old.to == new.to && old.is_call == new.is_call
 }

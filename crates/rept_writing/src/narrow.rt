@@ -13,7 +13,8 @@ use std::cell::Cell;
 /// A row whose addresses are at most so many has each of them kept by itself.
 const FEW: u64 = 8;
 
-/// That the row at an index of the list may write an address. In order by address, and at one address by index.
+/// That the row at an index of the list may write an address. In order by address, and at one
+/// address by index.
 #[derive(Clone, Copy, PartialEq, Eq, PartialOrd, Ord, Debug)]
 pub struct Hit {
     /// the address
@@ -70,7 +71,8 @@ fn push_part(narrow: &mut Vec<Hit>, part: Option<Access>, index: usize)
     }
 }
 
-/// Keeps each address of the row at an index, where these are few and there is room, and else the index.
+/// Keeps each address of the row at an index, where these are few and there is room, and else the
+/// index.
 pub fn file(narrow: &mut Vec<Hit>, wide: &mut Vec<usize>, index: usize, access: &CallAccess)
     requires { vec_len wide.old < vec_capacity wide.old }
     ensures filed { (IsKeptByAddress access.now index narrow.old.items narrow.new.items × (wide.new.items ≡ wide.old.items)) ⊎ ((narrow.new.items ≡ narrow.old.items) × (wide.new.items ≡ wide.old.items ++ index ∷ [])) }
@@ -96,7 +98,8 @@ fn is_less(x: Hit, y: Hit) -> bool
     x.address < y.address
 }
 
-/// Whether a hit would stand at a place: the one before the place is less, and the one at it is greater.
+/// Whether a hit would stand at a place: the one before the place is less, and the one at it is
+/// greater.
 fn is_between(narrow: &[Hit], at: usize, sought: Hit) -> bool
     requires { IsSorted hit_cmp narrow.now }
     ensures { result ≡ true → (at ≤ length narrow.now) × IsPlaceOf narrow.now sought at }
@@ -110,7 +113,8 @@ fn is_between(narrow: &[Hit], at: usize, sought: Hit) -> bool
     at == narrow.len() || is_less(sought, narrow[at])
 }
 
-/// Where a hit stands, or would stand: at the place that was found last or the one after it, or else by halves.
+/// Where a hit stands, or would stand: at the place that was found last or the one after it, or
+/// else by halves.
 fn seek(narrow: &[Hit], sought: Hit, near: &Cell<usize>) -> Result<usize, usize>
     requires { IsSorted hit_cmp narrow.now }
     ensures bound { IsSearchInRange result (length narrow.now) }

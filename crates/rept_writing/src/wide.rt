@@ -6,9 +6,9 @@ ghost use Rattle.std.specs.List.Sorted.{IsNonDecreasing};
 ghost use Rattle.rept_writing.specs.Hits.{hits_at};
 ghost use Rattle.rept_writing.specs.Filed.{IsFirst, IsPast};
 ghost use Rattle.rept_writing.specs.Bounded.{AreBounded};
-ghost use Rattle.rept_writing.specs.Falling.{FallBefore, FallFrom};
+ghost use Rattle.rept_writing.specs.Acting.{MayActBefore, MayActFrom};
 
-use crate::bounds::{Bounds, block_end, block_has, block_start};
+use crate::bounds::{StoreBounds, block_end, block_has, block_start};
 use crate::columns::{earlier, later};
 use crate::cuts::below;
 use crate::list::Writing;
@@ -26,8 +26,8 @@ pub fn scan(list: &[Writing], k: usize, end: usize, a: u32) -> Option<usize>
     None
 }
 
-/// The number after the last row from an index on and before index k that may write the address, or the former index, by a look at
-/// each.
+/// The number after the last row from an index on and before index k that may write the address, or
+/// the former index, by a look at each.
 pub fn scan_back(list: &[Writing], low: usize, k: usize, a: u32) -> usize
     requires { k ≤ length list.now }
     ensures { IsPast (λ j. hits_at list.now j a ≡ true) low k result }
@@ -40,9 +40,9 @@ pub fn scan_back(list: &[Writing], low: usize, k: usize, a: u32) -> usize
     low
 }
 
-/// A number at which and after which no row that may write the address falls, by a look at each.
+/// A number at which and after which no row that may write the address may act, by a look at each.
 pub fn scan_since(list: &[Writing], a: u32) -> u32
-    ensures { FallBefore list.now a (length list.now) result }
+    ensures { MayActBefore list.now a (length list.now) result }
 {
     let mut found = 0;
     for k in 0..list.len() {
@@ -51,9 +51,9 @@ pub fn scan_since(list: &[Writing], a: u32) -> u32
     found
 }
 
-/// A number before which no row that may write the address falls, by a look at each.
+/// A number before which no row that may write the address may act, by a look at each.
 pub fn scan_until(list: &[Writing], a: u32) -> u32
-    ensures { FallFrom list.now a (length list.now) result }
+    ensures { MayActFrom list.now a (length list.now) result }
 {
     let mut found = u32::MAX;
     for k in 0..list.len() {
@@ -71,12 +71,12 @@ fn writes(list: &[Writing], wide: &[usize], place: usize, a: u32) -> bool
     list[wide[place]].access.may_hit(a)
 }
 
-/// The first one of these indices, from k to before another one, whose row may write the address. A block whose bounds don't have it is
-/// passed over.
+/// The first one of these indices, from k to before another one, whose row may write the address. A
+/// block whose bounds don't have it is passed over.
 pub fn next_wide(
     list: &[Writing],
     wide: &[usize],
-    blocks: &[Bounds],
+    blocks: &[StoreBounds],
     k: usize,
     end: usize,
     a: u32,
@@ -101,12 +101,12 @@ pub fn next_wide(
     None
 }
 
-/// The number after the last one of these indices from one on and below k whose row may write the address, or the former index. A block
-/// whose bounds don't have the address is passed over.
+/// The number after the last one of these indices from one on and below k whose row may write the
+/// address, or the former index. A block whose bounds don't have the address is passed over.
 pub fn past_wide(
     list: &[Writing],
     wide: &[usize],
-    blocks: &[Bounds],
+    blocks: &[StoreBounds],
     low: usize,
     k: usize,
     a: u32,

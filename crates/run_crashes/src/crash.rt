@@ -2,12 +2,13 @@
 
 use crate::fails::Fails;
 use rept_app::rept;
-use rept_ports::{MemShelf, MemSink, MemSource, Shelf};
+use rept_ports::{FileStore, MemSink, MemSource, MemoryFileStore};
 use std::alloc::{AllocError, Global};
 use test_lines::Numbers;
 use test_lines::files::{core_file, core_with_word, executable};
 
-/// Files with their names, a file that is being made, an input that is being made, and the calls that fail.
+/// Files with their names, a file that is being made, an input that is being made, and the calls
+/// that fail.
 #[derive(Drop)]
 pub struct Crash {
     files: Vec<(String, Vec<u8>)>,
@@ -54,7 +55,8 @@ impl Crash {
         Ok(())
     }
 
-    /// Gives the file that was made a name: a later one of a name stands in the place of an earlier one.
+    /// Gives the file that was made a name: a later one of a name stands in the place of an earlier
+    /// one.
     fn keep(&mut self, alloc: Global, name: &str) -> Result<(), AllocError> {
         let name = String::from_str(alloc, name)?;
         let bytes = Vec::from_slice(alloc, self.file.as_slice())?;
@@ -85,13 +87,13 @@ impl Crash {
         self.input.as_slice()
     }
 
-    /// A shelf with the files, of which some loads fail.
-    pub fn shelf(&self, alloc: Global) -> Result<MemShelf, AllocError> {
-        let mut shelf = MemShelf::new(alloc, self.fails.loads.as_slice())?;
+    /// A file store with the files, of which some loads fail.
+    pub fn file_store(&self, alloc: Global) -> Result<MemoryFileStore, AllocError> {
+        let mut file_store = MemoryFileStore::new(alloc, self.fails.loads.as_slice())?;
         for (name, bytes) in &self.files {
-            shelf.put(name.as_str(), bytes.as_slice())?;
+            file_store.put(name.as_str(), bytes.as_slice())?;
         }
-        Ok(shelf)
+        Ok(file_store)
     }
 
     /// Empties the input, and lets no call fail.
@@ -100,23 +102,24 @@ impl Crash {
         self.fails = Fails::new(alloc);
     }
 
-    /// The number of the status and what was written, where the program is given these words, the files and the input.
+    /// The number of the status and what was written, where the program is given these words, the
+    /// files and the input.
     pub fn run(&self, alloc: Global, line: &str) -> Result<String, AllocError> {
-        let mut shelf = self.shelf(alloc)?;
-        self.told(alloc, line, &mut shelf)
+        let mut file_store = self.file_store(alloc)?;
+        self.told(alloc, line, &mut file_store)
     }
 
-    /// The same over another shelf.
-    pub fn told<H: Shelf>(
+    /// The same over another file store.
+    pub fn told<H: FileStore>(
         &self,
         alloc: Global,
         line: &str,
-        shelf: &mut H,
+        file_store: &mut H,
     ) -> Result<String, AllocError> {
         let words = word_list(alloc, line)?;
         let mut source = MemSource::new(alloc, self.input.as_slice(), self.fails.reads.as_slice())?;
         let mut sink = MemSink::new(alloc, 4000, self.fails.writes.as_slice())?;
-        let status = rept(alloc, words.as_slice(), shelf, &mut source, &mut sink);
+        let status = rept(alloc, words.as_slice(), file_store, &mut source, &mut sink);
         let text = String::from_utf8_lossy(alloc, sink.bytes())?;
         format!(in alloc; "{}\n{text}", status.number())
     }

@@ -2,10 +2,11 @@
 
 use crate::crash::{Crash, word_list};
 use rept_debug::answer;
-use rept_ports::{CalmSource, DiskShelf, MemSink};
+use rept_ports::{DiskFileStore, InfallibleSource, MemSink};
 use std::alloc::AllocError;
 
-/// The number of the process and what was written, where the program for a debugger is given these words and the input.
+/// The number of the process and what was written, where the program for a debugger is given these
+/// words and the input.
 pub fn told<R: AllocGlobal + std::fs::Files>(
     rt: &R,
     crash: &Crash,
@@ -13,14 +14,14 @@ pub fn told<R: AllocGlobal + std::fs::Files>(
 ) -> Result<String, AllocError> {
     let alloc = rt.alloc();
     let words = word_list(alloc, line)?;
-    let mut shelf = DiskShelf::new(rt);
-    let mut source = CalmSource::new(crash.input());
+    let mut file_store = DiskFileStore::new(rt);
+    let mut source = InfallibleSource::new(crash.input());
     let mut sink = MemSink::new(alloc, 20000, &[])?;
     let mut errors = MemSink::new(alloc, 100, &[])?;
     let code = answer(
         alloc,
         Ok(words),
-        &mut shelf,
+        &mut file_store,
         &mut source,
         &mut sink,
         &mut errors,

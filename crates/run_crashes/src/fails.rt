@@ -21,7 +21,8 @@ impl Fails {
         }
     }
 
-    /// Lets the call with the number of the line fail, if it asks for that, and answers whether it does.
+    /// Lets the call with the number of the line fail, if it asks for that, and answers whether it
+    /// does.
     pub fn take(&mut self, asked: &str, n: &Numbers) -> Result<bool, AllocError> {
         let list = match asked {
             "load" => &mut self.loads,

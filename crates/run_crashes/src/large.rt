@@ -1,12 +1,12 @@
 //! Files at the limits of their sizes, and one byte past them.
 
 use crate::crash::Crash;
-use rept_ports::{LoadFault, Shelf};
+use rept_ports::{FileStore, LoadFault};
 use std::alloc::{AllocError, Global};
 use test_lines::Numbers;
 
-/// A shelf of which one file has so many bytes, and the others none. It gives no bytes of that file either, so that a case needs no
-/// memory for it.
+/// A file store of which one file has so many bytes, and the others none. It gives no bytes of that
+/// file either, so that a case needs no memory for it.
 #[derive(Drop)]
 struct OneLarge<'a> {
     name: &'a str,
@@ -15,7 +15,7 @@ struct OneLarge<'a> {
     faults: u64,
 }
 
-impl<'a> Shelf for OneLarge<'a> {
+impl<'a> FileStore for OneLarge<'a> {
     ghost use Rattle.std.specs.Prelude.{None};
 
     ghost port = { λ s. record { files = None; loads = s.loads; faults = s.faults } };
@@ -30,17 +30,18 @@ impl<'a> Shelf for OneLarge<'a> {
     }
 }
 
-/// What comes of files of which the first word of the line names one that has as many bytes as the number after it.
+/// What comes of files of which the first word of the line names one that has as many bytes as the
+/// number after it.
 pub fn told(alloc: Global, crash: &Crash, line: &str) -> Result<String, AllocError> {
     let mut words = line.split_whitespace();
     let name = words.next().unwrap_or("");
     let mut numbers = Numbers::new();
     numbers.take(words.next().unwrap_or(""));
-    let mut shelf = OneLarge {
+    let mut file_store = OneLarge {
         name,
         size: numbers.word(0) as usize,
         loads: 0,
         faults: 0,
     };
-    crash.told(alloc, "open e c t", &mut shelf)
+    crash.told(alloc, "open e c t", &mut file_store)
 }

@@ -1,5 +1,7 @@
-//! What comes of crashes through the calls that the programs make: of whole and of damaged files, of real crashes, of each line of a session, of packets that gdb sent, of each
-//! refusal, and of each call of a port that fails. The cases are the lines of `stdin`; `stdout` has the words of each, its status and what was written.
+//! What comes of crashes through the calls that the programs make: of whole and of damaged files,
+//! of real crashes, of each line of a session, of packets that gdb sent, of each refusal, and of
+//! each call of a port that fails. The cases are the lines of `stdin`; `stdout` has the words of
+//! each, its status and what was written.
 #![tactic(auto)]
 
 mod crash;
@@ -10,7 +12,7 @@ mod order;
 mod process;
 
 use crash::Crash;
-use rept_ports::DiskShelf;
+use rept_ports::DiskFileStore;
 use std::alloc::AllocError;
 use std::io;
 
@@ -25,7 +27,7 @@ fn answer<R: AllocGlobal + std::fs::Files>(
     let words = line.strip_prefix(asked).unwrap_or("");
     let text = match asked {
         "run" => crash.run(alloc, words),
-        "disk" => crash.told(alloc, words, &mut DiskShelf::new(rt)),
+        "disk" => crash.told(alloc, words, &mut DiskFileStore::new(rt)),
         "gdb" => dialog::told(rt, crash, words),
         "large" => large::told(alloc, crash, words),
         "order" => order::told(alloc, crash, words),

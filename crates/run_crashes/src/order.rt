@@ -56,7 +56,7 @@ impl<'a> Sink for Noting<'a> {
 /// The number of the status, and the calls of the ports in their order: 1 is a read, and 2 a write.
 pub fn told(alloc: Global, crash: &Crash, line: &str) -> Result<String, AllocError> {
     let words = word_list(alloc, line)?;
-    let mut shelf = crash.shelf(alloc)?;
+    let mut file_store = crash.file_store(alloc)?;
     let notes = Cell::new(0u64);
     let mut source = LineByLine {
         text: crash.input(),
@@ -64,6 +64,12 @@ pub fn told(alloc: Global, crash: &Crash, line: &str) -> Result<String, AllocErr
         faults: 0,
     };
     let mut sink = Noting { notes: &notes };
-    let status = rept(alloc, words.as_slice(), &mut shelf, &mut source, &mut sink);
+    let status = rept(
+        alloc,
+        words.as_slice(),
+        &mut file_store,
+        &mut source,
+        &mut sink,
+    );
     format!(in alloc; "{} {}", status.number(), notes.get())
 }

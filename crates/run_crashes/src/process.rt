@@ -1,6 +1,6 @@
 //! Words that can't be read.
 
-use rept_ports::{CalmShelf, CalmSource, MemSink, Unreadable};
+use rept_ports::{InfallibleFileStore, InfallibleSource, MemSink, Unreadable};
 use rept_run::answer;
 use std::alloc::{AllocError, Global};
 
@@ -13,13 +13,14 @@ fn words_of(alloc: Global, line: &str) -> Result<Vec<String>, Unreadable> {
     }
 }
 
-/// The number of the process and what was written, where the process is given these words, no file and an input of one line.
+/// The number of the process and what was written, where the process is given these words, no file
+/// and an input of one line.
 pub fn told(alloc: Global, line: &str) -> Result<String, AllocError> {
     let words = words_of(alloc, line);
-    let mut shelf = CalmShelf::new(alloc);
-    let mut source = CalmSource::new(b"regs\n");
+    let mut file_store = InfallibleFileStore::new(alloc);
+    let mut source = InfallibleSource::new(b"regs\n");
     let mut sink = MemSink::new(alloc, 100, &[])?;
-    let code = answer(alloc, words, &mut shelf, &mut source, &mut sink);
+    let code = answer(alloc, words, &mut file_store, &mut source, &mut sink);
     let text = String::from_utf8_lossy(alloc, sink.bytes())?;
     format!(in alloc; "{code:?}\n{text}")
 }

@@ -70,7 +70,8 @@ fn over_rows<P: Reaches + Drop, B: ByteFacts>(
     Ok(text)
 }
 
-/// Learns all that follows, however often memory runs out, and answers whether an answer that was known changed.
+/// Learns all that follows, however often memory runs out, and answers whether an answer that was
+/// known changed.
 fn learn<P: Reaches + Drop, B: ByteFacts>(
     alloc: Global,
     analysis: &mut Analysis<P, ThreadEnd, B, Range, Atomic>,
@@ -94,8 +95,8 @@ fn is_known(word: &str, answer: &str) -> bool {
     (word == "reg" && answer != "Unknown") || (word == "byte" && answer != "None")
 }
 
-/// The answer in the end: whether `refine` finds no conflict and no want of memory, which conflict it finds, a reason, or what is answered before
-/// too.
+/// The answer in the end: whether `refine` finds no conflict and no want of memory, which conflict
+/// it finds, a reason, or what is answered before too.
 fn finally<P: Reaches + Drop, B: ByteFacts>(
     alloc: Global,
     analysis: &mut Analysis<P, ThreadEnd, B, Range, Atomic>,
@@ -154,7 +155,8 @@ fn is_there<P: Reaches + Drop, B: ByteFacts>(
     point <= analysis.paths().last_point() && point <= analysis.paths().end()
 }
 
-/// What is known of a register or a byte at a point, or which row wrote it last; or how much is known in all.
+/// What is known of a register or a byte at a point, or which row wrote it last; or how much is
+/// known in all.
 fn answer<P: Reaches + Drop, B: ByteFacts>(
     alloc: Global,
     analysis: &Analysis<P, ThreadEnd, B, Range, Atomic>,

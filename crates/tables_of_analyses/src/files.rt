@@ -12,8 +12,8 @@ use test_lines::files::executable;
 // The code of the executable, at 0x10000: 12 bytes that can't be written.
 const CODE: [u32; 3] = [0x0070_0293, 0x0032_8313, 0x0062_83b3];
 
-// The headers of a core file of a note segment, which stands at 116, and of eight bytes at 0x20000, which stand at 340; and the
-// sizes, the type and the name of its note.
+// The headers of a core file of a note segment, which stands at 116, and of eight bytes at 0x20000,
+// which stand at 340; and the sizes, the type and the name of its note.
 const CORE: [u8; 136] = *b"\x7fELF\x01\x01\x01\0\0\0\0\0\0\0\0\0\
     \x04\0\xf3\0\x01\0\0\0\0\0\0\0\x34\0\0\0\0\0\0\0\0\0\0\0\x34\0\x20\0\x02\0\0\0\0\0\0\0\
     \x04\0\0\0\x74\0\0\0\0\0\0\0\0\0\0\0\xe0\0\0\0\0\0\0\0\0\0\0\0\0\0\0\0\
@@ -77,7 +77,8 @@ impl Files {
         executable(alloc, 0x10000, &CODE)
     }
 
-    /// The core file at the end of steps: the program counter and the registers x1 to x31; the bytes at 0x20000 are 7, 0, 0, 0, 5, 6, 7, 8.
+    /// The core file at the end of steps: the program counter and the registers x1 to x31; the
+    /// bytes at 0x20000 are 7, 0, 0, 0, 5, 6, 7, 8.
     pub fn core(&self, alloc: Global, steps: &Steps) -> Result<Vec<u8>, AllocError> {
         let mut file = Vec::from_slice(alloc, CORE.as_slice())?;
         file.extend_from_slice(&[0; 72])?;
@@ -90,7 +91,8 @@ impl Files {
     }
 }
 
-/// Appends the step of an address, a word and a next address, and answers whether it is one and can come next.
+/// Appends the step of an address, a word and a next address, and answers whether it is one and can
+/// come next.
 fn push(steps: &mut Steps, (at, word, next): (u32, u32, u32)) -> bool {
     let Some(instr) = decode(word) else {
         return false;

@@ -1,5 +1,6 @@
-//! What is concluded of small runs and why, over bytes in a list, bytes in spans and a list that refuses every other fact: the cases are the lines of `stdin`, and `stdout` has
-//! each with its answer.
+//! What is concluded of small runs and why, over bytes in a list, bytes in spans and a list that
+//! refuses every other fact: the cases are the lines of `stdin`, and `stdout` has each with its
+//! answer.
 #![tactic(auto)]
 
 ghost use Rattle.rept_steps.specs.Course.{IsSoundCourse};

@@ -1,6 +1,6 @@
 //! A store of bytes over which memory seems to run out again and again.
 
-use rept_versions::{ByteFacts, Carried, Learnt, PlainFacts, Stretch};
+use rept_versions::{ByteFacts, Carried, Learnt, PlainFacts, ValueStretch};
 use std::alloc::{AllocError, Global};
 
 /// A plain list that refuses every other fact that it is to learn.
@@ -63,7 +63,7 @@ impl ByteFacts for Refusing {
         self.facts.address(k)
     }
 
-    fn next_stretch(&self, a: u32, point: u32) -> Option<Stretch> {
+    fn next_stretch(&self, a: u32, point: u32) -> Option<ValueStretch> {
         self.facts.next_stretch(a, point)
     }
 }

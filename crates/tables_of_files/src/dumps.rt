@@ -18,7 +18,8 @@ pub fn answer(
     }
 }
 
-/// The dump of an executable and a core file, of one thread or of several. None where one of the files isn't whole.
+/// The dump of an executable and a core file, of one thread or of several. None where one of the
+/// files isn't whole.
 fn read<'a>(exe: &'a [u8], core: &'a [u8], many: bool) -> Option<Result<Dump<'a>, CoreFault>> {
     match (Image::read(exe, Want::Exec), Image::read(core, Want::Core)) {
         (Ok(exe), Ok(core)) if many => Some(Dump::read_many(exe, core)),

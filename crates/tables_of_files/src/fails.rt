@@ -7,8 +7,8 @@ use std::io;
 use std::io::{ErrorKind, Read, Seek, SeekFrom, Write};
 use std::rt::Files;
 
-/// A device, or a file system with the files that it opens, of which one call fails that would else succeed; those before it and after it are
-/// the device's own.
+/// A device, or a file system with the files that it opens, of which one call fails that would else
+/// succeed; those before it and after it are the device's own.
 #[derive(Drop)]
 pub struct FailsOnce<'a, D> {
     device: D,
@@ -16,8 +16,9 @@ pub struct FailsOnce<'a, D> {
 }
 
 impl<'a, D> FailsOnce<'a, D> {
-    /// The call with the number that `left` begins with fails, from 1 on; none for 0. It counts down with each call: an opening of a file or a
-    /// look at it, and a read or a write, of an opened file too.
+    /// The call with the number that `left` begins with fails, from 1 on; none for 0. It counts
+    /// down with each call: an opening of a file or a look at it, and a read or a write, of an
+    /// opened file too.
     pub fn new(device: D, left: &'a Cell<u32>) -> FailsOnce<'a, D> {
         FailsOnce { device, left }
     }

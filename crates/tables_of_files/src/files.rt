@@ -37,7 +37,8 @@ impl<'r, R: rt::Files> Files<'r, R> {
         })
     }
 
-    /// Makes the file longer or puts it in the place of the executable, and answers whether it was asked to.
+    /// Makes the file longer or puts it in the place of the executable, and answers whether it was
+    /// asked to.
     fn make(&mut self, asked: &str, n: &Numbers) -> Result<bool, AllocError> {
         match asked {
             "exe" => mem::swap(&mut self.exe, &mut self.file),

@@ -62,7 +62,8 @@ fn images_of(alloc: Global, file: &[u8]) -> Result<Images<'_>, AllocError>
     Ok(images)
 }
 
-/// The sizes of the files in the second and the third place, and the word, the half, the byte and the function at an address where the list of the core file has four entries, of the file.
+/// The sizes of the files in the second and the third place, and the word, the half, the byte and
+/// the function at an address where the list of the core file has four entries, of the file.
 pub fn answer(alloc: Global, file: &[u8], core: &[u8], a: u32) -> Result<String, AllocError> {
     let images = images_of(alloc, file)?;
     let sizes = (size(&images, 1), size(&images, 2));

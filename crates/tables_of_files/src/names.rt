@@ -2,7 +2,7 @@
 
 use crate::mapped::list_of;
 use rept_mapfiles::{asked_names, load_names, load_within};
-use rept_ports::CalmShelf;
+use rept_ports::InfallibleFileStore;
 use std::alloc::{AllocError, Global};
 
 /// The names of files in memory.
@@ -20,10 +20,14 @@ pub fn names(alloc: Global, core: &[u8]) -> Result<String, AllocError> {
 }
 
 /// How many bytes are kept of the file of each name, with room for so many in all.
-pub fn kept(alloc: Global, shelf: &mut CalmShelf, room: Option<u32>) -> Result<String, AllocError> {
+pub fn kept(
+    alloc: Global,
+    file_store: &mut InfallibleFileStore,
+    room: Option<u32>,
+) -> Result<String, AllocError> {
     let loaded = match room {
-        None => load_names(alloc, shelf, NAMES.as_slice()),
-        Some(room) => load_within(alloc, shelf, NAMES.as_slice(), room as usize),
+        None => load_names(alloc, file_store, NAMES.as_slice()),
+        Some(room) => load_within(alloc, file_store, NAMES.as_slice(), room as usize),
     };
     match loaded {
         Err(stop) => format!(in alloc; "{stop:?}"),

@@ -1,7 +1,7 @@
 //! The ports in memory that the lines of the table ask.
 
 use crate::{names, streams};
-use rept_ports::{CalmShelf, MemShelf, MemSink, Shelf, Sink, write_all};
+use rept_ports::{FileStore, InfallibleFileStore, MemSink, MemoryFileStore, Sink, write_all};
 use std::alloc::{AllocError, Global};
 use test_lines::Numbers;
 
@@ -27,39 +27,45 @@ pub fn name(n: &Numbers) -> &'static str {
     }
 }
 
-/// Two numbers of a line, from a place on: the calls of a port that fail. No call has the number 0, which stands for one that is missing.
+/// Two numbers of a line, from a place on: the calls of a port that fail. No call has the number 0,
+/// which stands for one that is missing.
 pub fn two(n: &Numbers, k: usize) -> [u64; 2] {
     [u64::from(n.word(k)), u64::from(n.word(k.wrapping_add(1)))]
 }
 
 /// A load of at most so many bytes, and one of a regular file.
-pub fn loaded<S: Shelf>(alloc: Global, shelf: &mut S, n: &Numbers) -> Result<String, AllocError> {
-    let any = shelf.load(alloc, name(n), n.word(1) as usize);
-    let regular = shelf.load_regular(alloc, name(n), n.word(1) as usize);
+pub fn loaded<S: FileStore>(
+    alloc: Global,
+    file_store: &mut S,
+    n: &Numbers,
+) -> Result<String, AllocError> {
+    let any = file_store.load(alloc, name(n), n.word(1) as usize);
+    let regular = file_store.load_regular(alloc, name(n), n.word(1) as usize);
     format!(in alloc; "{any:?}, {regular:?}")
 }
 
-/// Shelves of which one fails, and a sink.
+/// File stores of which one fails, and a sink.
 #[derive(Drop)]
 pub struct Ports {
-    calm: CalmShelf,
-    failing: MemShelf,
+    calm: InfallibleFileStore,
+    failing: MemoryFileStore,
     sink: MemSink,
 }
 
 impl Ports {
-    /// The shelves are empty, and the sink has no room.
+    /// The file stores are empty, and the sink has no room.
     pub fn new(alloc: Global) -> Result<Ports, AllocError> {
-        let failing = MemShelf::new(alloc, &[])?;
+        let failing = MemoryFileStore::new(alloc, &[])?;
         let sink = MemSink::new(alloc, 0, &[])?;
         Ok(Ports {
-            calm: CalmShelf::new(alloc),
+            calm: InfallibleFileStore::new(alloc),
             failing,
             sink,
         })
     }
 
-    /// Begins shelves or a sink, of which two calls fail, or gives the file a name on both shelves, and answers whether it was asked to.
+    /// Begins file stores or a sink, of which two calls fail, or gives the file a name on both file
+    /// stores, and answers whether it was asked to.
     pub fn take(
         &mut self,
         alloc: Global,
@@ -70,8 +76,8 @@ impl Ports {
         match asked {
             "sink" => self.sink = MemSink::new(alloc, n.word(0) as usize, &two(n, 1))?,
             "shelf" => {
-                self.calm = CalmShelf::new(alloc);
-                self.failing = MemShelf::new(alloc, &two(n, 0))?;
+                self.calm = InfallibleFileStore::new(alloc);
+                self.failing = MemoryFileStore::new(alloc, &two(n, 0))?;
             }
             "shelve" => {
                 self.calm.put(name(n), file)?;
@@ -82,7 +88,8 @@ impl Ports {
         Ok(true)
     }
 
-    /// What the shelves load and keep, the sink takes of the file by one write or by as many as it takes, and sources of it give.
+    /// What the file stores load and keep, the sink takes of the file by one write or by as many as
+    /// it takes, and sources of it give.
     pub fn answer(
         &mut self,
         alloc: Global,

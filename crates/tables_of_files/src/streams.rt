@@ -1,7 +1,7 @@
 //! What is read of sources, and their lines.
 
 use crate::ports::two;
-use rept_ports::{BoundedLines, CalmSource, Failed, MemSource, Source};
+use rept_ports::{BoundedLines, Failed, InfallibleSource, MemSource, Source};
 use std::alloc::{AllocError, Global};
 use std::fmt::Write;
 use test_lines::Numbers;
@@ -34,7 +34,7 @@ fn failing<'a>(alloc: Global, bytes: &'a [u8], n: &Numbers) -> Result<MemSource<
 /// Five reads of the bytes, and five of which some fail.
 pub fn sources(alloc: Global, bytes: &[u8], n: &Numbers) -> Result<String, AllocError> {
     let mut failing = failing(alloc, bytes, n)?;
-    let calm = reads(&mut CalmSource::new(bytes));
+    let calm = reads(&mut InfallibleSource::new(bytes));
     format!(in alloc; "{calm:?}; {:?}", reads(&mut failing))
 }
 

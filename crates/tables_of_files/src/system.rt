@@ -3,7 +3,7 @@
 use crate::fails::FailsOnce;
 use crate::ports::{loaded, name};
 use crate::streams::reads;
-use rept_ports::{DiskShelf, Shelf, Sink, StdSink, StdSource, write_all};
+use rept_ports::{DiskFileStore, FileStore, Sink, StdSink, StdSource, write_all};
 use std::alloc::{AllocError, Global};
 use std::cell::Cell;
 use std::fs;
@@ -35,20 +35,20 @@ pub fn answer<R: Files>(
 /// Loads of a file where a call of the system fails.
 fn disk<R: Files>(alloc: Global, rt: &R, n: &Numbers) -> io::Result<String> {
     let left = Cell::new(n.word(2));
-    let mut shelf = DiskShelf::new(FailsOnce::new(rt, &left));
-    Ok(loaded(alloc, &mut shelf, n)?)
+    let mut file_store = DiskFileStore::new(FailsOnce::new(rt, &left));
+    Ok(loaded(alloc, &mut file_store, n)?)
 }
 
-/// Loads of a pipe, which the system also names as a file and which holds so many bytes, as a regular file and as any; and how many bytes
-/// are left in it.
+/// Loads of a pipe, which the system also names as a file and which holds so many bytes, as a
+/// regular file and as any; and how many bytes are left in it.
 fn piped<R: Files>(alloc: Global, rt: &R, n: &Numbers) -> io::Result<String> {
     let (mut reader, mut writer) = io::pipe(rt)?;
     let held = writer.write([b'x'; 512].get(..n.word(0) as usize).unwrap_or(&[]))?;
     drop(writer);
     let path = format!(in alloc; "/proc/self/fd/{}", reader.as_raw_fd())?;
-    let mut shelf = DiskShelf::new(rt);
-    let regular = shelf.load_regular(alloc, path.as_str(), n.word(1) as usize);
-    let any = shelf.load(alloc, path.as_str(), n.word(1) as usize);
+    let mut file_store = DiskFileStore::new(rt);
+    let regular = file_store.load_regular(alloc, path.as_str(), n.word(1) as usize);
+    let any = file_store.load(alloc, path.as_str(), n.word(1) as usize);
     let left = reader.read(&mut [0; 512])?;
     Ok(format!(in alloc; "{regular:?}, {any:?}, {left} of {held}")?)
 }
@@ -60,13 +60,13 @@ fn read<R: Files>(alloc: Global, rt: &R, n: &Numbers) -> io::Result<String> {
     Ok(format!(in alloc; "{:?}", reads(&mut source))?)
 }
 
-/// Two bytes that are written to a new file as a whole, and twice one that is, where one write fails; and what a load of at most 9 bytes
-/// has then.
+/// Two bytes that are written to a new file as a whole, and twice one that is, where one write
+/// fails; and what a load of at most 9 bytes has then.
 fn written<R: Files>(alloc: Global, rt: &R, n: &Numbers) -> io::Result<String> {
     let left = Cell::new(n.word(1));
     let mut sink = StdSink::new(FailsOnce::new(fs::create(rt, name(n))?, &left));
     let whole = write_all(&mut sink, b"ab");
     let parts = [sink.write(b"c"), sink.write(b"d")];
-    let has = DiskShelf::new(rt).load(alloc, name(n), 9);
+    let has = DiskFileStore::new(rt).load(alloc, name(n), 9);
     Ok(format!(in alloc; "{whole:?}, {parts:?}, {has:?}")?)
 }

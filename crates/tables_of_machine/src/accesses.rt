@@ -44,7 +44,8 @@ fn has(first: Option<Access>, second: Option<Access>, a: u32) -> &'static str {
     yes(CallAccess { first, second }.may_hit(a))
 }
 
-/// Whether a part has the address, as the first part alone and as the second one beside 20, which they have then.
+/// Whether a part has the address, as the first part alone and as the second one beside 20, which
+/// they have then.
 pub fn parts(alloc: Global, part: Option<Access>, a: u32) -> Result<String, AllocError> {
     let beside = Some(Access {
         all: false,

@@ -1,4 +1,5 @@
-//! What sets of values have in common: ranges, one value or any, known bits, and these with a range.
+//! What sets of values have in common: ranges, one value or any, known bits, and these with a
+//! range.
 
 use crate::shown::{Value, range_at, set};
 use rept_known::{Bits, Both, least_from};
@@ -17,7 +18,8 @@ pub fn answer(alloc: Global, asked: &str, n: &Numbers) -> Result<String, AllocEr
     }
 }
 
-/// The set of two numbers of a line: the bits that are set, and the open ones. Without open ones it is that word, and without both any.
+/// The set of two numbers of a line: the bits that are set, and the open ones. Without open ones it
+/// is that word, and without both any.
 pub fn bits_at(n: &Numbers, k: usize) -> Bits {
     match (n.known(k), n.known(k.wrapping_add(1))) {
         (Some(value), Some(loose)) if value & loose == 0 => Bits::new(value, loose),

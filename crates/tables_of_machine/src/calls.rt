@@ -39,7 +39,8 @@ fn changes(call: &Call, a: u32) -> bool
     havoc(Flat::Known(call.number), &args, answer, IMAGE_END).may_hit(a)
 }
 
-/// Whether each of the addresses after the call's number, its six arguments and its answer may be changed.
+/// Whether each of the addresses after the call's number, its six arguments and its answer may be
+/// changed.
 pub fn changed(alloc: Global, n: &Numbers) -> Result<String, AllocError> {
     let args = [
         n.word(1),
@@ -66,7 +67,8 @@ pub fn changed(alloc: Global, n: &Numbers) -> Result<String, AllocError> {
     Ok(text)
 }
 
-/// The bytes of a call of which the bounds of its six arguments and of its answer are known. An end of the program's own memory that is none is 2^32.
+/// The bytes of a call of which the bounds of its six arguments and of its answer are known. An end
+/// of the program's own memory that is none is 2^32.
 pub fn reached(alloc: Global, n: &Numbers) -> Result<String, AllocError> {
     let args = [
         range_at(n, 1),

@@ -11,7 +11,8 @@ fn number(register: Option<Reg>) -> Option<u8> {
     }
 }
 
-/// What an instruction does to the path, the register that it writes, and those in the places of rs1 and rs2.
+/// What an instruction does to the path, the register that it writes, and those in the places of
+/// rs1 and rs2.
 pub fn registers(alloc: Global, word: u32) -> Result<String, AllocError> {
     match decode(word) {
         None => String::from_str(alloc, "none"),

@@ -1,5 +1,6 @@
-//! What other tools and tables that were worked out by hand say of words, halves, steps, instructions and calls, of accesses, sets of values and rules, and of stores of facts and of rows
-//! that write: the cases are the lines of `stdin`, and `stdout` has each with its answer.
+//! What other tools and tables that were worked out by hand say of words, halves, steps,
+//! instructions and calls, of accesses, sets of values and rules, and of stores of facts and of
+//! rows that write: the cases are the lines of `stdin`, and `stdout` has each with its answer.
 #![tactic(auto)]
 
 mod accesses;
@@ -23,7 +24,8 @@ use std::io;
 use stores::Stores;
 use test_lines::{Numbers, Table, tell};
 
-/// The tables of the machine, of sets and of rules, with the stores that some of their cases change.
+/// The tables of the machine, of sets and of rules, with the stores that some of their cases
+/// change.
 #[derive(Drop)]
 struct Tables {
     stores: Stores,

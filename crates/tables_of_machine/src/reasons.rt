@@ -2,7 +2,7 @@
 
 use crate::shown::range_at;
 use rept_isa::Reg;
-use rept_reason::{Cell, Fact, Looked, Reason};
+use rept_reason::{Cell, Fact, RangePremise, Reason};
 use std::alloc::{AllocError, Global};
 use test_lines::Numbers;
 
@@ -16,19 +16,29 @@ pub fn answer(alloc: Global, n: &Numbers) -> Result<String, AllocError> {
         None => String::from_str(alloc, "no case"),
         Some(reg) => {
             let (point, range) = (n.word(4), range_at(n, 6));
-            told(alloc, n.byte(0), premise, Looked { point, reg, range })
+            told(
+                alloc,
+                n.byte(0),
+                premise,
+                RangePremise { point, reg, range },
+            )
         }
     }
 }
 
 /// A reason's rule, its premise and its range, and the point and the value of what stands for none.
-fn told(alloc: Global, rule: u8, premise: Fact, looked: Looked) -> Result<String, AllocError> {
+fn told(
+    alloc: Global,
+    rule: u8,
+    premise: Fact,
+    looked: RangePremise,
+) -> Result<String, AllocError> {
     let mut reason = Reason::new(alloc, rule);
     let has_room = reason.premises.push(premise).is_ok() && reason.ranges.push(looked).is_ok();
     if !has_room {
         return Err(AllocError);
     }
     let (premises, ranges) = (reason.premises.as_slice(), reason.ranges.as_slice());
-    let (point, value) = (Looked::default().point, Fact::default().value);
+    let (point, value) = (RangePremise::default().point, Fact::default().value);
     format!(in alloc; "{} {premises:?} {ranges:?} {point} {value}", reason.rule)
 }

@@ -4,7 +4,7 @@ ghost use Rattle.std.specs.Prelude.{◌≤◌};
 
 use crate::accesses::part;
 use rept_alias::CallAccess;
-use rept_writing::{Writing, Writings};
+use rept_writing::{StoreIndex, Writing};
 use std::alloc::{AllocError, Global};
 use test_lines::Numbers;
 
@@ -14,11 +14,12 @@ const ROOM: usize = 6;
 /// A list of rows that may write, with room for six.
 #[derive(Drop)]
 pub struct Rows {
-    writings: Writings,
+    writings: StoreIndex,
     ghost room: { 6 ≤ writings.room },
 }
 
-/// What a row may write that stands at a number in time, itself has another number, and may fall between any two below 100.
+/// What a row may write that stands at a number in time, itself has another number, and may act
+/// between any two below 100.
 fn written(at: u32, access: CallAccess) -> Writing {
     Writing {
         row: 40u32.wrapping_sub(at),
@@ -33,12 +34,12 @@ fn written(at: u32, access: CallAccess) -> Writing {
 impl Rows {
     /// No row, and room for so many bytes of rows that may write few.
     pub fn new(alloc: Global, bytes: u32) -> Result<Rows, AllocError> {
-        let writings = Writings::new(alloc, ROOM, bytes as usize)?;
+        let writings = StoreIndex::new(alloc, ROOM, bytes as usize)?;
         Ok(Rows { writings })
     }
 
-    /// What is found in the list; or after a change how many rows there are, how many were replaced, and whether so many were that it is
-    /// worth the time to put all in order again.
+    /// What is found in the list; or after a change how many rows there are, how many were
+    /// replaced, and whether so many were that it is worth the time to put all in order again.
     pub fn answer(
         &mut self,
         alloc: Global,
@@ -65,7 +66,7 @@ impl Rows {
         match asked {
             "rows-new" => *self = Rows::new(alloc, n.word(0))?,
             "rows-add" => self.add(n),
-            "rows-fall" => self.add_falling(n),
+            "rows-fall" => self.add_acting(n),
             "rows-replace" => return Ok(Some(self.replace(n))),
             "rows-index" => self.writings.index(),
             "rows-clear" => self.writings.clear(),
@@ -74,8 +75,9 @@ impl Rows {
         Ok(Some(0))
     }
 
-    /// The first row that may write an address, from an index on or between two; the first one that may fall between two numbers besides;
-    /// and since and until which numbers none falls that may write it.
+    /// The first row that may write an address, from an index on or between two; the first one that
+    /// may act between two numbers besides; and since and until which numbers none may act that may
+    /// write it.
     fn found(&self, alloc: Global, asked: &str, n: &Numbers) -> Result<String, AllocError> {
         let (k, a) = (n.word(0), n.word(1));
         match asked {
@@ -107,8 +109,8 @@ impl Rows {
         }
     }
 
-    /// Adds a row that may fall between two numbers, and of which it is said whether it is a call.
-    fn add_falling(&mut self, n: &Numbers) {
+    /// Adds a row that may act between two numbers, and of which it is said whether it is a call.
+    fn add_acting(&mut self, n: &Numbers) {
         if self.writings.len() < ROOM {
             let (first, second) = (part(n, 4), part(n, 6));
             let mut writing = written(n.word(0), CallAccess { first, second });

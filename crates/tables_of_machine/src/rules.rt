@@ -6,11 +6,12 @@ use rept_amo::Atomic;
 use rept_isa::{Instr, StepRow};
 use rept_partial::{Flat, Partial};
 use rept_reason::Cell;
-use rept_rules::{Drawn, RegisterAt, RowRules, Side, When, forward, solve};
+use rept_rules::{Conclusion, RegisterAt, RowRules, Side, When, forward, solve};
 use std::alloc::{AllocError, Global};
 use test_lines::Numbers;
 
-/// What is known of x5 and x6 before a row, of x7 after it, and of the word at 0x20000 before and after it.
+/// What is known of x5 and x6 before a row, of x7 after it, and of the word at 0x20000 before and
+/// after it.
 fn view_of(n: &Numbers) -> Sample {
     Sample {
         first: n.known(3),
@@ -30,7 +31,7 @@ pub fn answer(
     match asked {
         "result" => result(alloc, &row.instr, n),
         "operand" => operands(alloc, &row.instr, n),
-        "drawn" => drawn(alloc, row, &view_of(n)),
+        "drawn" => inferred(alloc, row, &view_of(n)),
         "rules" => by_rules(alloc, row, &view_of(n)),
         "needs" => needs(alloc, row, &view_of(n), n.known(8)),
         "writes" => writes(alloc, row, &view_of(n), n.word(8)),
@@ -45,7 +46,8 @@ fn result(alloc: Global, instr: &Instr, n: &Numbers) -> Result<String, AllocErro
     format!(in alloc; "{}", Value(made.as_exact()))
 }
 
-/// The first and the second operand of an instruction that has this result, where the other one is known or not.
+/// The first and the second operand of an instruction that has this result, where the other one is
+/// known or not.
 fn operands(alloc: Global, instr: &Instr, n: &Numbers) -> Result<String, AllocError> {
     let first = solve(instr, Side::First, n.word(3), Flat::of(n.known(4)));
     let second = solve(instr, Side::Second, n.word(3), Flat::of(n.known(4)));
@@ -57,17 +59,17 @@ fn operands(alloc: Global, instr: &Instr, n: &Numbers) -> Result<String, AllocEr
 }
 
 /// What is concluded of a row.
-fn drawn(alloc: Global, row: &StepRow, view: &Sample) -> Result<String, AllocError> {
+fn inferred(alloc: Global, row: &StepRow, view: &Sample) -> Result<String, AllocError> {
     let mut rules = Atomic::new();
-    let drawn = rules.draw(alloc, row, view);
-    format!(in alloc; "{:?}", drawn.as_slice())
+    let inferred = rules.infer(alloc, row, view);
+    format!(in alloc; "{:?}", inferred.as_slice())
 }
 
 /// The value that a rule gives a register, or the word that its four bytes at 0x20000 make.
-fn value_by(drawn: &[Drawn], rule: u8) -> Option<u32> {
+fn value_by(inferred: &[Conclusion], rule: u8) -> Option<u32> {
     let mut value = 0;
     let mut found = None;
-    for d in drawn {
+    for d in inferred {
         if d.rule == rule {
             match d.cell {
                 Cell::Register(_) => {
@@ -86,16 +88,16 @@ fn value_by(drawn: &[Drawn], rule: u8) -> Option<u32> {
 /// Whether nothing is concluded, and what the rules 19 to 24 give.
 fn by_rules(alloc: Global, row: &StepRow, view: &Sample) -> Result<String, AllocError> {
     let mut rules = Atomic::new();
-    let drawn = rules.draw(alloc, row, view);
-    let is_empty = drawn.as_slice().is_empty();
-    let values = six(drawn.as_slice());
+    let inferred = rules.infer(alloc, row, view);
+    let is_empty = inferred.as_slice().is_empty();
+    let values = six(inferred.as_slice());
     format!(in alloc; "{is_empty:?} {values:?}")
 }
 
-fn six(drawn: &[Drawn]) -> [Option<u32>; 6] {
+fn six(inferred: &[Conclusion]) -> [Option<u32>; 6] {
     let mut values = [None; 6];
     for k in 0..6u8 {
-        values[usize::from(k)] = value_by(drawn, 19 + k);
+        values[usize::from(k)] = value_by(inferred, 19 + k);
     }
     values
 }
@@ -108,8 +110,8 @@ fn needs(
     rule: Option<u32>,
 ) -> Result<String, AllocError> {
     let mut rules = Atomic::new();
-    let drawn = rules.draw(alloc, row, view);
-    for d in drawn.as_slice() {
+    let inferred = rules.infer(alloc, row, view);
+    for d in inferred.as_slice() {
         if rule.is_none() || rule == Some(u32::from(d.rule)) {
             return format!(in alloc; "{:?}", Atomic::needs(alloc, row, view, d).as_slice());
         }

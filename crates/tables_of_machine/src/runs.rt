@@ -59,7 +59,8 @@ fn ended(alloc: Global, n: &Numbers, registers: [u32; 32]) -> Result<String, All
     }
 }
 
-/// Whether so many steps can be made; the row of one more, or why there is none; and x0, x5, x6, x7, x10 and a word in memory then.
+/// Whether so many steps can be made; the row of one more, or why there is none; and x0, x5, x6,
+/// x7, x10 and a word in memory then.
 pub fn run(alloc: Global, n: &Numbers) -> Result<String, AllocError> {
     let code = [n.word(1), n.word(2)];
     let registers = registers(n.word(3), n.word(4), n.word(5));

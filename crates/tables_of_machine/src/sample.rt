@@ -8,7 +8,8 @@ use rept_isa::Reg;
 use rept_partial::{Flat, Partial, Range};
 use rept_view::{RowView, When};
 
-/// What is known of x5 and x6 before a row, of x7 after it, and of the word at 0x20000 before and after it.
+/// What is known of x5 and x6 before a row, of x7 after it, and of the word at 0x20000 before and
+/// after it.
 #[derive(Clone, Copy)]
 pub struct Sample {
     pub first: Option<u32>,

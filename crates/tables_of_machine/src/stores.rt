@@ -77,8 +77,9 @@ fn track<B: ByteFacts>(
     format!(in alloc; "{}, {}", facts.count(), Value(address))
 }
 
-/// Learns facts on the byte at 0x20000 in spans with three places, one after another: whether there was room for the last one, and the
-/// room that is left. Places that go by points aren't asked for, so that there are no more.
+/// Learns facts on the byte at 0x20000 in spans with three places, one after another: whether there
+/// was room for the last one, and the room that is left. Places that go by points aren't asked for,
+/// so that there are no more.
 pub fn room(alloc: Global, n: &Numbers) -> Result<String, AllocError> {
     let mut facts = SpanFacts::make(alloc, 0, 1)?;
     let mut had_room = true;

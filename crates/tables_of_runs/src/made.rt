@@ -8,7 +8,8 @@ use rept_steps::{PushFault, Run, Slice, Slices, Steps, ThreadRows, Threads};
 use std::alloc::{AllocError, Global};
 use test_lines::Numbers;
 
-/// Rows that a hart ran for a thread, and the times between which it did. A row rests, or it stores (1) or calls the kernel (2).
+/// Rows that a hart ran for a thread, and the times between which it did. A row rests, or it stores
+/// (1) or calls the kernel (2).
 #[derive(Clone, Copy, Drop)]
 struct Part {
     thread: u32,
@@ -22,7 +23,7 @@ struct Part {
 pub struct Made {
     parts: Vec<Part>,
     threads: u32,
-    dark: Option<u32>,
+    untraced: Option<u32>,
 }
 
 impl Made {
@@ -31,7 +32,7 @@ impl Made {
         Made {
             parts: Vec::new(alloc),
             threads: 0,
-            dark: None,
+            untraced: None,
         }
     }
 
@@ -39,13 +40,14 @@ impl Made {
         self.threads
     }
 
-    /// Begins a run that is dark until a time, a thread, or a part of it, `part BEGIN END of ROW ..`, and answers whether it was asked to.
+    /// Begins a run that is untraced until a time, a thread, or a part of it,
+    /// `part BEGIN END of ROW ..`, and answers whether it was asked to.
     pub fn make(&mut self, asked: &str, n: &Numbers) -> Result<bool, AllocError> {
         match asked {
             "run" => {
                 self.parts.clear();
                 self.threads = 0;
-                self.dark = n.known(0);
+                self.untraced = n.known(0);
             }
             "thread" => self.threads = self.threads.wrapping_add(1),
             "part" => self.parts.push(Part {
@@ -66,13 +68,13 @@ impl Made {
             let rows = thread_of(alloc, self.parts.as_slice(), thread)?;
             threads.push(rows)?;
         }
-        let dark = match self.dark {
+        let untraced = match self.untraced {
             None => None,
             Some(time) => Some(u64::from(time)),
         };
         Ok(Run {
             threads,
-            dark,
+            untraced,
             skipped: 0,
         })
     }

@@ -1,5 +1,7 @@
-//! What was worked out by hand of runs of several threads: which are sound, which moments are next to one another, over which of them a byte is carried, which rows fall
-//! between them, and how far a byte's value goes at once. The cases are the lines of `stdin`, and `stdout` has each with its answer.
+//! What was worked out by hand of runs of several threads: which are sound, which moments are next
+//! to one another, over which of them a byte is carried, which rows may act between them, and how
+//! far a byte's value goes at once. The cases are the lines of `stdin`, and `stdout` has each with
+//! its answer.
 #![tactic(auto)]
 
 mod made;
@@ -44,7 +46,7 @@ fn answer(alloc: Global, run: &Run, asked: &str, n: &Numbers) -> Result<String, 
         "end" => format!(in alloc; "{} {}", has_room(run), paths.ways().course().end()),
         "next" => moments::next(alloc, paths.ways(), n.word(0), n.word(1)),
         "carried" => moments::carried(alloc, paths.ways(), n),
-        "falling" => rows::falling(alloc, &paths, n),
+        "falling" => rows::acting(alloc, &paths, n),
         "open" => rows::open(alloc, &paths, n.word(0), n.word(1)),
         "close" => rows::close(alloc, &paths, n.word(0), n.word(1)),
         "strip" => rows::strip(alloc, &paths, n.word(0)),

@@ -8,7 +8,8 @@ use rept_carry::Ways;
 use std::alloc::{AllocError, Global};
 use test_lines::Numbers;
 
-/// Whether a number is next to another one, looked for up to itself and from itself on, and whether the other one comes before it, looked for from the other one on.
+/// Whether a number is next to another one, looked for up to itself and from itself on, and whether
+/// the other one comes before it, looked for from the other one on.
 pub fn next(alloc: Global, ways: &Ways<'_>, m: u32, w: u32) -> Result<String, AllocError> {
     if m > ways.course().end() {
         return String::from_str(alloc, "past the end");
@@ -40,20 +41,21 @@ fn rest(alloc: Global, n: &Numbers) -> Result<Vec<u32>, AllocError> {
     Ok(rows)
 }
 
-/// Whether one of the rows falls between two numbers, of which the latter is next to the former.
-fn falls_any(ways: &Ways<'_>, rows: &[u32], m: u32, w: u32) -> bool
+/// Whether one of the rows may act between two numbers, of which the latter is next to the former.
+fn may_act_any(ways: &Ways<'_>, rows: &[u32], m: u32, w: u32) -> bool
     requires rows { All (λ i. IsSome ((seen_in ways.now).legs.row i)) rows.now }
     requires next { (seen_in ways.now).moments.next m w ≡ true }
 {
     for row in rows {
-        if ways.course().falls(*row, m, w) {
+        if ways.course().may_act(*row, m, w) {
             return true;
         }
     }
     false
 }
 
-/// Whether a byte that these rows may write is carried from a number to another one, and from that one back.
+/// Whether a byte that these rows may write is carried from a number to another one, and from that
+/// one back.
 pub fn carried(alloc: Global, ways: &Ways<'_>, n: &Numbers) -> Result<String, AllocError> {
     let (m, w) = (n.word(0), n.word(1));
     let rows = rest(alloc, n)?;
@@ -62,8 +64,8 @@ pub fn carried(alloc: Global, ways: &Ways<'_>, n: &Numbers) -> Result<String, Al
     }
     match ways.next_from(m, w) {
         Some(next) if next == w => {
-            let dark = ways.course().is_dark_between(m, w);
-            let onward = !dark && !falls_any(ways, rows.as_slice(), m, w);
+            let untraced = ways.course().is_untraced_between(m, w);
+            let onward = !untraced && !may_act_any(ways, rows.as_slice(), m, w);
             let back = onward && ways.previous_from(w, m) == Some(m);
             format!(in alloc; "{onward} {back}")
         }

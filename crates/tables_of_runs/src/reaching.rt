@@ -1,11 +1,11 @@
-//! Between which moments a row falls, and how far a byte's value goes at once.
+//! Between which moments a row may act, and how far a byte's value goes at once.
 
 ghost use Rattle.rept_steps.specs.Course.{IsSoundCourse};
 ghost use Rattle.rept_steps.specs.Runs.{course_of};
 ghost use Rattle.rept_moments.specs.Courses.{IsCourseOf};
 
 use rept_extents::RunRows;
-use rept_reach::{Reaches, Window};
+use rept_reach::{NumberWindow, Reaches};
 use rept_report::Paths;
 use rept_steps::Run;
 use rept_timeline::RunPaths;
@@ -25,35 +25,40 @@ pub fn reaching(
 {
     let rows = RunRows::new(alloc, run, paths)?;
     match asked {
-        "falls" => falls(alloc, &rows, n),
-        "bars" => bars(alloc, &rows, n.word(0), n.word(1)),
+        "falls" => may_act(alloc, &rows, n),
+        "bars" => surely_blocks(alloc, &rows, n.word(0), n.word(1)),
         "extent" => extent(alloc, &rows, n.word(0)),
         "leaving" => leaving(alloc, &rows, n),
         _ => reached(alloc, &rows, n.word(0), n.word(1)),
     }
 }
 
-/// Whether a row falls between two moments.
-fn falls(alloc: Global, rows: &RunRows<'_>, n: &Numbers) -> Result<String, AllocError> {
+/// Whether a row may act between two moments.
+fn may_act(alloc: Global, rows: &RunRows<'_>, n: &Numbers) -> Result<String, AllocError> {
     let (row, m, w) = (n.word(0), n.word(1), n.word(2));
     if rows.row(row).is_none() || m > rows.end() {
         return String::from_str(alloc, "no such row or moment");
     }
     match rows.next_from(m, w) {
-        Some(next) => format!(in alloc; "{next} {}", rows.falls(row, m, next)),
+        Some(next) => format!(in alloc; "{next} {}", rows.may_act(row, m, next)),
         None => String::from_str(alloc, "not next"),
     }
 }
 
-/// Whether it is sure that a row falls after a moment, whatever comes next.
-fn bars(alloc: Global, rows: &RunRows<'_>, row: u32, m: u32) -> Result<String, AllocError> {
+/// Whether it is sure that a row may act after a moment, whatever comes next.
+fn surely_blocks(
+    alloc: Global,
+    rows: &RunRows<'_>,
+    row: u32,
+    m: u32,
+) -> Result<String, AllocError> {
     if rows.row(row).is_none() {
         return String::from_str(alloc, "no row");
     }
-    format!(in alloc; "{}", rows.bars(row, m))
+    format!(in alloc; "{}", rows.surely_blocks(row, m))
 }
 
-/// The numbers between which a row falls.
+/// The numbers between which a row may act.
 fn extent(alloc: Global, rows: &RunRows<'_>, row: u32) -> Result<String, AllocError> {
     if rows.row(row).is_none() {
         return String::from_str(alloc, "no row");
@@ -62,13 +67,14 @@ fn extent(alloc: Global, rows: &RunRows<'_>, row: u32) -> Result<String, AllocEr
     format!(in alloc; "{} to {}", window.from, window.to)
 }
 
-/// Of the numbers of a window from one on the first from which a value may go out of the window, or the last.
+/// Of the numbers of a window from one on the first from which a value may go out of the window, or
+/// the last.
 fn leaving(alloc: Global, rows: &RunRows<'_>, n: &Numbers) -> Result<String, AllocError> {
     let (least, last, from) = (n.word(0), n.word(1), n.word(2));
     if from > least || least > last || last > rows.end() {
         return String::from_str(alloc, "no such moments");
     }
-    let known = Window { from, to: last + 1 };
+    let known = NumberWindow { from, to: last + 1 };
     format!(in alloc; "{}", rows.leaving_from(least, known))
 }
 
@@ -78,7 +84,7 @@ fn reached(alloc: Global, rows: &RunRows<'_>, from: u32, last: u32) -> Result<St
     if from > last || last > end {
         return String::from_str(alloc, "no such moments");
     }
-    let known = Window { from, to: last + 1 };
+    let known = NumberWindow { from, to: last + 1 };
     let up = rows.reached_up(known, end);
     let down = rows.reached_down(known, 0);
     format!(in alloc; "{down} to {up}")

@@ -1,15 +1,16 @@
-//! Which rows fall between two moments, and which aren't out of the way of one or of another row.
+//! Which rows may act between two moments, and which aren't out of the way of one or of another
+//! row.
 
 use rept_report::Paths;
 use rept_timeline::RunPaths;
 use std::alloc::{AllocError, Global};
 use test_lines::Numbers;
 
-/// The first row from one on that falls between two moments.
-pub fn falling(alloc: Global, paths: &RunPaths<'_>, n: &Numbers) -> Result<String, AllocError> {
+/// The first row from one on that may act between two moments.
+pub fn acting(alloc: Global, paths: &RunPaths<'_>, n: &Numbers) -> Result<String, AllocError> {
     let (m, w) = (n.word(0), n.word(1));
     match paths.ways().next_from(m, w) {
-        Some(next) if next == w => format!(in alloc; "{:?}", paths.falling_from(m, w, n.word(2))),
+        Some(next) if next == w => format!(in alloc; "{:?}", paths.acting_from(m, w, n.word(2))),
         _ => String::from_str(alloc, "not next"),
     }
 }
@@ -35,7 +36,7 @@ pub fn close(
     format!(in alloc; "{:?}", paths.close_from(row, least))
 }
 
-/// The numbers around one between which the same falls, and the number at which it does.
+/// The numbers around one between which the same may act, and the number at which it does.
 pub fn strip(alloc: Global, paths: &RunPaths<'_>, m: u32) -> Result<String, AllocError> {
     if m > paths.ways().course().end() {
         return String::from_str(alloc, "past the end");
@@ -44,7 +45,8 @@ pub fn strip(alloc: Global, paths: &RunPaths<'_>, m: u32) -> Result<String, Allo
     format!(in alloc; "{} to {}, {:?}", strip.first, strip.last, strip.pause)
 }
 
-/// The least number of a last point from a number on, the row that a number comes before, and the line of a number.
+/// The least number of a last point from a number on, the row that a number comes before, and the
+/// line of a number.
 pub fn around(alloc: Global, paths: &RunPaths<'_>, m: u32) -> Result<String, AllocError> {
     if m > paths.ways().course().end() {
         return String::from_str(alloc, "past the end");

@@ -1,4 +1,5 @@
--- Of the byte that both threads write, the other thread's store is named at some points, and no step at the others.
+-- Of the byte that both threads write, the other thread's store is named at some points, and no
+-- step at the others.
 use Rattle.std.proofs.Common.{◌≡◌, ◌⊎◌, ℕ, ◌+◌, ◌-◌, ◌<◌, ◌≤◌, List, length, Bool, true, false, cond, refl, ap, sym, subst, ◌∙◌, arith, inl, inr}
 use Rattle.std.specs.Prelude.{◌==◌, nat_lt, Some, None}
 use Rattle.std.proofs.lemmas.Bool.{cases_eq, cases_lt, eq-eqb, eqb-false, eqb-true, ne_eqb}
@@ -54,7 +55,8 @@ named_at m a step e = by_tests (a == 131072) (m == 1) (m == 5) (m == 6) refl ref
     by_tests true false false false one five six e = no_row step e
     by_tests false c d f one five six e = no_row step e
 
--- the points of a thread at which one is named: of thread 0 its point 1, of thread 1 its points 0 and 1
+-- the points of a thread at which one is named: of thread 0 its point 1, of thread 1 its points 0
+-- and 1
 abbrev IsPlace : Bool → ℕ → ℕ → Type 0
 IsPlace true p step = (p ≡ 1) × (6 ≡ step)
 IsPlace false p step = (p < 2) × (1 ≡ step)

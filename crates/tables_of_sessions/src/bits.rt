@@ -15,8 +15,8 @@ fn size(n: &Numbers) -> usize
     if n.known(1).is_some() { 3 } else { 1 }
 }
 
-/// The numbers that bits of a payload spell: its bytes are the first numbers, and each number after the third is how many bits are taken next,
-/// at most 64.
+/// The numbers that bits of a payload spell: its bytes are the first numbers, and each number after
+/// the third is how many bits are taken next, at most 64.
 pub fn taken(alloc: Global, n: &Numbers) -> Result<String, AllocError> {
     let bytes = [n.byte(0), n.byte(1), n.byte(2)];
     let mut cursor = BitCursor::new(&bytes[..size(n)]);

@@ -8,13 +8,14 @@ ghost use Rattle.rept_report.specs.declared.writer.Writer.TheVariants as writers
 use rept_elf::Symbol;
 use rept_isa::{ImmOp, Instr, Reg, StepRow};
 use rept_partial::Range;
-use rept_reason::{Fact, Looked, Reason};
+use rept_reason::{Fact, RangePremise, Reason};
 use rept_report::{Counts, Writer};
 use rept_session::{Findings, Place, ThreadPlace, ThreadPoint};
 use rept_word::OutOfMemory;
 use std::alloc::{AllocError, Global};
 
-/// The findings: x5 is known from point 1 on, the bytes below address 16 are their addresses, and the second step may write any byte.
+/// The findings: x5 is known from point 1 on, the bytes below address 16 are their addresses, and
+/// the second step may write any byte.
 #[derive(Drop)]
 pub struct Fixed {
     pub rows: [StepRow; 2],
@@ -117,7 +118,7 @@ impl Findings for Fixed {
 
     fn why(&mut self, alloc: Global, fact: Fact) -> Result<Option<Reason>, OutOfMemory> {
         let mut reason = Reason::new(alloc, 10);
-        let looked = Looked {
+        let looked = RangePremise {
             point: fact.point,
             reg: x(6),
             range: self.range,
@@ -143,7 +144,8 @@ fn last_writer(moment: u32) -> Writer
     }
 }
 
-/// The function `f` and a byte that is no visible character, which begins at 0x10000 and has the address 0x10004 alone.
+/// The function `f` and a byte that is no visible character, which begins at 0x10000 and has the
+/// address 0x10004 alone.
 fn function_at<'a>(address: u32) -> Option<Symbol<'a>>
     ensures { option_map symbol_of result ≡ (if address == 65540 then Some (record { name = 102 ∷ 7 ∷ []; value = 65536 }) else None) }
 {

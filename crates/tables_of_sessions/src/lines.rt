@@ -23,7 +23,8 @@ fn asked(
     answer_line(alloc, &mut findings, 7, cursor, line.as_bytes())
 }
 
-/// The point of the two steps after a line at one of them, whether the session ends there, and the answer: `POINT LINE`, where such bits are known of each register.
+/// The point of the two steps after a line at one of them, whether the session ends there, and the
+/// answer: `POINT LINE`, where such bits are known of each register.
 pub fn at(
     alloc: Global,
     note: Option<(u32, u32)>,
@@ -42,7 +43,8 @@ pub fn at(
     )
 }
 
-/// How a session ends whose read with the first number fails and whose write with the second one does, and what it writes.
+/// How a session ends whose read with the first number fails and whose write with the second one
+/// does, and what it writes.
 pub fn served<F: Findings>(
     alloc: Global,
     findings: &mut F,
@@ -59,7 +61,8 @@ pub fn served<F: Findings>(
     )
 }
 
-/// An input whose read with a number fails, and a sink with room for 4000 bytes whose write with a number fails; none for 0.
+/// An input whose read with a number fails, and a sink with room for 4000 bytes whose write with a
+/// number fails; none for 0.
 pub fn ports(
     alloc: Global,
     input: &[u8],

@@ -1,5 +1,7 @@
-//! What lines of a session are and how they are answered, what packets of a debugger ask for and which replies they get, and which calls are open; what words of a command line mean,
-//! which numbers words spell, bits of a payload, numbers of 32 bits and printed forms. The cases are the lines of `stdin`, and `stdout` has each with its answer.
+//! What lines of a session are and how they are answered, what packets of a debugger ask for and
+//! which replies they get, and which calls are open; what words of a command line mean, which
+//! numbers words spell, bits of a payload, numbers of 32 bits and printed forms. The cases are the
+//! lines of `stdin`, and `stdout` has each with its answer.
 #![tactic(auto)]
 
 mod bits;
@@ -18,7 +20,8 @@ use std::io;
 use test_lines::Numbers;
 use threads::two_threads;
 
-/// The text that lines make, one with the printed forms of numbers, and whether two threads are asked or one of two steps.
+/// The text that lines make, one with the printed forms of numbers, and whether two threads are
+/// asked or one of two steps.
 #[derive(Drop)]
 struct Sessions {
     text: Vec<u8>,
@@ -60,8 +63,9 @@ impl Sessions {
         }
     }
 
-    /// Makes the text longer or another one, and answers whether it was asked to: `part TEXT`, `line TEXT` (with its end), `threads COUNT` (so many are asked, and the text is empty),
-    /// and what [`test_lines::bytes::make`] makes.
+    /// Makes the text longer or another one, and answers whether it was asked to: `part TEXT`,
+    /// `line TEXT` (with its end), `threads COUNT` (so many are asked, and the text is empty), and
+    /// what [`test_lines::bytes::make`] makes.
     fn make(
         &mut self,
         alloc: Global,
@@ -103,7 +107,8 @@ impl Sessions {
         }
     }
 
-    /// What the text of a line is, or the one that was made where the line has none; or what two steps or rows tell.
+    /// What the text of a line is, or the one that was made where the line has none; or what two
+    /// steps or rows tell.
     fn other(
         &self,
         alloc: Global,

@@ -3,7 +3,7 @@
 use crate::lines::ports;
 use rept_dialog::converse;
 use rept_ports::MemSource;
-use rept_remote::{Arrival, Packets, push_packet};
+use rept_remote::{Arrival, GdbPackets, push_packet};
 use rept_session::Findings;
 use rept_stub::Setting;
 use rept_word::Text;
@@ -18,10 +18,11 @@ pub fn framed(alloc: Global, text: &[u8]) -> Result<String, AllocError> {
     format!(in alloc; "{:?}", String::from_utf8_lossy(alloc, packets.bytes())?)
 }
 
-/// The arrival of an input with the first number, from 1 on, where the read with the second one fails: a packet with the bytes that it carries.
+/// The arrival of an input with the first number, from 1 on, where the read with the second one
+/// fails: a packet with the bytes that it carries.
 pub fn arrival(alloc: Global, input: &[u8], n: &Numbers) -> Result<String, AllocError> {
     let mut source = MemSource::new(alloc, input, &[u64::from(n.word(1))])?;
-    let mut packets = Packets::new();
+    let mut packets = GdbPackets::new();
     let mut last = packets.next(&mut source);
     for _ in 1..n.word(0) {
         last = packets.next(&mut source);

@@ -25,7 +25,8 @@ fn row(n: &Numbers, k: usize) -> Option<StepRow> {
     })
 }
 
-/// How many rows there are, and the calls after them, oldest first: where each stands, and where it is to go on.
+/// How many rows there are, and the calls after them, oldest first: where each stands, and where it
+/// is to go on.
 pub fn stack(alloc: Global, n: &Numbers) -> Result<String, AllocError> {
     let mut rows = Vec::new(alloc);
     for k in 0..6usize {

@@ -7,20 +7,23 @@ use crate::fixed::{unnamed, x};
 use rept_elf::Symbol;
 use rept_isa::{ImmOp, Instr, Reg, StepRow, StoreOp};
 use rept_partial::Range;
-use rept_reason::{Cell, Fact, Looked, Reason};
+use rept_reason::{Cell, Fact, RangePremise, Reason};
 use rept_report::{Counts, Writer};
 use rept_session::{Findings, Place, ThreadPlace, ThreadPoint};
 use rept_word::OutOfMemory;
 use std::alloc::{AllocError, Global};
 
-/// What is known of two threads, by hand. The processes 1 and 2 run the same four steps, of which the second writes x6 to 0x20000; the trace
-/// of process 2 ends after it. Thread 0 has the slices 1 to 3 (a step), 3 to 9 (two steps) and from 9 on (a step), thread 1 the slices 1 to 4 and 4 to 8
-/// (a step each), and no step is traced before time 1. At the end x5 is 0x20000, x6 is 9 in thread 0 and 8 in thread 1, the other registers are 0,
-/// and 0x20000 holds 9.
+/// What is known of two threads, by hand. The processes 1 and 2 run the same four steps, of which
+/// the second writes x6 to 0x20000; the trace of process 2 ends after it. Thread 0 has the slices 1
+/// to 3 (a step), 3 to 9 (two steps) and from 9 on (a step), thread 1 the slices 1 to 4 and 4 to 8
+/// (a step each), and no step is traced before time 1. At the end x5 is 0x20000, x6 is 9 in thread
+/// 0 and 8 in thread 1, the other registers are 0, and 0x20000 holds 9.
 ///
-/// So the two stores aren't ordered, and the last step of thread 0 comes after both. The points 0 to 4 of thread 0 have the numbers 0 to 4, those of thread 1 the
-/// numbers 5 to 7. Moments 0 to 3 are those at thread 0's points 0 to 3, moment 4 is the end, moments 5 and 6 are those at thread 1's points 0 and 1,
-/// and moment 7 is the one after its last step, which isn't the end, since thread 0 may write between them.
+/// So the two stores aren't ordered, and the last step of thread 0 comes after both. The points 0
+/// to 4 of thread 0 have the numbers 0 to 4, those of thread 1 the numbers 5 to 7. Moments 0 to 3
+/// are those at thread 0's points 0 to 3, moment 4 is the end, moments 5 and 6 are those at thread
+/// 1's points 0 and 1, and moment 7 is the one after its last step, which isn't the end, since
+/// thread 0 may write between them.
 #[derive(Drop)]
 pub struct TwoThreads {
     first: [StepRow; 4],
@@ -164,7 +167,7 @@ impl Findings for TwoThreads {
         if let Err(_) = reason.premises.push(last) {
             return Err(AllocError);
         }
-        let looked = Looked {
+        let looked = RangePremise {
             point: 1,
             reg: x(5),
             range: self.range,

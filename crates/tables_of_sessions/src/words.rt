@@ -1,4 +1,5 @@
-//! What words of a command line mean, which numbers words spell, and a text with the printed forms of numbers.
+//! What words of a command line mean, which numbers words spell, and a text with the printed forms
+//! of numbers.
 
 use crate::bits;
 use rept_number::{decimal, number_in};
@@ -20,7 +21,8 @@ pub fn answer(alloc: Global, asked: &str, said: &str, n: &Numbers) -> Result<Str
     }
 }
 
-/// Begins a text, or appends a piece or the printed form of a number, and answers whether it was asked to.
+/// Begins a text, or appends a piece or the printed form of a number, and answers whether it was
+/// asked to.
 pub fn append(
     text: &mut Text,
     alloc: Global,
@@ -49,7 +51,8 @@ fn asked_for(alloc: Global, line: &str) -> Result<String, AllocError> {
     format!(in alloc; "{:?}", meaning(alloc, &words)?)
 }
 
-/// The number that the word between quotes spells in decimal digits, and the one that it spells in any form.
+/// The number that the word between quotes spells in decimal digits, and the one that it spells in
+/// any form.
 fn spelled(alloc: Global, word: &str) -> Result<String, AllocError> {
     let word = word.trim_matches('\'').as_bytes();
     format!(in alloc; "{:?}, {:?}", decimal(word), number_in(word))

@@ -29,8 +29,10 @@ impl Files {
         }
     }
 
-    /// Makes a file, and answers whether it was asked to: `trace BYTE ..` (of one stream, of these packets), `code ADDRESS WORD ..`, `ends PROCESS PC ..` (where each of two threads at most
-    /// ended), `exe` (the trace is the executable), and what [`test_lines::bytes::make`] makes of the trace.
+    /// Makes a file, and answers whether it was asked to: `trace BYTE ..` (of one stream, of these
+    /// packets), `code ADDRESS WORD ..`, `ends PROCESS PC ..` (where each of two threads at most
+    /// ended), `exe` (the trace is the executable), and what [`test_lines::bytes::make`] makes of
+    /// the trace.
     pub fn make(&mut self, alloc: Global, asked: &str, n: &Numbers) -> Result<bool, AllocError> {
         match asked {
             "trace" => {
@@ -80,7 +82,8 @@ impl Files {
         self.trace.as_slice()
     }
 
-    /// The dump of the executable and the core file, of one thread or of several. None where one of the files isn't whole.
+    /// The dump of the executable and the core file, of one thread or of several. None where one of
+    /// the files isn't whole.
     pub fn dump(&self, many: bool) -> Option<Result<Dump<'_>, CoreFault>> {
         let exe = Image::read(self.exe.as_slice(), Want::Exec);
         let core = Image::read(self.core.as_slice(), Want::Core);
@@ -101,7 +104,8 @@ fn code_of(alloc: Global, n: &Numbers) -> Result<Vec<u8>, AllocError> {
     executable(alloc, n.word(0), words.as_slice())
 }
 
-/// The files of the crash that is made of a seed after so many steps, or of the made run of a seed, of three threads in twelve turns over two streams.
+/// The files of the crash that is made of a seed after so many steps, or of the made run of a seed,
+/// of three threads in twelve turns over two streams.
 pub fn made(alloc: Global, asked: &str, n: &Numbers) -> Result<Files, AllocError> {
     if asked == "crash" {
         let made = make(alloc, n.word(0), n.word(1).max(1).min(20000))?;

@@ -1,5 +1,7 @@
-//! What tables that were worked out by hand say of packets and streams, of paths over small programs, of runs of two threads, and of traces that are written: of steps, of stretches of
-//! harts, of logs, and of made crashes and runs. The cases are the lines of `stdin`, and `stdout` has each with its answer.
+//! What tables that were worked out by hand say of packets and streams, of paths over small
+//! programs, of runs of two threads, and of traces that are written: of steps, of stretches of
+//! harts, of logs, and of made crashes and runs. The cases are the lines of `stdin`, and `stdout`
+//! has each with its answer.
 #![tactic(auto)]
 
 mod files;

@@ -50,7 +50,8 @@ fn number_of(status: Qual) -> u8 {
     }
 }
 
-/// The difference of an address, and whether notify, updiscon and irreport differ from the bit before.
+/// The difference of an address, and whether notify, updiscon and irreport differ from the bit
+/// before.
 #[derive(Clone, Copy, Drop)]
 struct Reported(Report);
 
@@ -87,7 +88,8 @@ pub fn of_stream(alloc: Global, bytes: &[u8], s: Option<u32>) -> Result<String, 
     }
 }
 
-/// Whether code may be compressed, how many packets there are, and they; what is answered ever after, and how many are left then.
+/// Whether code may be compressed, how many packets there are, and they; what is answered ever
+/// after, and how many are left then.
 fn seen(alloc: Global, packets: Packets<'_>) -> Result<String, AllocError> {
     let mut rest = packets;
     let mut list = Vec::new(alloc);

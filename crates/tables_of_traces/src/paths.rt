@@ -15,7 +15,8 @@ use rept_trace::Packets;
 use std::alloc::{AllocError, Global};
 use test_lines::Numbers;
 
-/// The path whose start packet is not before a number, or the walk of the first stretch; or the fault.
+/// The path whose start packet is not before a number, or the walk of the first stretch; or the
+/// fault.
 pub fn answer(
     alloc: Global,
     asked: &str,
@@ -49,7 +50,8 @@ fn path(
     }
 }
 
-/// How many packets are skipped, and the steps, whole or with rounds of so many steps after so many others.
+/// How many packets are skipped, and the steps, whole or with rounds of so many steps after so many
+/// others.
 fn told(alloc: Global, path: &Path, n: &Numbers) -> Result<String, AllocError> {
     let (skipped, steps) = (path.skipped, path.steps.rows());
     let (round, before) = (n.word(1) as usize, n.word(2) as usize);
@@ -61,7 +63,8 @@ fn told(alloc: Global, path: &Path, n: &Numbers) -> Result<String, AllocError> {
     format!(in alloc; "{skipped} skipped, {rounds}")
 }
 
-/// How many steps the walk of the first stretch has, where it ends, and whether the end of the trace is waited for.
+/// How many steps the walk of the first stretch has, where it ends, and whether the end of the
+/// trace is waited for.
 fn walked(
     alloc: Global,
     packets: Packets<'_>,

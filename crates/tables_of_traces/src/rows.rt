@@ -49,7 +49,8 @@ fn are_alike(one: Option<&StepRow>, other: Option<&StepRow>) -> bool {
     }
 }
 
-/// How many steps from a place on are, one after another, at the address of the step so many places before, and lead where it does.
+/// How many steps from a place on are, one after another, at the address of the step so many places
+/// before, and lead where it does.
 fn again(rows: &[StepRow], from: usize, back: usize) -> usize {
     let mut count = 0;
     for k in from..rows.len() {
@@ -61,7 +62,8 @@ fn again(rows: &[StepRow], from: usize, back: usize) -> usize {
     count
 }
 
-/// The steps up to a place, how many after them are a round of so many steps again, and the steps after those.
+/// The steps up to a place, how many after them are a round of so many steps again, and the steps
+/// after those.
 pub fn rounds(
     alloc: Global,
     rows: &[StepRow],

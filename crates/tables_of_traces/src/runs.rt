@@ -16,7 +16,8 @@ use std::alloc::{AllocError, Global};
 use test_lines::Numbers;
 use test_threads::woven::reading::rebuild_trace;
 
-/// The time from which on these streams tell, and how many slices they tell and leave, of the processes 1 and 2.
+/// The time from which on these streams tell, and how many slices they tell and leave, of the
+/// processes 1 and 2.
 fn times(alloc: Global, bytes: &[u8], from: u32) -> Result<(u64, usize, usize), PathFault>
     requires { length bytes.now < 2 ^ 32 }
 {
@@ -73,7 +74,8 @@ pub fn opened(alloc: Global, files: &Files, trace: &[u8]) -> Result<String, Allo
     }
 }
 
-/// Until when a run is dark, how many packets are skipped, how many threads there are, and two of them: without their steps from a number on, or the first two with their first eight steps.
+/// Until when a run is untraced, how many packets are skipped, how many threads there are, and two
+/// of them: without their steps from a number on, or the first two with their first eight steps.
 fn threads(alloc: Global, run: &Run, first: Option<u32>) -> Result<String, AllocError> {
     let (k, shown) = match first {
         None => (0, 8),
@@ -83,7 +85,7 @@ fn threads(alloc: Global, run: &Run, first: Option<u32>) -> Result<String, Alloc
     let second = thread(alloc, run, k.wrapping_add(1), shown)?;
     format!(in alloc;
         "dark {:?}, {} skipped, {} threads; {first}; {second}",
-        run.dark,
+        run.untraced,
         run.skipped,
         run.threads.all().len()
     )
@@ -104,7 +106,8 @@ fn thread(alloc: Global, run: &Run, k: usize, shown: usize) -> Result<String, Al
     )
 }
 
-/// Adds so many steps of an instruction that does nothing, each from an address of the line to the one after it, and at last from the last one to itself.
+/// Adds so many steps of an instruction that does nothing, each from an address of the line to the
+/// one after it, and at last from the last one to itself.
 fn push_rows(steps: &mut Steps, first: u32, n: &Numbers) -> Result<(), PushFault>
     requires { EndBefore steps.old first }
 {
@@ -127,7 +130,9 @@ fn push_rows(steps: &mut Steps, first: u32, n: &Numbers) -> Result<(), PushFault
     Ok(())
 }
 
-/// How pushing so many steps ends, how many stand then, where they lead and which the second one is; and the run that they are as those of one thread after three skipped packets. And the texts of both faults.
+/// How pushing so many steps ends, how many stand then, where they lead and which the second one
+/// is; and the run that they are as those of one thread after three skipped packets. And the texts
+/// of both faults.
 pub fn pushed(alloc: Global, n: &Numbers) -> Result<String, AllocError> {
     let mut steps = Steps::new(alloc);
     let outcome = push_rows(&mut steps, n.word(1), n);

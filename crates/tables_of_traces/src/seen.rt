@@ -28,7 +28,8 @@ fn seen(alloc: Global, asked: &str, dump: &Dump<'_>, n: &Numbers) -> Result<Stri
     }
 }
 
-/// How many threads there are; of one of them the pc, the signal, the process, and the registers from a number on up to before another one.
+/// How many threads there are; of one of them the pc, the signal, the process, and the registers
+/// from a number on up to before another one.
 fn status(alloc: Global, dump: &Dump<'_>, n: &Numbers) -> Result<String, AllocError> {
     let thread = n.word(1);
     if thread >= dump.threads() {

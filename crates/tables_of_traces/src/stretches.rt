@@ -7,7 +7,7 @@ ghost use Rattle.rept_encode.specs.Walkable.{IsWalkable};
 use rept_encode::{Site, encode, push_step, step_between};
 use rept_isa::{Instr, decode};
 use rept_steps::Steps;
-use rept_weave::{Hart, Harts, Stretch, WeaveFault, weave};
+use rept_weave::{Hart, HartStretch, Harts, WeaveFault, weave};
 use rept_word::Text;
 use std::alloc::{AllocError, Global};
 use test_lines::Numbers;
@@ -33,8 +33,10 @@ impl Stretches {
         }
     }
 
-    /// Begins stretches, or adds one or a step to the last one, and answers whether it was asked to: `stretches` with 1 where code may be compressed,
-    /// `stretch HART PROCESS BEGIN END ADDRESS`, and `step WORD SHORT NEXT`, with 1 where the instruction of this word or expansion takes two bytes.
+    /// Begins stretches, or adds one or a step to the last one, and answers whether it was asked
+    /// to: `stretches` with 1 where code may be compressed,
+    /// `stretch HART PROCESS BEGIN END ADDRESS`, and `step WORD SHORT NEXT`, with 1 where the
+    /// instruction of this word or expansion takes two bytes.
     pub fn make(&mut self, asked: &str, n: &Numbers) -> Result<bool, AllocError> {
         match asked {
             "stretches" => {
@@ -121,7 +123,7 @@ fn hart_of(
         let Some(steps) = steps_of(alloc, halves, listing, stretch, line.word(4))? else {
             continue;
         };
-        hart.push(Stretch {
+        hart.push(HartStretch {
             process: line.word(1),
             begin: u64::from(line.word(2)),
             end: u64::from(line.word(3)),
@@ -145,7 +147,8 @@ fn trace_of(
     Ok(weave(alloc, halves, &all))
 }
 
-/// Whether an instruction at an address leads to another one, where code has words alone, and where it may be compressed.
+/// Whether an instruction at an address leads to another one, where code has words alone, and where
+/// it may be compressed.
 pub fn between(alloc: Global, n: &Numbers) -> Result<String, AllocError> {
     let site = Site {
         at: n.word(0),

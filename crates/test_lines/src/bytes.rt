@@ -1,9 +1,12 @@
-//! Files that the lines of a table make: numbers that are appended as bytes and words, and bytes that are changed.
+//! Files that the lines of a table make: numbers that are appended as bytes and words, and bytes
+//! that are changed.
 use crate::Numbers;
 use std::alloc::{AllocError, Global};
 
-/// Begins another file, makes it longer or changes it, and answers whether it was asked to: `file`, `words` and `bytes` with the numbers that are appended, `zeros COUNT`,
-/// `again COUNT LENGTH` (the last bytes, of such a length, so many times more), and `put`, of which [`changed`] tells the numbers.
+/// Begins another file, makes it longer or changes it, and answers whether it was asked to: `file`,
+/// `words` and `bytes` with the numbers that are appended, `zeros COUNT`, `again COUNT LENGTH` (the
+/// last bytes, of such a length, so many times more), and `put`, of which [`changed`] tells the
+/// numbers.
 pub fn make(
     alloc: Global,
     file: &mut Vec<u8>,
@@ -56,8 +59,8 @@ fn append_again(alloc: Global, file: &mut Vec<u8>, n: &Numbers) -> Result<(), Al
     Ok(())
 }
 
-/// A file that is changed by the pairs of numbers after the first one: an offset and the byte that stands there then, or none and the length
-/// to which it is cut.
+/// A file that is changed by the pairs of numbers after the first one: an offset and the byte that
+/// stands there then, or none and the length to which it is cut.
 pub fn changed(alloc: Global, file: &[u8], n: &Numbers) -> Result<Vec<u8>, AllocError> {
     let mut file = Vec::from_slice(alloc, file)?;
     for k in 0..9usize {

@@ -46,7 +46,8 @@ pub fn executable(alloc: Global, base: u32, code: &[u32]) -> Result<Vec<u8>, All
     Ok(file)
 }
 
-/// What a status note says: the signal, the process, the program counter, and x5, x6 and x7; all other registers are 0.
+/// What a status note says: the signal, the process, the program counter, and x5, x6 and x7; all
+/// other registers are 0.
 type Status = (u32, u32, u32, [u32; 3]);
 
 fn append_status(file: &mut Vec<u8>, status: Status) -> Result<(), AllocError> {
@@ -93,14 +94,16 @@ fn core_of_notes(
     Ok(file)
 }
 
-/// A core file of one status note: the program counter, and x5, x6 and x7; all other registers are 0.
+/// A core file of one status note: the program counter, and x5, x6 and x7; all other registers are
+/// 0.
 pub fn core_file(alloc: Global, pc: u32, registers: [u32; 3]) -> Result<Vec<u8>, AllocError> {
     let mut file = core_of_notes(alloc, 1, 0x54, 224)?;
     append_status(&mut file, (11, 1, pc, registers))?;
     Ok(file)
 }
 
-/// A core file of a status note for each thread: of each its process and its program counter; all other registers are 0.
+/// A core file of a status note for each thread: of each its process and its program counter; all
+/// other registers are 0.
 pub fn core_of_threads(alloc: Global, threads: &[(u32, u32)]) -> Result<Vec<u8>, AllocError> {
     let Ok(count) = u32::try_from(threads.len()) else {
         return Err(AllocError);

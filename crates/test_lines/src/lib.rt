@@ -1,5 +1,6 @@
-//! Tables of cases, one a line, for programs whose stored runs are tables. Of a line the first word says what is asked, and the numbers
-//! after it are taken in their order; all other words are for the reader. A line that begins with `#` says where the values come from.
+//! Tables of cases, one a line, for programs whose stored runs are tables. Of a line the first word
+//! says what is asked, and the numbers after it are taken in their order; all other words are for
+//! the reader. A line that begins with `#` says where the values come from.
 #![tactic(auto)]
 
 pub mod bytes;

@@ -19,8 +19,8 @@ enum Word {
     Text,
 }
 
-/// The word as a number: decimal digits, or `0x` and hexadecimal ones, and what is below zero modulo 2^32. `none`, `unknown` and
-/// `each` stand in the place of a number.
+/// The word as a number: decimal digits, or `0x` and hexadecimal ones, and what is below zero
+/// modulo 2^32. `none`, `unknown` and `each` stand in the place of a number.
 fn read(word: &str) -> Word {
     if word == "none" || word == "unknown" || word == "each" {
         return Word::Nothing;

@@ -1,4 +1,5 @@
-//! The files of made runs of several threads: an executable, a core file of a register note for each thread, and a trace of several streams.
+//! The files of made runs of several threads: an executable, a core file of a register note for
+//! each thread, and a trace of several streams.
 
 mod code;
 mod files;

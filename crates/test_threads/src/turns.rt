@@ -1,4 +1,5 @@
-//! Runs of several threads, one turn after the other: the course that such a run has, and its execution.
+//! Runs of several threads, one turn after the other: the course that such a run has, and its
+//! execution.
 
 pub mod laws;
 mod turn;

@@ -1,11 +1,12 @@
--- Conclusions of a row of an atomic instruction are on the row's own cells, and bytes have places of their own.
+-- Conclusions of a row of an atomic instruction are on the row's own cells, and bytes have places
+-- of their own.
 use Rattle.std.proofs.Common.{◌≡◌, ◌≢◌, ℕ, zero, suc, ◌+◌, ◌<◌, ◌≤◌, ◌^◌, inr, refl, sym, ap, subst, ◌∙◌, arith, Option, Some, ℤ, lit≤}
 use Rattle.rept_isa.specs.declared.instr.AmoOp.{AmoOp}
 use Rattle.rept_isa.specs.declared.instr.AmoOp.TheVariants as atomic
 use Rattle.rept_isa.specs.declared.row.StepRow.{StepRow}
-use Rattle.rept_view.specs.declared.drawn.When.{When}
-use Rattle.rept_view.specs.declared.drawn.When.TheVariants.{Before, After}
-use Rattle.rept_view.specs.declared.drawn.Drawn.{Drawn}
+use Rattle.rept_view.specs.declared.inferred.When.{When}
+use Rattle.rept_view.specs.declared.inferred.When.TheVariants.{Before, After}
+use Rattle.rept_view.specs.declared.inferred.Conclusion.{Conclusion}
 use Rattle.rept_view.specs.Seen.{Seen}
 use Rattle.rept_isa.specs.Numbers.{plus, beside}
 use Rattle.rept_isa.specs.Operands.{written_by, first_read, second_read, unless_zero, source_of}
@@ -18,10 +19,10 @@ use Rattle.rept_rules.specs.Conclusions.{IsOnRegister}
 use Rattle.rept_rules.specs.Laws.ValueLemmas.{same_some, over_zero}
 use Rattle.rept_rules.specs.Laws.WriteLemmas.{beside_plain}
 use Rattle.rept_rules.specs.Laws.Own.{not_byte}
-use Rattle.rept_amo.specs.declared.form.WordDrawn.{WordDrawn}
+use Rattle.rept_amo.specs.declared.form.WordInferred.{WordInferred}
 use Rattle.rept_amo.specs.declared.form.Form.{Form}
-use Rattle.rept_amo.specs.declared.form.Access.{Access}
-use Rattle.rept_amo.specs.Conclusions.{IsAtomicAccess, ReadsWord, IsOperation, form_of, byte_drawn, word_before, word_after, word_stored, undone, AtomicConcludes}
+use Rattle.rept_amo.specs.declared.form.AtomicAccess.{AtomicAccess}
+use Rattle.rept_amo.specs.Conclusions.{IsAtomicAccess, ReadsWord, IsOperation, form_of, byte_inferred, word_before, word_after, word_stored, undone, AtomicConcludes}
 use Rattle.rept_amo.specs.Conclusions as rules
 use Rattle.rept_amo.specs.Writes.{places_by, places_of}
 use Rattle.rept_amo.specs.Atomic.{atomic_rules}
@@ -183,8 +184,8 @@ one_moment atomic.Maxu After Before k j p q e = absurd (omega arith)
 one_moment atomic.Maxu After After k j p q e = (refl, omega arith)
 
 -- a conclusion on a byte of the access
-pub record IsOnByte (row : StepRow) (s : Seen) (d : Drawn) : Type 0 where
-  pub x : Access
+pub record IsOnAtomicByte (row : StepRow) (s : Seen) (d : Conclusion) : Type 0 where
+  pub x : AtomicAccess
   pub k : ℕ
   pub access : IsAtomicAccess row s x
   pub below : k < 4
@@ -193,19 +194,19 @@ pub record IsOnByte (row : StepRow) (s : Seen) (d : Drawn) : Type 0 where
   pub inside : d.slot < places_by x.form.op
   pub fits : d.value < 2 ^ 8
 
-on_word : (row : StepRow) (s : Seen) (d : Drawn) (x : Access) (w : WordDrawn) (k : ℕ) → IsAtomicAccess row s x → w.base ≡ x.base → w.place ≡ first_place x.form.op w.when → k < 4 → w.place + k < places_by x.form.op → d ≡ byte_drawn w k → IsOnByte row s d
+on_word : (row : StepRow) (s : Seen) (d : Conclusion) (x : AtomicAccess) (w : WordInferred) (k : ℕ) → IsAtomicAccess row s x → w.base ≡ x.base → w.place ≡ first_place x.form.op w.when → k < 4 → w.place + k < places_by x.form.op → d ≡ byte_inferred w k → IsOnAtomicByte row s d
 on_word row s d x w k acc base place below inside is = record {
   x = x;
   k = k;
   access = acc;
   below = below;
-  cell = ap (λ (e : Drawn). e.cell) is ∙ ap (λ (b : ℕ). Byte (beside b k)) base;
-  slot = ap (λ (e : Drawn). e.slot) is ∙ ap (λ (n : ℕ). n + k) place ∙ ap (λ (m : When). first_place x.form.op m + k) (sym (ap (λ (e : Drawn). e.when) is));
-  inside = subst (λ (n : ℕ). n < places_by x.form.op) (sym (ap (λ (e : Drawn). e.slot) is)) inside;
-  fits = subst (λ (n : ℕ). n < 2 ^ 8) (sym (ap (λ (e : Drawn). e.value) is)) (omega arith);
+  cell = ap (λ (e : Conclusion). e.cell) is ∙ ap (λ (b : ℕ). Byte (beside b k)) base;
+  slot = ap (λ (e : Conclusion). e.slot) is ∙ ap (λ (n : ℕ). n + k) place ∙ ap (λ (m : When). first_place x.form.op m + k) (sym (ap (λ (e : Conclusion). e.when) is));
+  inside = subst (λ (n : ℕ). n < places_by x.form.op) (sym (ap (λ (e : Conclusion). e.slot) is)) inside;
+  fits = subst (λ (n : ℕ). n < 2 ^ 8) (sym (ap (λ (e : Conclusion). e.value) is)) (omega arith);
 }
 
-on_byte : (row : StepRow) (s : Seen) (d : Drawn) (a : ℕ) → d.cell ≡ Byte a → AtomicConcludes row s d → IsOnByte row s d
+on_byte : (row : StepRow) (s : Seen) (d : Conclusion) (a : ℕ) → d.cell ≡ Byte a → AtomicConcludes row s d → IsOnAtomicByte row s d
 on_byte row s d a e (rules.read x m acc reads bytes says) = absurd (not_byte d 19 After x.form.rd _ a says e)
 on_byte row s d a e (rules.written x m v k acc operation value bytes below is) =
     let eight = eight_places x.form.op operation in
@@ -224,7 +225,7 @@ on_byte row s d a e (rules.stored x v k acc sc named value success below is) =
     on_word row s d x (word_stored x.base v) k acc refl (sym (ap (λ (op : AmoOp). first_place op After) sc)) below (omega (arith, four, below)) is
 
 -- the bytes of the access are the row's
-pub access_byte : (row : StepRow) (s : Seen) (x : Access) (k : ℕ) → IsAtomicAccess row s x → k < 4 → IsRowByte atomic_rules row s (beside x.base k)
+pub access_byte : (row : StepRow) (s : Seen) (x : AtomicAccess) (k : ℕ) → IsAtomicAccess row s x → k < 4 → IsRowByte atomic_rules row s (beside x.base k)
 access_byte row s x k acc below =
     let is = form_is row.instr x.form acc.is_row in
     let four = four_places x.form.op in record {
@@ -242,47 +243,47 @@ pub cell_byte : (row : StepRow) (s : Seen) (when : When) (a : ℕ) → IsRowByte
 cell_byte row s Before a h = h
 cell_byte row s After a h = h
 
-abbrev pub Own : StepRow → Seen → Drawn → Type 0
+abbrev pub Own : StepRow → Seen → Conclusion → Type 0
 Own row s d = IsRowCell atomic_rules row s d.when d.cell × IsCell d.cell × Fits d.cell d.value
 
-own_register : (row : StepRow) (s : Seen) (d : Drawn) (rule : ℕ) (when : When) (r v : ℕ) → IsOnRegister d rule when r v → IsRowCell atomic_rules row s when (Register r) → Own row s d
-own_register row s d rule when r v says h = subst (λ (x : Drawn). Own row s x) (sym says.is) (h, (says.named, says.in_file), tt)
+own_register : (row : StepRow) (s : Seen) (d : Conclusion) (rule : ℕ) (when : When) (r v : ℕ) → IsOnRegister d rule when r v → IsRowCell atomic_rules row s when (Register r) → Own row s d
+own_register row s d rule when r v says h = subst (λ (x : Conclusion). Own row s x) (sym says.is) (h, (says.named, says.in_file), tt)
 
-own_byte : (row : StepRow) (s : Seen) (d : Drawn) → IsOnByte row s d → Own row s d
+own_byte : (row : StepRow) (s : Seen) (d : Conclusion) → IsOnAtomicByte row s d → Own row s d
 own_byte row s d h =
     let here = cell_byte row s d.when (beside h.x.base h.k) (access_byte row s h.x h.k h.access h.below) in
     let fits = h.fits in
     subst (λ (c : Cell). IsRowCell atomic_rules row s d.when c × IsCell c × Fits c d.value) (sym h.cell) (here, omega arith, fits)
 
-pub own_source : (row : StepRow) (s : Seen) (x : Access) → IsAtomicAccess row s x → IsOperation x.form.op → IsRowCell atomic_rules row s Before (Register x.form.rs2)
+pub own_source : (row : StepRow) (s : Seen) (x : AtomicAccess) → IsAtomicAccess row s x → IsOperation x.form.op → IsRowCell atomic_rules row s Before (Register x.form.rs2)
 own_source row s x acc operation = inr (ap second_read (form_is row.instr x.form acc.is_row) ∙ source_read x.form.op x.form.rs2 operation)
 
-pub own_stored : (row : StepRow) (s : Seen) (x : Access) → IsAtomicAccess row s x → x.form.op ≡ atomic.Sc → IsRowCell atomic_rules row s Before (Register x.form.rs2)
+pub own_stored : (row : StepRow) (s : Seen) (x : AtomicAccess) → IsAtomicAccess row s x → x.form.op ≡ atomic.Sc → IsRowCell atomic_rules row s Before (Register x.form.rs2)
 own_stored row s x acc sc = inr (ap second_read (form_is row.instr x.form acc.is_row) ∙ ap (λ (op : AmoOp). source_of op x.form.rs2) sc)
 
 over : (r : ℕ) → r ≢ 0 → 0 < r
 over zero named = absurd (named refl)
 over (suc n) named = omega arith
 
-pub destination_of : (row : StepRow) (s : Seen) (x : Access) → IsAtomicAccess row s x → x.form.rd ≢ 0 → IsRowCell atomic_rules row s After (Register x.form.rd)
+pub destination_of : (row : StepRow) (s : Seen) (x : AtomicAccess) → IsAtomicAccess row s x → x.form.rd ≢ 0 → IsRowCell atomic_rules row s After (Register x.form.rd)
 destination_of row s x acc named = ap written_by (form_is row.instr x.form acc.is_row) ∙ destination_is x.form.rd (over x.form.rd named)
 
-pub own_by : (row : StepRow) (s : Seen) (d : Drawn) → AtomicConcludes row s d → Own row s d
+pub own_by : (row : StepRow) (s : Seen) (d : Conclusion) → AtomicConcludes row s d → Own row s d
 own_by row s d (rules.read x m acc reads bytes says) = own_register row s d 19 After x.form.rd _ says (ap written_by (form_is row.instr x.form acc.is_row) ∙ destination_is x.form.rd says.named)
 own_by row s d (rules.swapped x m acc swap bytes says) = own_register row s d 22 Before x.form.rs2 _ says (own_source row s x acc (subst IsOperation (sym swap) tt))
 own_by row s d (rules.source x m n v acc there left solved says) = own_register row s d 22 Before x.form.rs2 v says (own_source row s x acc (undone_operation x.form.op (word_at n x.base) (word_at m x.base) v solved))
-own_by row s d (rules.written x m v k acc operation value bytes below is) = own_byte row s d (on_byte row s d (beside x.base k) (ap (λ (e : Drawn). e.cell) is) (rules.written x m v k acc operation value bytes below is))
-own_by row s d (rules.read_back x v k acc reads named value below is) = own_byte row s d (on_byte row s d (beside x.base k) (ap (λ (e : Drawn). e.cell) is) (rules.read_back x v k acc reads named value below is))
-own_by row s d (rules.word_back x n v w k acc value left solved below is) = own_byte row s d (on_byte row s d (beside x.base k) (ap (λ (e : Drawn). e.cell) is) (rules.word_back x n v w k acc value left solved below is))
-own_by row s d (rules.stored x v k acc sc named value success below is) = own_byte row s d (on_byte row s d (beside x.base k) (ap (λ (e : Drawn). e.cell) is) (rules.stored x v k acc sc named value success below is))
+own_by row s d (rules.written x m v k acc operation value bytes below is) = own_byte row s d (on_byte row s d (beside x.base k) (ap (λ (e : Conclusion). e.cell) is) (rules.written x m v k acc operation value bytes below is))
+own_by row s d (rules.read_back x v k acc reads named value below is) = own_byte row s d (on_byte row s d (beside x.base k) (ap (λ (e : Conclusion). e.cell) is) (rules.read_back x v k acc reads named value below is))
+own_by row s d (rules.word_back x n v w k acc value left solved below is) = own_byte row s d (on_byte row s d (beside x.base k) (ap (λ (e : Conclusion). e.cell) is) (rules.word_back x n v w k acc value left solved below is))
+own_by row s d (rules.stored x v k acc sc named value success below is) = own_byte row s d (on_byte row s d (beside x.base k) (ap (λ (e : Conclusion). e.cell) is) (rules.stored x v k acc sc named value success below is))
 
-pub slot_inside_by : (row : StepRow) (s : Seen) (d : Drawn) (a : ℕ) → AtomicConcludes row s d → d.cell ≡ Byte a → d.slot < places_of (form_of row.instr) row
+pub slot_inside_by : (row : StepRow) (s : Seen) (d : Conclusion) (a : ℕ) → AtomicConcludes row s d → d.cell ≡ Byte a → d.slot < places_of (form_of row.instr) row
 slot_inside_by row s d a c e = let h = on_byte row s d a e c in subst (λ (o : Option Form). d.slot < places_of o row) (sym h.access.is_row) h.inside
 
 same_byte : (a b : ℕ) → Byte a ≡ Byte b → a ≡ b
 same_byte a b e = cc
 
-pub slot_once_by : (row : StepRow) (s t : Seen) (d e : Drawn) (a b r : ℕ) → AtomicConcludes row s d → AtomicConcludes row t e → d.cell ≡ Byte a → e.cell ≡ Byte b → first_read row.instr ≡ Some r → s.register Before r ≡ t.register Before r → d.slot ≡ e.slot → (d.when ≡ e.when) × (a ≡ b)
+pub slot_once_by : (row : StepRow) (s t : Seen) (d e : Conclusion) (a b r : ℕ) → AtomicConcludes row s d → AtomicConcludes row t e → d.cell ≡ Byte a → e.cell ≡ Byte b → first_read row.instr ≡ Some r → s.register Before r ≡ t.register Before r → d.slot ≡ e.slot → (d.when ≡ e.when) × (a ≡ b)
 slot_once_by row s t d e a b r c f on_a on_b read same slots =
     let h = on_byte row s d a on_a c in
     let g = on_byte row t e b on_b f in

@@ -7,9 +7,9 @@ use Rattle.rept_isa.specs.declared.instr.AmoOp.{AmoOp}
 use Rattle.rept_isa.specs.declared.instr.AmoOp.TheVariants as atomic
 use Rattle.rept_isa.specs.declared.row.StepRow.{StepRow}
 use Rattle.rept_partial.specs.declared.flat.Flat.TheVariants.{Known}
-use Rattle.rept_view.specs.declared.drawn.When.{When}
-use Rattle.rept_view.specs.declared.drawn.When.TheVariants.{Before, After}
-use Rattle.rept_view.specs.declared.drawn.Drawn.{Drawn}
+use Rattle.rept_view.specs.declared.inferred.When.{When}
+use Rattle.rept_view.specs.declared.inferred.When.TheVariants.{Before, After}
+use Rattle.rept_view.specs.declared.inferred.Conclusion.{Conclusion}
 use Rattle.rept_view.specs.Seen.{Seen, state_at}
 use Rattle.rept_isa.specs.declared.instr.LoadOp.TheVariants.{Lw}
 use Rattle.rept_isa.specs.Rows.{Addresses, addresses_of}
@@ -22,11 +22,11 @@ use Rattle.rept_rules.specs.Operands.{less}
 use Rattle.rept_rules.specs.Conclusions.{AreKnown}
 use Rattle.rept_rules.specs.Laws.ValueLemmas.{no_some, same_some}
 use Rattle.rept_rules.specs.Laws.SolveLemmas.{known, unknown, xor_back, xor_back_left}
-use Rattle.rept_rules.specs.Laws.Sound.{DrawnHolds, says_holds, word_back, byte_back, over_none}
-use Rattle.rept_amo.specs.declared.form.WordDrawn.{WordDrawn}
+use Rattle.rept_rules.specs.Laws.Sound.{InferredHolds, says_holds, word_back, byte_back, over_none}
+use Rattle.rept_amo.specs.declared.form.WordInferred.{WordInferred}
 use Rattle.rept_amo.specs.declared.form.Form.{Form}
-use Rattle.rept_amo.specs.declared.form.Access.{Access}
-use Rattle.rept_amo.specs.Conclusions.{IsAtomicAccess, ReadsWord, IsOperation, form_of, byte_drawn, word_before, word_after, word_stored, undone, AtomicConcludes}
+use Rattle.rept_amo.specs.declared.form.AtomicAccess.{AtomicAccess}
+use Rattle.rept_amo.specs.Conclusions.{IsAtomicAccess, ReadsWord, IsOperation, form_of, byte_inferred, word_before, word_after, word_stored, undone, AtomicConcludes}
 use Rattle.rept_amo.specs.Conclusions as rules
 use Rattle.rept_amo.specs.Laws.Listed.{undone_operation}
 
@@ -127,8 +127,8 @@ word_is atomic.Maxu w v r p q e = absurd (unknown e)
 
 -- ---- each conclusion
 
-module _ (image_end : ℕ) (row : StepRow) (view : Seen) (before after : State) (d : Drawn) (step : IsSeenStep image_end row view before after) where
-  acts : (x : Access) → IsAtomicAccess row view x → Acts x.form.op x.form.rd (before.register x.form.rs2) x.base (addresses_of row) before after
+module _ (image_end : ℕ) (row : StepRow) (view : Seen) (before after : State) (d : Conclusion) (step : IsSeenStep image_end row view before after) where
+  acts : (x : AtomicAccess) → IsAtomicAccess row view x → Acts x.form.op x.form.rd (before.register x.form.rs2) x.base (addresses_of row) before after
   acts x acc =
       let e : HasEffect (Amo x.form.op x.form.rd x.form.rs1 x.form.rs2) image_end (addresses_of row) before after = subst (λ (i : Instr). HasEffect i image_end (addresses_of row) before after) (form_is row.instr x.form acc.is_row) step.step in
       subst (λ (b : ℕ). Acts x.form.op x.form.rd (before.register x.form.rs2) b (addresses_of row) before after) (step.meets.register Before x.form.rs1 x.base acc.base) e
@@ -136,25 +136,25 @@ module _ (image_end : ℕ) (row : StepRow) (view : Seen) (before after : State) 
   known_word : (when : When) (base : ℕ) (m : ℕ → ℕ) → AreKnown view when base 4 m → word_at (state_at before after when).memory base ≡ word_at m base
   known_word when base m bytes = same_word (state_at before after when).memory m base (λ k below. step.meets.byte when (beside base k) (m (beside base k)) (bytes k below))
 
-  byte_holds : (w : WordDrawn) (k : ℕ) → d ≡ byte_drawn w k → (state_at before after w.when).memory (beside w.base k) ≡ byte_of w.word k → DrawnHolds before after d
-  byte_holds w k is h = subst (λ (x : Drawn). DrawnHolds before after x) (sym is) h
+  byte_holds : (w : WordInferred) (k : ℕ) → d ≡ byte_inferred w k → (state_at before after w.when).memory (beside w.base k) ≡ byte_of w.word k → InferredHolds before after d
+  byte_holds w k is h = subst (λ (x : Conclusion). InferredHolds before after x) (sym is) h
 
-  there_small : (x : Access) → word_at before.memory x.base < 2 ^ 32
+  there_small : (x : AtomicAccess) → word_at before.memory x.base < 2 ^ 32
   there_small x = word_small before.memory x.base step.state_before.bytes
 
-  there_byte : (x : Access) (w k : ℕ) → word_at before.memory x.base ≡ w → k < 4 → before.memory (beside x.base k) ≡ byte_of w k
+  there_byte : (x : AtomicAccess) (w k : ℕ) → word_at before.memory x.base ≡ w → k < 4 → before.memory (beside x.base k) ≡ byte_of w k
   there_byte x w k e below = byte_back Lw before.memory x.base k step.state_before.bytes below ∙ ap (λ (n : ℕ). byte_of n k) e
 
-  left_word : (x : Access) → IsAtomicAccess row view x → IsOperation x.form.op → combined x.form.op (word_at before.memory x.base) (before.register x.form.rs2) < 2 ^ 32 → word_at after.memory x.base ≡ combined x.form.op (word_at before.memory x.base) (before.register x.form.rs2)
+  left_word : (x : AtomicAccess) → IsAtomicAccess row view x → IsOperation x.form.op → combined x.form.op (word_at before.memory x.base) (before.register x.form.rs2) < 2 ^ 32 → word_at after.memory x.base ≡ combined x.form.op (word_at before.memory x.base) (before.register x.form.rs2)
   left_word x acc operation small = word_of_bytes after.memory x.base _ small (λ k below. leaves_word x.form.rd (before.register x.form.rs2) x.base (addresses_of row) before after x.form.op k (acts x acc) operation below)
 
   -- what an ADD or XOR left, from what is known of it
-  left_known : (x : Access) (n : ℕ → ℕ) (a b r : ℕ) → IsAtomicAccess row view x → AreKnown view After x.base 4 n → undone x.form.op a b ≡ Known r → word_at n x.base ≡ combined x.form.op (word_at before.memory x.base) (before.register x.form.rs2)
+  left_known : (x : AtomicAccess) (n : ℕ → ℕ) (a b r : ℕ) → IsAtomicAccess row view x → AreKnown view After x.base 4 n → undone x.form.op a b ≡ Known r → word_at n x.base ≡ combined x.form.op (word_at before.memory x.base) (before.register x.form.rs2)
   left_known x n a b r acc bytes solved =
       sym (known_word After x.base n bytes)
       ∙ left_word x acc (undone_operation x.form.op a b r solved) (undone_small x.form.op (word_at before.memory x.base) (before.register x.form.rs2) a b r (there_small x) (step.state_before.words x.form.rs2) solved)
 
-  pub sound_by : AtomicConcludes row view d → DrawnHolds before after d
+  pub sound_by : AtomicConcludes row view d → InferredHolds before after d
   sound_by (rules.read x m acc reads bytes says) =
       says_holds before after d 19 After x.form.rd (word_at m x.base) says
       (reads_word x.form.rd (before.register x.form.rs2) x.base (addresses_of row) before after x.form.op (acts x acc) reads (over_none x.form.rd says.named) ∙ known_word Before x.base m bytes)

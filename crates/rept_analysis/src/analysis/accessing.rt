@@ -2,10 +2,10 @@
 
 ghost use Rattle.std.specs.Prelude.{◌≡◌, ◌≤◌, false, IfOk, IfErr, ⊤};
 ghost use Rattle.rept_analysis.specs.State.{state_of, reader};
-ghost use Rattle.rept_analysis.specs.Drawing.{IsTracked, Grows, Drew, IsHalt, AreWritings};
+ghost use Rattle.rept_analysis.specs.Inferring.{IsTracked, Grows, HasInferred, IsHalt, AreWritings};
 
 use super::Analysis;
-use crate::halt::Halt;
+use crate::halt::LearnError;
 use rept_log::LastValues;
 use rept_reach::Reaches;
 use rept_report::paths::Strip;
@@ -21,7 +21,8 @@ impl<'a, P: Reaches + Drop, L: LastValues + Drop, B: ByteFacts, W: Transfer, R: 
     W,
     R,
 > {
-    /// Whether the same is known of a byte at all numbers of a strip, so that nothing is carried in it. Of a run that is one strip it isn't asked.
+    /// Whether the same is known of a byte at all numbers of a strip, so that nothing is carried in
+    /// it. Of a run that is one strip it isn't asked.
     fn is_even_in(&self, a: u32, strip: Strip) -> bool
         requires { strip.first ≤ (P.timeline self.now.paths).moments.end }
     {
@@ -29,11 +30,11 @@ impl<'a, P: Reaches + Drop, L: LastValues + Drop, B: ByteFacts, W: Transfer, R: 
     }
 
     /// The value of a byte over the numbers around one, as far as it is carried in their strip.
-    fn carry_around(&mut self, a: u32, point: u32) -> Result<bool, Halt>
+    fn carry_around(&mut self, a: u32, point: u32) -> Result<bool, LearnError>
         requires writings { AreWritings (state_of (reader P.timeline L.values) W.sets W.moves R.rules B.store self.old) }
         requires open { self.old.complete ≡ false }
         ensures grows { Grows (state_of (reader P.timeline L.values) W.sets W.moves R.rules B.store self.old) (state_of (reader P.timeline L.values) W.sets W.moves R.rules B.store self.new) }
-        ensures drew { IfOk result (λ learnt. Drew (state_of (reader P.timeline L.values) W.sets W.moves R.rules B.store self.old) (state_of (reader P.timeline L.values) W.sets W.moves R.rules B.store self.new) learnt (λ _. ⊤)) }
+        ensures inferred { IfOk result (λ learnt. HasInferred (state_of (reader P.timeline L.values) W.sets W.moves R.rules B.store self.old) (state_of (reader P.timeline L.values) W.sets W.moves R.rules B.store self.new) learnt (λ _. ⊤)) }
         ensures halt { IfErr result (λ h. IsHalt (state_of (reader P.timeline L.values) W.sets W.moves R.rules B.store self.new) h) }
     {
         let number = point.min(self.end());
@@ -45,12 +46,13 @@ impl<'a, P: Reaches + Drop, L: LastValues + Drop, B: ByteFacts, W: Transfer, R: 
         self.carry_segment(a, piece.from, piece.to)
     }
 
-    /// The value of a byte from the strip around a number back and forth, unless it is like the first one of its word, which it follows.
-    fn carry_away(&mut self, a: u32, point: u32) -> Result<bool, Halt>
+    /// The value of a byte from the strip around a number back and forth, unless it is like the
+    /// first one of its word, which it follows.
+    fn carry_away(&mut self, a: u32, point: u32) -> Result<bool, LearnError>
         requires writings { AreWritings (state_of (reader P.timeline L.values) W.sets W.moves R.rules B.store self.old) }
         requires open { self.old.complete ≡ false }
         ensures grows { Grows (state_of (reader P.timeline L.values) W.sets W.moves R.rules B.store self.old) (state_of (reader P.timeline L.values) W.sets W.moves R.rules B.store self.new) }
-        ensures drew { IfOk result (λ learnt. Drew (state_of (reader P.timeline L.values) W.sets W.moves R.rules B.store self.old) (state_of (reader P.timeline L.values) W.sets W.moves R.rules B.store self.new) learnt (λ _. ⊤)) }
+        ensures inferred { IfOk result (λ learnt. HasInferred (state_of (reader P.timeline L.values) W.sets W.moves R.rules B.store self.old) (state_of (reader P.timeline L.values) W.sets W.moves R.rules B.store self.new) learnt (λ _. ⊤)) }
         ensures halt { IfErr result (λ h. IsHalt (state_of (reader P.timeline L.values) W.sets W.moves R.rules B.store self.new) h) }
     {
         let strip = self.strip(point.min(self.end()));
@@ -62,12 +64,13 @@ impl<'a, P: Reaches + Drop, L: LastValues + Drop, B: ByteFacts, W: Transfer, R: 
         Ok(back | forth)
     }
 
-    /// So where something was learnt of the byte lately: else it was carried there before.
-    fn carry_recent(&mut self, a: u32, point: u32) -> Result<bool, Halt>
+    /// Carries a byte of which something was learnt lately from the strip around a number back and
+    /// forth. Any other byte was carried there before.
+    fn carry_recent(&mut self, a: u32, point: u32) -> Result<bool, LearnError>
         requires writings { AreWritings (state_of (reader P.timeline L.values) W.sets W.moves R.rules B.store self.old) }
         requires open { self.old.complete ≡ false }
         ensures grows { Grows (state_of (reader P.timeline L.values) W.sets W.moves R.rules B.store self.old) (state_of (reader P.timeline L.values) W.sets W.moves R.rules B.store self.new) }
-        ensures drew { IfOk result (λ learnt. Drew (state_of (reader P.timeline L.values) W.sets W.moves R.rules B.store self.old) (state_of (reader P.timeline L.values) W.sets W.moves R.rules B.store self.new) learnt (λ _. ⊤)) }
+        ensures inferred { IfOk result (λ learnt. HasInferred (state_of (reader P.timeline L.values) W.sets W.moves R.rules B.store self.old) (state_of (reader P.timeline L.values) W.sets W.moves R.rules B.store self.new) learnt (λ _. ⊤)) }
         ensures halt { IfErr result (λ h. IsHalt (state_of (reader P.timeline L.values) W.sets W.moves R.rules B.store self.new) h) }
     {
         if !self.recent.has(a) {
@@ -76,12 +79,13 @@ impl<'a, P: Reaches + Drop, L: LastValues + Drop, B: ByteFacts, W: Transfer, R: 
         self.carry_around(a, point)
     }
 
-    /// So for so many bytes from an address on.
-    fn carry_near(&mut self, point: u32, start: u32, count: u32) -> Result<bool, Halt>
+    /// Carries each of some bytes from an address on in the strip around a number, where something
+    /// was learnt of it lately.
+    fn carry_near(&mut self, point: u32, start: u32, count: u32) -> Result<bool, LearnError>
         requires writings { AreWritings (state_of (reader P.timeline L.values) W.sets W.moves R.rules B.store self.old) }
         requires open { self.old.complete ≡ false }
         ensures grows { Grows (state_of (reader P.timeline L.values) W.sets W.moves R.rules B.store self.old) (state_of (reader P.timeline L.values) W.sets W.moves R.rules B.store self.new) }
-        ensures drew { IfOk result (λ learnt. Drew (state_of (reader P.timeline L.values) W.sets W.moves R.rules B.store self.old) (state_of (reader P.timeline L.values) W.sets W.moves R.rules B.store self.new) learnt (λ _. ⊤)) }
+        ensures inferred { IfOk result (λ learnt. HasInferred (state_of (reader P.timeline L.values) W.sets W.moves R.rules B.store self.old) (state_of (reader P.timeline L.values) W.sets W.moves R.rules B.store self.new) learnt (λ _. ⊤)) }
         ensures halt { IfErr result (λ h. IsHalt (state_of (reader P.timeline L.values) W.sets W.moves R.rules B.store self.new) h) }
     {
         let mut learnt = false;
@@ -92,12 +96,12 @@ impl<'a, P: Reaches + Drop, L: LastValues + Drop, B: ByteFacts, W: Transfer, R: 
         Ok(learnt)
     }
 
-    /// So back and forth from there.
-    fn carry_far(&mut self, point: u32, start: u32, count: u32) -> Result<bool, Halt>
+    /// Carries each of some bytes from an address on back and forth from the strip around a number.
+    fn carry_far(&mut self, point: u32, start: u32, count: u32) -> Result<bool, LearnError>
         requires writings { AreWritings (state_of (reader P.timeline L.values) W.sets W.moves R.rules B.store self.old) }
         requires open { self.old.complete ≡ false }
         ensures grows { Grows (state_of (reader P.timeline L.values) W.sets W.moves R.rules B.store self.old) (state_of (reader P.timeline L.values) W.sets W.moves R.rules B.store self.new) }
-        ensures drew { IfOk result (λ learnt. Drew (state_of (reader P.timeline L.values) W.sets W.moves R.rules B.store self.old) (state_of (reader P.timeline L.values) W.sets W.moves R.rules B.store self.new) learnt (λ _. ⊤)) }
+        ensures inferred { IfOk result (λ learnt. HasInferred (state_of (reader P.timeline L.values) W.sets W.moves R.rules B.store self.old) (state_of (reader P.timeline L.values) W.sets W.moves R.rules B.store self.new) learnt (λ _. ⊤)) }
         ensures halt { IfErr result (λ h. IsHalt (state_of (reader P.timeline L.values) W.sets W.moves R.rules B.store self.new) h) }
     {
         let mut learnt = false;
@@ -108,12 +112,18 @@ impl<'a, P: Reaches + Drop, L: LastValues + Drop, B: ByteFacts, W: Transfer, R: 
         Ok(learnt)
     }
 
-    /// So in the strip around a number, and where that told something new, back and forth; nothing in the first round.
-    pub(super) fn carry_bytes(&mut self, point: u32, start: u32, count: u32) -> Result<bool, Halt>
+    /// Carries bytes in the strip around a number, and where that told something new, back and
+    /// forth. In the first round it does nothing.
+    pub(super) fn carry_bytes(
+        &mut self,
+        point: u32,
+        start: u32,
+        count: u32,
+    ) -> Result<bool, LearnError>
         requires writings { AreWritings (state_of (reader P.timeline L.values) W.sets W.moves R.rules B.store self.old) }
         requires open { self.old.complete ≡ false }
         ensures grows { Grows (state_of (reader P.timeline L.values) W.sets W.moves R.rules B.store self.old) (state_of (reader P.timeline L.values) W.sets W.moves R.rules B.store self.new) }
-        ensures drew { IfOk result (λ learnt. Drew (state_of (reader P.timeline L.values) W.sets W.moves R.rules B.store self.old) (state_of (reader P.timeline L.values) W.sets W.moves R.rules B.store self.new) learnt (λ _. ⊤)) }
+        ensures inferred { IfOk result (λ learnt. HasInferred (state_of (reader P.timeline L.values) W.sets W.moves R.rules B.store self.old) (state_of (reader P.timeline L.values) W.sets W.moves R.rules B.store self.new) learnt (λ _. ⊤)) }
         ensures halt { IfErr result (λ h. IsHalt (state_of (reader P.timeline L.values) W.sets W.moves R.rules B.store self.new) h) }
     {
         if self.is_first_round() {
@@ -127,20 +137,21 @@ impl<'a, P: Reaches + Drop, L: LastValues + Drop, B: ByteFacts, W: Transfer, R: 
         Ok(near | far)
     }
 
-    /// The byte of the dump at a tracked address, over the last rows that may not write it; nothing in the first round.
-    pub(super) fn draw_dump(&mut self, a: u32) -> Result<bool, Halt>
+    /// The byte of the dump at a tracked address, over the last rows that may not write it; nothing
+    /// in the first round.
+    pub(super) fn infer_dump(&mut self, a: u32) -> Result<bool, LearnError>
         requires tracked { IsTracked a (state_of (reader P.timeline L.values) W.sets W.moves R.rules B.store self.old) }
         requires writings { AreWritings (state_of (reader P.timeline L.values) W.sets W.moves R.rules B.store self.old) }
         requires open { self.old.complete ≡ false }
         ensures grows { Grows (state_of (reader P.timeline L.values) W.sets W.moves R.rules B.store self.old) (state_of (reader P.timeline L.values) W.sets W.moves R.rules B.store self.new) }
-        ensures drew { IfOk result (λ learnt. Drew (state_of (reader P.timeline L.values) W.sets W.moves R.rules B.store self.old) (state_of (reader P.timeline L.values) W.sets W.moves R.rules B.store self.new) learnt (λ _. ⊤)) }
+        ensures inferred { IfOk result (λ learnt. HasInferred (state_of (reader P.timeline L.values) W.sets W.moves R.rules B.store self.old) (state_of (reader P.timeline L.values) W.sets W.moves R.rules B.store self.new) learnt (λ _. ⊤)) }
         ensures halt { IfErr result (λ h. IsHalt (state_of (reader P.timeline L.values) W.sets W.moves R.rules B.store self.new) h) }
     {
         if self.is_first_round() {
             return Ok(false);
         }
         let point = self.end();
-        let told = self.draw_last_byte(a)?;
+        let told = self.infer_last_byte(a)?;
         let carried = self.carry_around(a, point)?;
         if !carried {
             return Ok(told);

@@ -21,8 +21,8 @@ impl<'a, P: Reaches + Drop, L: LastValues + Drop, B: ByteFacts, W: Transfer, R: 
     W,
     R,
 > {
-    /// For callers whose contracts speak of the report: what `reg` answers of registers is what the report has, once all is learnt,
-    /// and the facts were learnt one by one. The call does nothing.
+    /// For callers whose contracts speak of the report: what `reg` answers of registers is what the
+    /// report has, once all is learnt, and the facts were learnt one by one. The call does nothing.
     pub fn account(&self)
         ensures few { (P.timeline self.now.paths).legs.count ≤ 66560 }
         ensures last { (p : ℕ) → length (L.values self.now.last p) ≡ 32 }

@@ -17,18 +17,18 @@ ghost use Rattle.rept_report.specs.Writers.{IsWriter};
 ghost use Rattle.rept_report.specs.Log.{oldest};
 ghost use Rattle.rept_analysis.specs.State.{setting_of, state_of, reader};
 ghost use Rattle.rept_report.specs.Why.{fact_of};
-ghost use Rattle.rept_analysis.specs.Drawing.{IsFitted, IsSettled, AreWritings, AreHitsPast, AreFormerPast, AreLaterPast, IsLateHit};
+ghost use Rattle.rept_analysis.specs.Inferring.{IsFitted, IsSettled, AreWritings, AreHitsPast, AreFormerPast, AreLaterPast, IsLateHit};
 ghost use Rattle.rept_analysis.specs.Kept.{IsKept, answers};
 ghost use Rattle.rept_analysis.specs.Answers.{HasClosure, byte_answer};
 ghost use Rattle.rept_latest.specs.Latest.{IsPossibleWriter};
 
 use super::Analysis;
 use rept_isa::Reg;
-use rept_latest::{Sought, last_writer, possible_writer};
+use rept_latest::{SoughtRows, last_writer, possible_writer};
 use rept_log::LastValues;
 use rept_reach::Reaches;
 use rept_report::Writer;
-use rept_report::paths::Line;
+use rept_report::paths::NumberChain;
 use rept_span::Transfer;
 use rept_versions::ByteFacts;
 use rept_view::RowRules;
@@ -61,14 +61,14 @@ impl<'a, P: Reaches + Drop, L: LastValues + Drop, B: ByteFacts, W: Transfer, R: 
     }
 
     /// Whether writers that aren't told, if there are any, lie wholly before a moment.
-    fn is_dark_past(&self, moment: u32) -> bool
-        ensures { result ≡ (P.timeline self.now.paths).moments.dark_past moment }
+    fn is_untraced_past(&self, moment: u32) -> bool
+        ensures { result ≡ (P.timeline self.now.paths).moments.untraced_past moment }
     {
-        self.paths.is_dark_past(moment)
+        self.paths.is_untraced_past(moment)
     }
 
-    /// Whether the rows from index k to before another one of the list of those that may write lie wholly before a moment, as far as they may
-    /// write a byte.
+    /// Whether the rows from index k to before another one of the list of those that may write lie
+    /// wholly before a moment, as far as they may write a byte.
     fn are_hits_past(&self, k: usize, end: usize, moment: u32, a: u32) -> bool
         requires writings { AreWritings (state_of (reader P.timeline L.values) W.sets W.moves R.rules B.store self.now) }
         requires within { end ≤ length self.now.work.writing }
@@ -88,16 +88,18 @@ impl<'a, P: Reaches + Drop, L: LastValues + Drop, B: ByteFacts, W: Transfer, R: 
         }
     }
 
-    /// The numbers around one, one after the other, of which each but the last has the one after it next to it, and no other.
-    fn line_of(&self, number: u32) -> Line
+    /// The numbers around one, one after the other, of which each but the last has the one after it
+    /// next to it, and no other.
+    fn line_of(&self, number: u32) -> NumberChain
         requires { number ≤ (P.timeline self.now.paths).moments.end }
         ensures { IsLine (P.timeline self.now.paths).moments number result }
     {
         self.paths.line_of(number)
     }
 
-    /// Whether numbers lead one by one from a moment to the end, and no row of the list that stands at a lower number and may write a byte falls
-    /// at this number or a later one. Then all these rows lie wholly before the moment. It is so at each moment of one thread.
+    /// Whether numbers lead one by one from a moment to the end, and no row of the list that stands
+    /// at a lower number and may write a byte may act at this number or a later one. Then all these
+    /// rows lie wholly before the moment. It is so at each moment of one thread.
     fn is_over(&self, moment: u32, a: u32) -> bool
         requires moment { moment ≤ (P.timeline self.now.paths).moments.end }
         requires writings { AreWritings (state_of (reader P.timeline L.values) W.sets W.moves R.rules B.store self.now) }
@@ -106,7 +108,8 @@ impl<'a, P: Reaches + Drop, L: LastValues + Drop, B: ByteFacts, W: Transfer, R: 
         self.line_of(moment).last == self.end() && self.free_since(moment, a) <= moment
     }
 
-    /// Whether the rows of the list that stand at lower numbers lie wholly before a moment, as far as they may write a byte.
+    /// Whether the rows of the list that stand at lower numbers lie wholly before a moment, as far
+    /// as they may write a byte.
     fn are_former_past(&self, moment: u32, a: u32) -> bool
         requires moment { moment ≤ (P.timeline self.now.paths).moments.end }
         requires writings { AreWritings (state_of (reader P.timeline L.values) W.sets W.moves R.rules B.store self.now) }
@@ -120,7 +123,8 @@ impl<'a, P: Reaches + Drop, L: LastValues + Drop, B: ByteFacts, W: Transfer, R: 
         self.are_hits_past(0, split, moment, a)
     }
 
-    /// Whether those that stand at this number or higher ones lie wholly before the moment, as far as they may write the byte.
+    /// Whether those that stand at this number or higher ones lie wholly before the moment, as far
+    /// as they may write the byte.
     fn are_later_past(&self, moment: u32, a: u32) -> bool
         requires writings { AreWritings (state_of (reader P.timeline L.values) W.sets W.moves R.rules B.store self.now) }
         ensures yes { result ≡ true → AreLaterPast (spot moment a) (state_of (reader P.timeline L.values) W.sets W.moves R.rules B.store self.now) }
@@ -131,8 +135,9 @@ impl<'a, P: Reaches + Drop, L: LastValues + Drop, B: ByteFacts, W: Transfer, R: 
         self.are_hits_past(split, count, moment, a)
     }
 
-    /// Whether all that may write a byte lies wholly before a moment, where all is learnt. The rows that may write it are those of the list;
-    /// the ones at this number and higher ones are looked at first, since they seldom lie before the moment.
+    /// Whether all that may write a byte lies wholly before a moment, where all is learnt. The rows
+    /// that may write it are those of the list; the ones at this number and higher ones are looked
+    /// at first, since they seldom lie before the moment.
     fn is_untouched(&self, moment: u32, a: u32) -> bool
         requires moment { moment ≤ (P.timeline self.now.paths).moments.end }
         requires settled { IsSettled (state_of (reader P.timeline L.values) W.sets W.moves R.rules B.store self.now) }
@@ -144,7 +149,7 @@ impl<'a, P: Reaches + Drop, L: LastValues + Drop, B: ByteFacts, W: Transfer, R: 
         if !self.are_former_past(moment, a) {
             return false;
         }
-        self.is_dark_past(moment)
+        self.is_untraced_past(moment)
     }
 
     /// The byte of the dump, where it is carried back to a moment, where all is learnt.
@@ -224,9 +229,10 @@ impl<'a, P: Reaches + Drop, L: LastValues + Drop, B: ByteFacts, W: Transfer, R: 
         }
     }
 
-    /// The value of the byte at an address, at a point, where it follows. While not all is learnt, as after a stop, it is that of the facts
-    /// that are answered, and at the last point the dump's too. It stands in the closure, which has no fact where the rows alone show a
-    /// conflict: then the dump's byte alone is answered.
+    /// The value of the byte at an address, at a point, where it follows. While not all is learnt,
+    /// as after a stop, it is that of the facts that are answered, and at the last point the dump's
+    /// too. It stands in the closure, which has no fact where the rows alone show a conflict: then
+    /// the dump's byte alone is answered.
     pub fn byte(&self, point: u32, a: u32) -> Option<u8>
         requires { point ≤ (P.timeline self.now.paths).moments.end }
         ensures ended { self.now.complete ≡ true → result ≡ answers (state_of (reader P.timeline L.values) W.sets W.moves R.rules B.store self.now) point (Byte a) }
@@ -243,7 +249,8 @@ impl<'a, P: Reaches + Drop, L: LastValues + Drop, B: ByteFacts, W: Transfer, R: 
         }
     }
 
-    /// What is said of the row that last wrote a byte before a moment. Unless all is learnt, each row may have written it.
+    /// What is said of the row that last wrote a byte before a moment. Unless all is learnt, each
+    /// row may have written it.
     pub fn writer(&self, moment: u32, a: u32) -> Writer
         requires { moment ≤ (P.timeline self.now.paths).moments.end }
         ensures ended { self.now.complete ≡ true → IsWriter (setting_of (reader P.timeline L.values) W.sets W.moves R.rules self.now) (answers (state_of (reader P.timeline L.values) W.sets W.moves R.rules B.store self.now)) (spot moment a) result }
@@ -253,6 +260,6 @@ impl<'a, P: Reaches + Drop, L: LastValues + Drop, B: ByteFacts, W: Transfer, R: 
             return self.last_writer(moment, a);
         }
         let address = None;
-        possible_writer(&self.paths, self, Sought { moment, address })
+        possible_writer(&self.paths, self, SoughtRows { moment, address })
     }
 }

@@ -4,14 +4,14 @@ ghost use Rattle.std.specs.Prelude.{◌≡◌, ◌↔◌, ◌+◌, ◌<◌, ◌�
 ghost use Rattle.rept_reason.specs.declared.fact.Cell.TheVariants.{Byte};
 ghost use Rattle.rept_versions.specs.Facts.{KnownValues, Nexts};
 ghost use Rattle.rept_analysis.specs.State.{IsLined, state_of, reader};
-ghost use Rattle.rept_analysis.specs.Drawing.{Knows, IsTracked, Grows, Drew, IsHalt, AreWritings, IsBridged, IsSparedBetween, IsLed, IsSpreadTo, IsCarriedFrom, IsCalm, IsLooseEnd, IsLooseBefore, IsPiece, IsCarriedIf, IsCarriedBeside, IsCarriedIn, AreLinks, AreLinksBelow, IsBrought, IsHitBy};
+ghost use Rattle.rept_analysis.specs.Inferring.{Knows, IsTracked, Grows, HasInferred, IsHalt, AreWritings, IsBridged, IsSparedBetween, IsLed, IsSpreadTo, IsCarriedFrom, IsCalm, IsLooseEnd, IsLooseBefore, IsPiece, IsCarriedIf, IsCarriedBeside, IsCarriedIn, AreLinks, AreLinksBelow, IsBrought, IsHitBy};
 ghost use Rattle.rept_analysis.specs.Told.{Sends};
 ghost use Rattle.rept_reach.specs.Reaching.{IsBar};
 ghost use Rattle.rept_report.specs.Timeline.{IsNextFrom, IsStrip};
 ghost use Rattle.rept_report.specs.Why.{fact_of};
 
 use super::Analysis;
-use crate::halt::Halt;
+use crate::halt::LearnError;
 use crate::link::Link;
 use crate::piece::Piece;
 use rept_log::LastValues;
@@ -19,12 +19,12 @@ use rept_reach::Reaches;
 use rept_reason::Cell;
 use rept_report::paths::Strip;
 use rept_span::Transfer;
-use rept_versions::{ByteFacts, Carried, Stretch};
+use rept_versions::{ByteFacts, Carried, ValueStretch};
 use rept_view::RowRules;
 use std::alloc::AllocError as OutOfMemory;
 
 /// Where the value of a stretch begins, or where it ends if it begins at a point or before.
-fn edge(stretch: &Stretch, from: u32) -> u32
+fn edge(stretch: &ValueStretch, from: u32) -> u32
     ensures { ((from < stretch.now.first) × (result ≡ stretch.now.first)) ⊎ ((stretch.now.first ≤ from) × (result ≡ stretch.now.last)) }
 {
     if from < stretch.first {
@@ -34,8 +34,9 @@ fn edge(stretch: &Stretch, from: u32) -> u32
     }
 }
 
-/// The number after which the value of a stretch begins, or at which it ends if it begins at a number or before.
-pub(super) fn border(stretch: &Stretch, from: u32) -> u32
+/// The number after which the value of a stretch begins, or at which it ends if it begins at a
+/// number or before.
+pub(super) fn border(stretch: &ValueStretch, from: u32) -> u32
     ensures { ((from < stretch.now.first) × (result + 1 ≡ stretch.now.first)) ⊎ ((stretch.now.first ≤ from) × (result ≡ stretch.now.last)) }
 {
     if from < stretch.first {
@@ -54,7 +55,7 @@ fn is_after(m: u32, w: u32) -> bool
 }
 
 /// Whether a stretch has each point from one to another one.
-fn has_all(stretch: &Stretch, from: u32, to: u32) -> bool
+fn has_all(stretch: &ValueStretch, from: u32, to: u32) -> bool
     ensures { result ≡ true → (stretch.now.first ≤ from) × (to ≤ stretch.now.last) }
 {
     stretch.first <= from && to <= stretch.last
@@ -88,8 +89,9 @@ fn is_value(here: Option<u8>, value: u8) -> bool
     }
 }
 
-/// A number from one on, no further than after the end, before which from there on a value is known, or none, by the first stretch that ends at the one or later.
-fn like_along(stretch: &Stretch, here: Option<u8>, from: u32, end: u32) -> u32
+/// A number from one on, no further than after the end, before which from there on a value is
+/// known, or none, by the first stretch that ends at the one or later.
+fn like_along(stretch: &ValueStretch, here: Option<u8>, from: u32, end: u32) -> u32
     requires from { from ≤ end }
     requires end { end + 1 < 2 ^ 32 }
     requires reaches { from ≤ stretch.now.last }
@@ -115,7 +117,8 @@ impl<'a, P: Reaches + Drop, L: LastValues + Drop, B: ByteFacts, W: Transfer, R: 
     W,
     R,
 > {
-    /// Carries a byte's value from a number at which it is known to another one, where each number on the way comes from a known one or from one before it on the way.
+    /// Carries a byte's value from a number at which it is known to another one, where each number
+    /// on the way comes from a known one or from one before it on the way.
     fn send(&mut self, a: u32, from: u32, to: u32, value: u8) -> Result<Carried, OutOfMemory>
         requires open { self.old.complete ≡ false }
         requires from { from ≤ (P.timeline self.old.paths).moments.end }
@@ -129,15 +132,22 @@ impl<'a, P: Reaches + Drop, L: LastValues + Drop, B: ByteFacts, W: Transfer, R: 
         self.known.carry(a, from, to)
     }
 
-    /// So, and answers whether it was new.
-    pub(super) fn spread_led(&mut self, a: u32, from: u32, to: u32, value: u8) -> Result<bool, Halt>
+    /// Carries a byte's value along a way of numbers, each of which comes from a known one, and
+    /// answers whether it was new.
+    pub(super) fn spread_led(
+        &mut self,
+        a: u32,
+        from: u32,
+        to: u32,
+        value: u8,
+    ) -> Result<bool, LearnError>
         requires from { from ≤ (P.timeline self.old.paths).moments.end }
         requires to { to ≤ (P.timeline self.old.paths).moments.end }
         requires known { Knows from (Byte a) value (state_of (reader P.timeline L.values) W.sets W.moves R.rules B.store self.old) }
         requires led { IsLed (record { address = a; from = from; to = to; value = value }) (state_of (reader P.timeline L.values) W.sets W.moves R.rules B.store self.old) }
         requires open { self.old.complete ≡ false }
         ensures grows { Grows (state_of (reader P.timeline L.values) W.sets W.moves R.rules B.store self.old) (state_of (reader P.timeline L.values) W.sets W.moves R.rules B.store self.new) }
-        ensures drew { IfOk result (λ learnt. Drew (state_of (reader P.timeline L.values) W.sets W.moves R.rules B.store self.old) (state_of (reader P.timeline L.values) W.sets W.moves R.rules B.store self.new) learnt (IsSpreadTo (record { address = a; from = from; to = to; value = value }))) }
+        ensures inferred { IfOk result (λ learnt. HasInferred (state_of (reader P.timeline L.values) W.sets W.moves R.rules B.store self.old) (state_of (reader P.timeline L.values) W.sets W.moves R.rules B.store self.new) learnt (IsSpreadTo (record { address = a; from = from; to = to; value = value }))) }
         ensures halt { IfErr result (λ h. IsHalt (state_of (reader P.timeline L.values) W.sets W.moves R.rules B.store self.new) h) }
     {
         match self.send(a, from, to, value) {
@@ -148,46 +158,47 @@ impl<'a, P: Reaches + Drop, L: LastValues + Drop, B: ByteFacts, W: Transfer, R: 
             }
             Ok(Carried::Stop(point, _, found)) => {
                 let cell = Cell::Byte(a);
-                Err(Halt::Clash {
+                Err(LearnError::Clash {
                     point,
                     cell,
                     known: found as u32,
                     value: value as u32,
                 })
             }
-            Err(_) => Err(Halt::OutOfMemory),
+            Err(_) => Err(LearnError::OutOfMemory),
         }
     }
 
-    /// The value of a byte at a number, at those from there to another one, where no row between may write it.
-    fn spread(&mut self, a: u32, from: u32, to: u32, value: u8) -> Result<bool, Halt>
+    /// The value of a byte at a number, at those from there to another one, where no row between
+    /// may write it.
+    fn spread(&mut self, a: u32, from: u32, to: u32, value: u8) -> Result<bool, LearnError>
         requires from { from ≤ (P.timeline self.old.paths).moments.end }
         requires to { to ≤ (P.timeline self.old.paths).moments.end }
         requires known { Knows from (Byte a) value (state_of (reader P.timeline L.values) W.sets W.moves R.rules B.store self.old) }
         requires spared { IsSparedBetween from to a (state_of (reader P.timeline L.values) W.sets W.moves R.rules B.store self.old) }
         requires open { self.old.complete ≡ false }
         ensures grows { Grows (state_of (reader P.timeline L.values) W.sets W.moves R.rules B.store self.old) (state_of (reader P.timeline L.values) W.sets W.moves R.rules B.store self.new) }
-        ensures drew { IfOk result (λ learnt. Drew (state_of (reader P.timeline L.values) W.sets W.moves R.rules B.store self.old) (state_of (reader P.timeline L.values) W.sets W.moves R.rules B.store self.new) learnt (IsSpreadTo (record { address = a; from = from; to = to; value = value }))) }
+        ensures inferred { IfOk result (λ learnt. HasInferred (state_of (reader P.timeline L.values) W.sets W.moves R.rules B.store self.old) (state_of (reader P.timeline L.values) W.sets W.moves R.rules B.store self.new) learnt (IsSpreadTo (record { address = a; from = from; to = to; value = value }))) }
         ensures halt { IfErr result (λ h. IsHalt (state_of (reader P.timeline L.values) W.sets W.moves R.rules B.store self.new) h) }
     {
         self.spread_led(a, from, to, value)
     }
 
     /// The first stretch of a byte that ends at a point or later.
-    pub(super) fn stretch(&self, a: u32, point: u32) -> Option<Stretch>
+    pub(super) fn stretch(&self, a: u32, point: u32) -> Option<ValueStretch>
         ensures { Nexts (B.store self.now.known.bytes).fact a point result }
     {
         self.known.next_stretch(a, point)
     }
 
     /// The value of a byte from a point to another one, where no row between may write it.
-    pub(super) fn carry_segment(&mut self, a: u32, from: u32, to: u32) -> Result<bool, Halt>
+    pub(super) fn carry_segment(&mut self, a: u32, from: u32, to: u32) -> Result<bool, LearnError>
         requires order { from ≤ to }
         requires to { to ≤ (P.timeline self.old.paths).moments.end }
         requires spared { IsSparedBetween from to a (state_of (reader P.timeline L.values) W.sets W.moves R.rules B.store self.old) }
         requires open { self.old.complete ≡ false }
         ensures grows { Grows (state_of (reader P.timeline L.values) W.sets W.moves R.rules B.store self.old) (state_of (reader P.timeline L.values) W.sets W.moves R.rules B.store self.new) }
-        ensures drew { IfOk result (λ learnt. Drew (state_of (reader P.timeline L.values) W.sets W.moves R.rules B.store self.old) (state_of (reader P.timeline L.values) W.sets W.moves R.rules B.store self.new) learnt (IsCarriedFrom a from to)) }
+        ensures inferred { IfOk result (λ learnt. HasInferred (state_of (reader P.timeline L.values) W.sets W.moves R.rules B.store self.old) (state_of (reader P.timeline L.values) W.sets W.moves R.rules B.store self.new) learnt (IsCarriedFrom a from to)) }
         ensures halt { IfErr result (λ h. IsHalt (state_of (reader P.timeline L.values) W.sets W.moves R.rules B.store self.new) h) }
     {
         match self.stretch(a, from) {
@@ -208,7 +219,7 @@ impl<'a, P: Reaches + Drop, L: LastValues + Drop, B: ByteFacts, W: Transfer, R: 
         }
     }
 
-    /// The numbers around one, one after the other, between which the same falls.
+    /// The numbers around one, one after the other, between which the same may act.
     pub(super) fn strip(&self, number: u32) -> Strip
         requires { number ≤ (P.timeline self.now.paths).moments.end }
         ensures { IsStrip (P.timeline self.now.paths) number result }
@@ -216,12 +227,12 @@ impl<'a, P: Reaches + Drop, L: LastValues + Drop, B: ByteFacts, W: Transfer, R: 
         self.paths.strip_of(number)
     }
 
-    /// Whether writers that aren't told fall between a number and one that is next to it.
-    pub(super) fn is_dark_between(&self, m: u32, w: u32) -> bool
+    /// Whether writers that aren't told may act between a number and one that is next to it.
+    pub(super) fn is_untraced_between(&self, m: u32, w: u32) -> bool
         requires next { (P.timeline self.now.paths).moments.next m w ≡ true }
-        ensures { result ≡ (P.timeline self.now.paths).moments.dark m w }
+        ensures { result ≡ (P.timeline self.now.paths).moments.untraced m w }
     {
-        self.paths.is_dark_between(m, w)
+        self.paths.is_untraced_between(m, w)
     }
 
     /// The least number from one on that is next to a number.
@@ -232,24 +243,24 @@ impl<'a, P: Reaches + Drop, L: LastValues + Drop, B: ByteFacts, W: Transfer, R: 
         self.paths.next_from(m, least)
     }
 
-    /// Whether a row falls between a number and one that is next to it.
-    pub(super) fn falls(&self, row: u32, m: u32, w: u32) -> bool
+    /// Whether a row may act between a number and one that is next to it.
+    pub(super) fn may_act(&self, row: u32, m: u32, w: u32) -> bool
         requires there { IsSome ((P.timeline self.now.paths).legs.row row) }
         requires next { (P.timeline self.now.paths).moments.next m w ≡ true }
-        ensures { result ≡ (P.timeline self.now.paths).moments.falls row m w }
+        ensures { result ≡ (P.timeline self.now.paths).moments.may_act row m w }
     {
-        self.paths.falls(row, m, w)
+        self.paths.may_act(row, m, w)
     }
 
-    /// Whether it is sure that a row falls between a number and each one that is next to it.
-    pub(super) fn bars(&self, row: u32, m: u32) -> bool
+    /// Whether it is sure that a row may act between a number and each one that is next to it.
+    pub(super) fn surely_blocks(&self, row: u32, m: u32) -> bool
         requires there { IsSome ((P.timeline self.now.paths).legs.row row) }
         ensures { result ≡ true → IsBar (P.timeline self.now.paths).moments row m }
     {
-        self.paths.bars(row, m)
+        self.paths.surely_blocks(row, m)
     }
 
-    /// Whether nothing that may write the byte falls at the pause of a strip, if it has one.
+    /// Whether nothing that may write the byte may act at the pause of a strip, if it has one.
     pub(super) fn is_calm(&self, a: u32, strip: Strip) -> bool
         requires writings { AreWritings (state_of (reader P.timeline L.values) W.sets W.moves R.rules B.store self.now) }
         requires strip { (number : ℕ) × IsStrip (P.timeline self.now.paths) number strip }
@@ -267,7 +278,8 @@ impl<'a, P: Reaches + Drop, L: LastValues + Drop, B: ByteFacts, W: Transfer, R: 
         }
     }
 
-    /// The number of an entry of the list from which it isn't known whether the byte is carried on in a strip: none, where the row of the entry falls there.
+    /// The number of an entry of the list from which it isn't known whether the byte is carried on
+    /// in a strip: none, where the row of the entry may act there.
     fn loose_end(&self, strip: Strip, k: usize) -> Option<u32>
         requires writings { AreWritings (state_of (reader P.timeline L.values) W.sets W.moves R.rules B.store self.now) }
         requires strip { (number : ℕ) × IsStrip (P.timeline self.now.paths) number strip }
@@ -282,7 +294,7 @@ impl<'a, P: Reaches + Drop, L: LastValues + Drop, B: ByteFacts, W: Transfer, R: 
         if entry.at >= strip.last {
             return None;
         }
-        if self.falls(entry.row, entry.at, entry.at + 1) {
+        if self.may_act(entry.row, entry.at, entry.at + 1) {
             None
         } else {
             Some(entry.at)
@@ -331,8 +343,8 @@ impl<'a, P: Reaches + Drop, L: LastValues + Drop, B: ByteFacts, W: Transfer, R: 
         }
     }
 
-    /// Whether this is the first round: the sets are those of no facts. The addresses of most stores become known in it, so that bytes
-    /// are carried only after it, and not in pieces.
+    /// Whether this is the first round: the sets are those of no facts. The addresses of most
+    /// stores become known in it, so that bytes are carried only after it, and not in pieces.
     pub(super) fn is_first_round(&self) -> bool
         ensures { IsTrue result ↔ (self.now.filled ≡ 0) }
     {
@@ -340,12 +352,12 @@ impl<'a, P: Reaches + Drop, L: LastValues + Drop, B: ByteFacts, W: Transfer, R: 
     }
 
     /// The value of a byte from a number to the one after it, and back, if it is carried.
-    fn carry_step(&mut self, a: u32, m: u32) -> Result<bool, Halt>
+    fn carry_step(&mut self, a: u32, m: u32) -> Result<bool, LearnError>
         requires writings { AreWritings (state_of (reader P.timeline L.values) W.sets W.moves R.rules B.store self.old) }
         requires next { (P.timeline self.old.paths).moments.next m (m + 1) ≡ true }
         requires open { self.old.complete ≡ false }
         ensures grows { Grows (state_of (reader P.timeline L.values) W.sets W.moves R.rules B.store self.old) (state_of (reader P.timeline L.values) W.sets W.moves R.rules B.store self.new) }
-        ensures drew { IfOk result (λ learnt. Drew (state_of (reader P.timeline L.values) W.sets W.moves R.rules B.store self.old) (state_of (reader P.timeline L.values) W.sets W.moves R.rules B.store self.new) learnt (IsCarriedIf (record { address = a; from = m; to = m + 1 }))) }
+        ensures inferred { IfOk result (λ learnt. HasInferred (state_of (reader P.timeline L.values) W.sets W.moves R.rules B.store self.old) (state_of (reader P.timeline L.values) W.sets W.moves R.rules B.store self.new) learnt (IsCarriedIf (record { address = a; from = m; to = m + 1 }))) }
         ensures halt { IfErr result (λ h. IsHalt (state_of (reader P.timeline L.values) W.sets W.moves R.rules B.store self.new) h) }
     {
         let end = self.end();
@@ -362,13 +374,13 @@ impl<'a, P: Reaches + Drop, L: LastValues + Drop, B: ByteFacts, W: Transfer, R: 
         self.carry_segment(a, m, m + 1)
     }
 
-    /// So from a number, if there is one.
-    fn carry_end(&mut self, a: u32, m: Option<u32>) -> Result<bool, Halt>
+    /// Carries the value of a byte from a number, if one is named, to the one after it, and back.
+    fn carry_end(&mut self, a: u32, m: Option<u32>) -> Result<bool, LearnError>
         requires writings { AreWritings (state_of (reader P.timeline L.values) W.sets W.moves R.rules B.store self.old) }
         requires next { (i : ℕ) → m ≡ Some i → (P.timeline self.old.paths).moments.next i (i + 1) ≡ true }
         requires open { self.old.complete ≡ false }
         ensures grows { Grows (state_of (reader P.timeline L.values) W.sets W.moves R.rules B.store self.old) (state_of (reader P.timeline L.values) W.sets W.moves R.rules B.store self.new) }
-        ensures drew { IfOk result (λ learnt. Drew (state_of (reader P.timeline L.values) W.sets W.moves R.rules B.store self.old) (state_of (reader P.timeline L.values) W.sets W.moves R.rules B.store self.new) learnt (λ s. (i : ℕ) → m ≡ Some i → IsCarriedIf (record { address = a; from = i; to = i + 1 }) s)) }
+        ensures inferred { IfOk result (λ learnt. HasInferred (state_of (reader P.timeline L.values) W.sets W.moves R.rules B.store self.old) (state_of (reader P.timeline L.values) W.sets W.moves R.rules B.store self.new) learnt (λ s. (i : ℕ) → m ≡ Some i → IsCarriedIf (record { address = a; from = i; to = i + 1 }) s)) }
         ensures halt { IfErr result (λ h. IsHalt (state_of (reader P.timeline L.values) W.sets W.moves R.rules B.store self.new) h) }
     {
         let Some(m) = m else {
@@ -377,15 +389,15 @@ impl<'a, P: Reaches + Drop, L: LastValues + Drop, B: ByteFacts, W: Transfer, R: 
         self.carry_step(a, m)
     }
 
-    /// The value of a byte from the last row before a number that may write it to the next one, in a strip in which no other may. Answers whether it was new, and how far it is
-    /// carried.
-    fn carry_beside(&mut self, a: u32, point: u32, strip: Strip) -> Result<(bool, u32), Halt>
+    /// The value of a byte from the last row before a number that may write it to the next one, in
+    /// a strip in which no other may. Answers whether it was new, and how far it is carried.
+    fn carry_beside(&mut self, a: u32, point: u32, strip: Strip) -> Result<(bool, u32), LearnError>
         requires strip { IsStrip (P.timeline self.old.paths) point strip }
         requires calm { IsCalm a strip (state_of (reader P.timeline L.values) W.sets W.moves R.rules B.store self.old) }
         requires writings { AreWritings (state_of (reader P.timeline L.values) W.sets W.moves R.rules B.store self.old) }
         requires open { self.old.complete ≡ false }
         ensures grows { Grows (state_of (reader P.timeline L.values) W.sets W.moves R.rules B.store self.old) (state_of (reader P.timeline L.values) W.sets W.moves R.rules B.store self.new) }
-        ensures drew { IfOk result (λ ended. Drew (state_of (reader P.timeline L.values) W.sets W.moves R.rules B.store self.old) (state_of (reader P.timeline L.values) W.sets W.moves R.rules B.store self.new) ended.0 (IsCarriedBeside a strip point ended.1)) }
+        ensures inferred { IfOk result (λ ended. HasInferred (state_of (reader P.timeline L.values) W.sets W.moves R.rules B.store self.old) (state_of (reader P.timeline L.values) W.sets W.moves R.rules B.store self.new) ended.0 (IsCarriedBeside a strip point ended.1)) }
         ensures halt { IfErr result (λ h. IsHalt (state_of (reader P.timeline L.values) W.sets W.moves R.rules B.store self.new) h) }
         ensures onward { IfOk result (λ ended. (point ≤ ended.1) × (ended.1 ≤ strip.last)) }
     {
@@ -396,15 +408,16 @@ impl<'a, P: Reaches + Drop, L: LastValues + Drop, B: ByteFacts, W: Transfer, R: 
         Ok((inside | before | after, piece.to))
     }
 
-    /// The value of a byte in a strip in which no row may write it but those of its own numbers: from each number at which its value begins or ends, and nowhere else, so that
-    /// a path on which many rows may write something takes no longer.
-    fn carry_calm(&mut self, a: u32, strip: Strip) -> Result<bool, Halt>
+    /// The value of a byte in a strip in which no row may write it but those of its own numbers:
+    /// from each number at which its value begins or ends, and nowhere else, so that a path on
+    /// which many rows may write something takes no longer.
+    fn carry_calm(&mut self, a: u32, strip: Strip) -> Result<bool, LearnError>
         requires strip { IsStrip (P.timeline self.old.paths) strip.first strip }
         requires calm { IsCalm a strip (state_of (reader P.timeline L.values) W.sets W.moves R.rules B.store self.old) }
         requires writings { AreWritings (state_of (reader P.timeline L.values) W.sets W.moves R.rules B.store self.old) }
         requires open { self.old.complete ≡ false }
         ensures grows { Grows (state_of (reader P.timeline L.values) W.sets W.moves R.rules B.store self.old) (state_of (reader P.timeline L.values) W.sets W.moves R.rules B.store self.new) }
-        ensures drew { IfOk result (λ learnt. Drew (state_of (reader P.timeline L.values) W.sets W.moves R.rules B.store self.old) (state_of (reader P.timeline L.values) W.sets W.moves R.rules B.store self.new) learnt (IsCarriedIn a strip)) }
+        ensures inferred { IfOk result (λ learnt. HasInferred (state_of (reader P.timeline L.values) W.sets W.moves R.rules B.store self.old) (state_of (reader P.timeline L.values) W.sets W.moves R.rules B.store self.new) learnt (IsCarriedIn a strip)) }
         ensures halt { IfErr result (λ h. IsHalt (state_of (reader P.timeline L.values) W.sets W.moves R.rules B.store self.new) h) }
     {
         let _end = self.end();
@@ -426,14 +439,15 @@ impl<'a, P: Reaches + Drop, L: LastValues + Drop, B: ByteFacts, W: Transfer, R: 
         Ok(learnt)
     }
 
-    /// The value of a byte from a number of a strip down, number by number, as long as it is new there. That this is done at once saves rounds: no clause rests on it.
-    fn carry_down(&mut self, a: u32, strip: Strip, number: u32) -> Result<bool, Halt>
+    /// The value of a byte from a number of a strip down, number by number, as long as it is new
+    /// there. That this is done at once saves rounds: no clause rests on it.
+    fn carry_down(&mut self, a: u32, strip: Strip, number: u32) -> Result<bool, LearnError>
         requires strip { IsStrip (P.timeline self.old.paths) strip.first strip }
         requires inside { number ≤ strip.last }
         requires writings { AreWritings (state_of (reader P.timeline L.values) W.sets W.moves R.rules B.store self.old) }
         requires open { self.old.complete ≡ false }
         ensures grows { Grows (state_of (reader P.timeline L.values) W.sets W.moves R.rules B.store self.old) (state_of (reader P.timeline L.values) W.sets W.moves R.rules B.store self.new) }
-        ensures drew { IfOk result (λ learnt. Drew (state_of (reader P.timeline L.values) W.sets W.moves R.rules B.store self.old) (state_of (reader P.timeline L.values) W.sets W.moves R.rules B.store self.new) learnt (λ _. ⊤)) }
+        ensures inferred { IfOk result (λ learnt. HasInferred (state_of (reader P.timeline L.values) W.sets W.moves R.rules B.store self.old) (state_of (reader P.timeline L.values) W.sets W.moves R.rules B.store self.new) learnt (λ _. ⊤)) }
         ensures halt { IfErr result (λ h. IsHalt (state_of (reader P.timeline L.values) W.sets W.moves R.rules B.store self.new) h) }
     {
         let mut learnt = false;
@@ -449,15 +463,16 @@ impl<'a, P: Reaches + Drop, L: LastValues + Drop, B: ByteFacts, W: Transfer, R: 
         Ok(learnt)
     }
 
-    /// The value of a byte between a number of a strip and the one after it; where it is new, down from there, too.
-    fn carry_border(&mut self, a: u32, strip: Strip, m: u32) -> Result<bool, Halt>
+    /// The value of a byte between a number of a strip and the one after it; where it is new, down
+    /// from there, too.
+    fn carry_border(&mut self, a: u32, strip: Strip, m: u32) -> Result<bool, LearnError>
         requires strip { IsStrip (P.timeline self.old.paths) strip.first strip }
         requires inside { m < strip.last }
         requires from { strip.first ≤ m }
         requires writings { AreWritings (state_of (reader P.timeline L.values) W.sets W.moves R.rules B.store self.old) }
         requires open { self.old.complete ≡ false }
         ensures grows { Grows (state_of (reader P.timeline L.values) W.sets W.moves R.rules B.store self.old) (state_of (reader P.timeline L.values) W.sets W.moves R.rules B.store self.new) }
-        ensures drew { IfOk result (λ learnt. Drew (state_of (reader P.timeline L.values) W.sets W.moves R.rules B.store self.old) (state_of (reader P.timeline L.values) W.sets W.moves R.rules B.store self.new) learnt (IsCarriedIf (record { address = a; from = m; to = m + 1 }))) }
+        ensures inferred { IfOk result (λ learnt. HasInferred (state_of (reader P.timeline L.values) W.sets W.moves R.rules B.store self.old) (state_of (reader P.timeline L.values) W.sets W.moves R.rules B.store self.new) learnt (IsCarriedIf (record { address = a; from = m; to = m + 1 }))) }
         ensures halt { IfErr result (λ h. IsHalt (state_of (reader P.timeline L.values) W.sets W.moves R.rules B.store self.new) h) }
     {
         let new = self.carry_step(a, m)?;
@@ -468,13 +483,14 @@ impl<'a, P: Reaches + Drop, L: LastValues + Drop, B: ByteFacts, W: Transfer, R: 
         Ok(new | down)
     }
 
-    /// So in any strip, number by number, from each at which its value ends or before which it begins.
-    fn carry_singly(&mut self, a: u32, strip: Strip) -> Result<bool, Halt>
+    /// Carries the value of a byte in any strip, number by number, from each number at which the
+    /// value ends or before which it begins.
+    fn carry_singly(&mut self, a: u32, strip: Strip) -> Result<bool, LearnError>
         requires strip { IsStrip (P.timeline self.old.paths) strip.first strip }
         requires writings { AreWritings (state_of (reader P.timeline L.values) W.sets W.moves R.rules B.store self.old) }
         requires open { self.old.complete ≡ false }
         ensures grows { Grows (state_of (reader P.timeline L.values) W.sets W.moves R.rules B.store self.old) (state_of (reader P.timeline L.values) W.sets W.moves R.rules B.store self.new) }
-        ensures drew { IfOk result (λ learnt. Drew (state_of (reader P.timeline L.values) W.sets W.moves R.rules B.store self.old) (state_of (reader P.timeline L.values) W.sets W.moves R.rules B.store self.new) learnt (IsCarriedIn a strip)) }
+        ensures inferred { IfOk result (λ learnt. HasInferred (state_of (reader P.timeline L.values) W.sets W.moves R.rules B.store self.old) (state_of (reader P.timeline L.values) W.sets W.moves R.rules B.store self.new) learnt (IsCarriedIn a strip)) }
         ensures halt { IfErr result (λ h. IsHalt (state_of (reader P.timeline L.values) W.sets W.moves R.rules B.store self.new) h) }
     {
         let _end = self.end();
@@ -496,12 +512,12 @@ impl<'a, P: Reaches + Drop, L: LastValues + Drop, B: ByteFacts, W: Transfer, R: 
     }
 
     /// The value of a byte in a strip.
-    pub(super) fn carry_strip(&mut self, a: u32, strip: Strip) -> Result<bool, Halt>
+    pub(super) fn carry_strip(&mut self, a: u32, strip: Strip) -> Result<bool, LearnError>
         requires strip { IsStrip (P.timeline self.old.paths) strip.first strip }
         requires writings { AreWritings (state_of (reader P.timeline L.values) W.sets W.moves R.rules B.store self.old) }
         requires open { self.old.complete ≡ false }
         ensures grows { Grows (state_of (reader P.timeline L.values) W.sets W.moves R.rules B.store self.old) (state_of (reader P.timeline L.values) W.sets W.moves R.rules B.store self.new) }
-        ensures drew { IfOk result (λ learnt. Drew (state_of (reader P.timeline L.values) W.sets W.moves R.rules B.store self.old) (state_of (reader P.timeline L.values) W.sets W.moves R.rules B.store self.new) learnt (IsCarriedIn a strip)) }
+        ensures inferred { IfOk result (λ learnt. HasInferred (state_of (reader P.timeline L.values) W.sets W.moves R.rules B.store self.old) (state_of (reader P.timeline L.values) W.sets W.moves R.rules B.store self.new) learnt (IsCarriedIn a strip)) }
         ensures halt { IfErr result (λ h. IsHalt (state_of (reader P.timeline L.values) W.sets W.moves R.rules B.store self.new) h) }
     {
         if self.even_to(a, strip.first) >= strip.last {
@@ -514,29 +530,31 @@ impl<'a, P: Reaches + Drop, L: LastValues + Drop, B: ByteFacts, W: Transfer, R: 
         }
     }
 
-    /// Tells the value of a byte at a number to which it is carried from one that isn't before or after it by one.
-    fn tell_across(&mut self, a: u32, to: u32, value: u8) -> Result<bool, Halt>
+    /// Tells the value of a byte at a number to which it is carried from one that isn't before or
+    /// after it by one.
+    fn tell_across(&mut self, a: u32, to: u32, value: u8) -> Result<bool, LearnError>
         requires to { to ≤ (P.timeline self.old.paths).moments.end }
         requires tracked { IsTracked a (state_of (reader P.timeline L.values) W.sets W.moves R.rules B.store self.old) }
         requires brought { IsBrought (state_of (reader P.timeline L.values) W.sets W.moves R.rules B.store self.old) (fact_of to (Byte a) value) }
         requires room { IsLined (P.timeline self.old.paths) → ⊥ }
         requires open { self.old.complete ≡ false }
         ensures grows { Grows (state_of (reader P.timeline L.values) W.sets W.moves R.rules B.store self.old) (state_of (reader P.timeline L.values) W.sets W.moves R.rules B.store self.new) }
-        ensures drew { IfOk result (λ learnt. Drew (state_of (reader P.timeline L.values) W.sets W.moves R.rules B.store self.old) (state_of (reader P.timeline L.values) W.sets W.moves R.rules B.store self.new) learnt (Knows to (Byte a) value)) }
+        ensures inferred { IfOk result (λ learnt. HasInferred (state_of (reader P.timeline L.values) W.sets W.moves R.rules B.store self.old) (state_of (reader P.timeline L.values) W.sets W.moves R.rules B.store self.new) learnt (Knows to (Byte a) value)) }
         ensures halt { IfErr result (λ h. IsHalt (state_of (reader P.timeline L.values) W.sets W.moves R.rules B.store self.new) h) }
     {
         self.learn_byte(to, a, value, false)
     }
 
-    /// Tells the value of a byte at a number that is known at one that is next to it, over which it is carried, if it is known there.
-    fn tell_back(&mut self, a: u32, m: u32, w: u32) -> Result<bool, Halt>
+    /// Tells the value of a byte at a number that is known at one that is next to it, over which it
+    /// is carried, if it is known there.
+    fn tell_back(&mut self, a: u32, m: u32, w: u32) -> Result<bool, LearnError>
         requires tracked { IsTracked a (state_of (reader P.timeline L.values) W.sets W.moves R.rules B.store self.old) }
         requires bridged { IsBridged (record { address = a; from = m; to = w }) (state_of (reader P.timeline L.values) W.sets W.moves R.rules B.store self.old) }
         requires unknown { (B.store self.old.known.bytes).fact m a ≡ None }
         requires room { IsLined (P.timeline self.old.paths) → ⊥ }
         requires open { self.old.complete ≡ false }
         ensures grows { Grows (state_of (reader P.timeline L.values) W.sets W.moves R.rules B.store self.old) (state_of (reader P.timeline L.values) W.sets W.moves R.rules B.store self.new) }
-        ensures drew { IfOk result (λ learnt. Drew (state_of (reader P.timeline L.values) W.sets W.moves R.rules B.store self.old) (state_of (reader P.timeline L.values) W.sets W.moves R.rules B.store self.new) learnt (IsCarriedIf (record { address = a; from = m; to = w }))) }
+        ensures inferred { IfOk result (λ learnt. HasInferred (state_of (reader P.timeline L.values) W.sets W.moves R.rules B.store self.old) (state_of (reader P.timeline L.values) W.sets W.moves R.rules B.store self.new) learnt (IsCarriedIf (record { address = a; from = m; to = w }))) }
         ensures halt { IfErr result (λ h. IsHalt (state_of (reader P.timeline L.values) W.sets W.moves R.rules B.store self.new) h) }
     {
         self.held();
@@ -546,14 +564,15 @@ impl<'a, P: Reaches + Drop, L: LastValues + Drop, B: ByteFacts, W: Transfer, R: 
         self.tell_across(a, m, value)
     }
 
-    /// So at either of them.
-    fn tell_either(&mut self, a: u32, m: u32, w: u32) -> Result<bool, Halt>
+    /// Tells the value of a byte at one of two numbers that are next to each other, if it is known
+    /// at the other and carried between them.
+    fn tell_either(&mut self, a: u32, m: u32, w: u32) -> Result<bool, LearnError>
         requires tracked { IsTracked a (state_of (reader P.timeline L.values) W.sets W.moves R.rules B.store self.old) }
         requires bridged { IsBridged (record { address = a; from = m; to = w }) (state_of (reader P.timeline L.values) W.sets W.moves R.rules B.store self.old) }
         requires room { IsLined (P.timeline self.old.paths) → ⊥ }
         requires open { self.old.complete ≡ false }
         ensures grows { Grows (state_of (reader P.timeline L.values) W.sets W.moves R.rules B.store self.old) (state_of (reader P.timeline L.values) W.sets W.moves R.rules B.store self.new) }
-        ensures drew { IfOk result (λ learnt. Drew (state_of (reader P.timeline L.values) W.sets W.moves R.rules B.store self.old) (state_of (reader P.timeline L.values) W.sets W.moves R.rules B.store self.new) learnt (IsCarriedIf (record { address = a; from = m; to = w }))) }
+        ensures inferred { IfOk result (λ learnt. HasInferred (state_of (reader P.timeline L.values) W.sets W.moves R.rules B.store self.old) (state_of (reader P.timeline L.values) W.sets W.moves R.rules B.store self.new) learnt (IsCarriedIf (record { address = a; from = m; to = w }))) }
         ensures halt { IfErr result (λ h. IsHalt (state_of (reader P.timeline L.values) W.sets W.moves R.rules B.store self.new) h) }
     {
         self.held();
@@ -564,12 +583,12 @@ impl<'a, P: Reaches + Drop, L: LastValues + Drop, B: ByteFacts, W: Transfer, R: 
     }
 
     /// The value of a byte from a number to one that is next to it, and back, where it is carried.
-    fn cross(&mut self, a: u32, m: u32, w: u32) -> Result<bool, Halt>
+    fn cross(&mut self, a: u32, m: u32, w: u32) -> Result<bool, LearnError>
         requires tracked { IsTracked a (state_of (reader P.timeline L.values) W.sets W.moves R.rules B.store self.old) }
         requires bridged { IsBridged (record { address = a; from = m; to = w }) (state_of (reader P.timeline L.values) W.sets W.moves R.rules B.store self.old) }
         requires open { self.old.complete ≡ false }
         ensures grows { Grows (state_of (reader P.timeline L.values) W.sets W.moves R.rules B.store self.old) (state_of (reader P.timeline L.values) W.sets W.moves R.rules B.store self.new) }
-        ensures drew { IfOk result (λ learnt. Drew (state_of (reader P.timeline L.values) W.sets W.moves R.rules B.store self.old) (state_of (reader P.timeline L.values) W.sets W.moves R.rules B.store self.new) learnt (IsCarriedIf (record { address = a; from = m; to = w }))) }
+        ensures inferred { IfOk result (λ learnt. HasInferred (state_of (reader P.timeline L.values) W.sets W.moves R.rules B.store self.old) (state_of (reader P.timeline L.values) W.sets W.moves R.rules B.store self.new) learnt (IsCarriedIf (record { address = a; from = m; to = w }))) }
         ensures halt { IfErr result (λ h. IsHalt (state_of (reader P.timeline L.values) W.sets W.moves R.rules B.store self.new) h) }
     {
         if is_after(m, w) {
@@ -579,16 +598,22 @@ impl<'a, P: Reaches + Drop, L: LastValues + Drop, B: ByteFacts, W: Transfer, R: 
     }
 
     /// The value of a byte from a number to one that is next to it, and back, if it is carried.
-    fn carry_link(&mut self, a: u32, m: u32, w: u32, blocker: Option<usize>) -> Result<Link, Halt>
+    fn carry_link(
+        &mut self,
+        a: u32,
+        m: u32,
+        w: u32,
+        blocker: Option<usize>,
+    ) -> Result<Link, LearnError>
         requires tracked { IsTracked a (state_of (reader P.timeline L.values) W.sets W.moves R.rules B.store self.old) }
         requires next { (P.timeline self.old.paths).moments.next m w ≡ true }
         requires writings { AreWritings (state_of (reader P.timeline L.values) W.sets W.moves R.rules B.store self.old) }
         requires open { self.old.complete ≡ false }
         ensures grows { Grows (state_of (reader P.timeline L.values) W.sets W.moves R.rules B.store self.old) (state_of (reader P.timeline L.values) W.sets W.moves R.rules B.store self.new) }
-        ensures drew { IfOk result (λ link. Drew (state_of (reader P.timeline L.values) W.sets W.moves R.rules B.store self.old) (state_of (reader P.timeline L.values) W.sets W.moves R.rules B.store self.new) link.has_news (IsCarriedIf (record { address = a; from = m; to = w }))) }
+        ensures inferred { IfOk result (λ link. HasInferred (state_of (reader P.timeline L.values) W.sets W.moves R.rules B.store self.old) (state_of (reader P.timeline L.values) W.sets W.moves R.rules B.store self.new) link.has_news (IsCarriedIf (record { address = a; from = m; to = w }))) }
         ensures halt { IfErr result (λ h. IsHalt (state_of (reader P.timeline L.values) W.sets W.moves R.rules B.store self.new) h) }
     {
-        if self.is_dark_between(m, w) {
+        if self.is_untraced_between(m, w) {
             return Ok(unchanged(blocker));
         }
         let found = self.blocker(a, m, w);
@@ -613,7 +638,8 @@ impl<'a, P: Reaches + Drop, L: LastValues + Drop, B: ByteFacts, W: Transfer, R: 
         }
     }
 
-    /// A number from one on that is next to another one, before which from there on the byte goes nowhere: the same is known as at that one, or it isn't carried.
+    /// A number from one on that is next to another one, before which from there on the byte goes
+    /// nowhere: the same is known as at that one, or it isn't carried.
     fn idle_from(&self, a: u32, m: u32, w: u32, here: Option<u8>, row: Option<u32>) -> u32
         requires inside { w ≤ (P.timeline self.now.paths).moments.end }
         requires writings { AreWritings (state_of (reader P.timeline L.values) W.sets W.moves R.rules B.store self.now) }
@@ -631,7 +657,8 @@ impl<'a, P: Reaches + Drop, L: LastValues + Drop, B: ByteFacts, W: Transfer, R: 
         if self.is_shut(a, m, w, row) { w + 1 } else { w }
     }
 
-    /// A number from one on, before which from there on a byte goes to none that is next to another number: by what is known, and a row of the list, if one is named.
+    /// A number from one on, before which from there on a byte goes to none that is next to another
+    /// number: by what is known, and a row of the list, if one is named.
     fn idle_to(&self, a: u32, m: u32, least: u32, index: Option<usize>) -> u32
         requires inside { m ≤ (P.timeline self.now.paths).moments.end }
         requires writings { AreWritings (state_of (reader P.timeline L.values) W.sets W.moves R.rules B.store self.now) }
@@ -654,21 +681,22 @@ impl<'a, P: Reaches + Drop, L: LastValues + Drop, B: ByteFacts, W: Transfer, R: 
         from
     }
 
-    /// The value of a byte from a number to one that is next to it, and back, if it is carried. Answers a number up to which, from the next one on, there is none to which it would go.
+    /// The value of a byte from a number to one that is next to it, and back, if it is carried.
+    /// Answers a number up to which, from the next one on, there is none to which it would go.
     pub(super) fn carry_next(
         &mut self,
         a: u32,
         m: u32,
         next: u32,
         blocker: Option<usize>,
-    ) -> Result<(Link, u32), Halt>
+    ) -> Result<(Link, u32), LearnError>
         requires inside { m ≤ (P.timeline self.old.paths).moments.end }
         requires tracked { IsTracked a (state_of (reader P.timeline L.values) W.sets W.moves R.rules B.store self.old) }
         requires next { (P.timeline self.old.paths).moments.next m next ≡ true }
         requires writings { AreWritings (state_of (reader P.timeline L.values) W.sets W.moves R.rules B.store self.old) }
         requires open { self.old.complete ≡ false }
         ensures grows { Grows (state_of (reader P.timeline L.values) W.sets W.moves R.rules B.store self.old) (state_of (reader P.timeline L.values) W.sets W.moves R.rules B.store self.new) }
-        ensures drew { IfOk result (λ done. Drew (state_of (reader P.timeline L.values) W.sets W.moves R.rules B.store self.old) (state_of (reader P.timeline L.values) W.sets W.moves R.rules B.store self.new) done.0.has_news (λ s. (w : ℕ) → next ≤ w → w < done.1 → IsCarriedIf (record { address = a; from = m; to = w }) s)) }
+        ensures inferred { IfOk result (λ done. HasInferred (state_of (reader P.timeline L.values) W.sets W.moves R.rules B.store self.old) (state_of (reader P.timeline L.values) W.sets W.moves R.rules B.store self.new) done.0.has_news (λ s. (w : ℕ) → next ≤ w → w < done.1 → IsCarriedIf (record { address = a; from = m; to = w }) s)) }
         ensures onward { IfOk result (λ done. next < done.1) }
         ensures halt { IfErr result (λ h. IsHalt (state_of (reader P.timeline L.values) W.sets W.moves R.rules B.store self.new) h) }
     {
@@ -684,15 +712,16 @@ impl<'a, P: Reaches + Drop, L: LastValues + Drop, B: ByteFacts, W: Transfer, R: 
         Ok((link, next + 1))
     }
 
-    /// The value of a byte from a number to all that are next to it, and back. Where a row of
-    /// the list, one at which a byte stopped before or one that is found, falls between it and all of them, these are gone over no further.
-    pub(super) fn carry_links(&mut self, a: u32, m: u32) -> Result<bool, Halt>
+    /// The value of a byte from a number to all that are next to it, and back. Where a row of the
+    /// list, one at which a byte stopped before or one that is found, may act between it and all of
+    /// them, these are gone over no further.
+    pub(super) fn carry_links(&mut self, a: u32, m: u32) -> Result<bool, LearnError>
         requires inside { m ≤ (P.timeline self.old.paths).moments.end }
         requires tracked { IsTracked a (state_of (reader P.timeline L.values) W.sets W.moves R.rules B.store self.old) }
         requires writings { AreWritings (state_of (reader P.timeline L.values) W.sets W.moves R.rules B.store self.old) }
         requires open { self.old.complete ≡ false }
         ensures grows { Grows (state_of (reader P.timeline L.values) W.sets W.moves R.rules B.store self.old) (state_of (reader P.timeline L.values) W.sets W.moves R.rules B.store self.new) }
-        ensures drew { IfOk result (λ has_news. Drew (state_of (reader P.timeline L.values) W.sets W.moves R.rules B.store self.old) (state_of (reader P.timeline L.values) W.sets W.moves R.rules B.store self.new) has_news (AreLinks a m)) }
+        ensures inferred { IfOk result (λ has_news. HasInferred (state_of (reader P.timeline L.values) W.sets W.moves R.rules B.store self.old) (state_of (reader P.timeline L.values) W.sets W.moves R.rules B.store self.new) has_news (AreLinks a m)) }
         ensures halt { IfErr result (λ h. IsHalt (state_of (reader P.timeline L.values) W.sets W.moves R.rules B.store self.new) h) }
     {
         let end = self.end();

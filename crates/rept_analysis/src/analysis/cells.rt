@@ -26,8 +26,8 @@ impl<'a, P: Reaches + Drop, L: LastValues + Drop, B: ByteFacts, W: Transfer, R: 
     W,
     R,
 > {
-    /// The value of the register in the place of rs1 before row i, from which on its rules look at bytes; none where there is no such
-    /// register, or its value isn't known.
+    /// The value of the register in the place of rs1 before row i, from which on its rules look at
+    /// bytes; none where there is no such register, or its value isn't known.
     pub(super) fn row_base(&self, i: u32, row: &StepRow) -> Option<u32>
         requires { i < (P.timeline self.now.paths).legs.count }
         ensures { result ≡ base_known (first_read row.now.instr) (around (P.timeline self.now.paths).moments (known_of B.store self.now.known) i) }
@@ -82,7 +82,8 @@ impl<'a, P: Reaches + Drop, L: LastValues + Drop, B: ByteFacts, W: Transfer, R: 
         self.byte_at_point(before, a) + self.byte_at_point(after, a)
     }
 
-    /// So for up to four bytes from an address on.
+    /// At how many of the two moments around row i up to four bytes from an address on are known,
+    /// in all.
     fn byte_cells_from(&self, i: u32, start: u32, count: u32) -> u32
         requires row { IsSome ((P.timeline self.now.paths).legs.row i) }
         requires four { count ≤ 4 }
@@ -96,7 +97,8 @@ impl<'a, P: Reaches + Drop, L: LastValues + Drop, B: ByteFacts, W: Transfer, R: 
         sum
     }
 
-    /// So for the bytes that row i's rules look at.
+    /// At how many of the two moments around row i the bytes that its rules look at are known, in
+    /// all.
     fn row_byte_cells(&self, i: u32, row: &StepRow) -> u32
         requires inside { i < (P.timeline self.now.paths).legs.count }
         requires row { IsSome ((P.timeline self.now.paths).legs.row i) }

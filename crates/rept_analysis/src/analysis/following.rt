@@ -1,17 +1,18 @@
-//! The bytes of a word go together: where something new is told of the first, the same step is taken with the others.
+//! The bytes of a word go together: where something new is told of the first, the same step is
+//! taken with the others.
 
 ghost use Rattle.std.specs.Prelude.{◌≡◌, ◌<◌, ◌≤◌, false, IfOk, IfErr, ⊤};
 ghost use Rattle.rept_report.specs.Timeline.{IsStrip};
 ghost use Rattle.rept_analysis.specs.State.{state_of, reader};
-ghost use Rattle.rept_analysis.specs.Drawing.{IsTracked, Grows, Drew, IsHalt, AreWritings};
+ghost use Rattle.rept_analysis.specs.Inferring.{IsTracked, Grows, HasInferred, IsHalt, AreWritings};
 ghost use Rattle.rept_analysis.specs.Steps.{IsStepWithin};
 
 use super::Analysis;
 use super::likeness::WORD;
-use crate::halt::Halt;
-use crate::step::Step;
+use crate::halt::LearnError;
+use crate::step::WordStep;
 use rept_log::LastValues;
-use rept_reach::{Reaches, Window};
+use rept_reach::{NumberWindow, Reaches};
 use rept_report::paths::Strip;
 use rept_span::Transfer;
 use rept_versions::ByteFacts;
@@ -25,14 +26,15 @@ impl<'a, P: Reaches + Drop, L: LastValues + Drop, B: ByteFacts, W: Transfer, R: 
     W,
     R,
 > {
-    /// The value of a byte in the strip around a number, up from it, and on to the numbers next to its last one.
-    fn carry_at(&mut self, a: u32, number: u32) -> Result<bool, Halt>
+    /// The value of a byte in the strip around a number, up from it, and on to the numbers next to
+    /// its last one.
+    fn carry_at(&mut self, a: u32, number: u32) -> Result<bool, LearnError>
         requires inside { number ≤ (P.timeline self.old.paths).moments.end }
         requires tracked { IsTracked a (state_of (reader P.timeline L.values) W.sets W.moves R.rules B.store self.old) }
         requires writings { AreWritings (state_of (reader P.timeline L.values) W.sets W.moves R.rules B.store self.old) }
         requires open { self.old.complete ≡ false }
         ensures grows { Grows (state_of (reader P.timeline L.values) W.sets W.moves R.rules B.store self.old) (state_of (reader P.timeline L.values) W.sets W.moves R.rules B.store self.new) }
-        ensures drew { IfOk result (λ learnt. Drew (state_of (reader P.timeline L.values) W.sets W.moves R.rules B.store self.old) (state_of (reader P.timeline L.values) W.sets W.moves R.rules B.store self.new) learnt (λ _. ⊤)) }
+        ensures inferred { IfOk result (λ learnt. HasInferred (state_of (reader P.timeline L.values) W.sets W.moves R.rules B.store self.old) (state_of (reader P.timeline L.values) W.sets W.moves R.rules B.store self.new) learnt (λ _. ⊤)) }
         ensures halt { IfErr result (λ h. IsHalt (state_of (reader P.timeline L.values) W.sets W.moves R.rules B.store self.new) h) }
     {
         let strip = self.strip(number);
@@ -43,39 +45,39 @@ impl<'a, P: Reaches + Drop, L: LastValues + Drop, B: ByteFacts, W: Transfer, R: 
     }
 
     /// A step with a byte that is known anywhere.
-    fn take_step(&mut self, a: u32, step: Step) -> Result<bool, Halt>
+    fn take_step(&mut self, a: u32, step: WordStep) -> Result<bool, LearnError>
         requires within { IsStepWithin (P.timeline self.old.paths).moments.end step }
         requires tracked { IsTracked a (state_of (reader P.timeline L.values) W.sets W.moves R.rules B.store self.old) }
         requires writings { AreWritings (state_of (reader P.timeline L.values) W.sets W.moves R.rules B.store self.old) }
         requires open { self.old.complete ≡ false }
         ensures grows { Grows (state_of (reader P.timeline L.values) W.sets W.moves R.rules B.store self.old) (state_of (reader P.timeline L.values) W.sets W.moves R.rules B.store self.new) }
-        ensures drew { IfOk result (λ learnt. Drew (state_of (reader P.timeline L.values) W.sets W.moves R.rules B.store self.old) (state_of (reader P.timeline L.values) W.sets W.moves R.rules B.store self.new) learnt (λ _. ⊤)) }
+        ensures inferred { IfOk result (λ learnt. HasInferred (state_of (reader P.timeline L.values) W.sets W.moves R.rules B.store self.old) (state_of (reader P.timeline L.values) W.sets W.moves R.rules B.store self.new) learnt (λ _. ⊤)) }
         ensures halt { IfErr result (λ h. IsHalt (state_of (reader P.timeline L.values) W.sets W.moves R.rules B.store self.new) h) }
     {
         match step {
-            Step::Down { number } => {
+            WordStep::Down { number } => {
                 let down = self.leap_down(a, number)?;
                 Ok(down.0)
             }
-            Step::Former { first, known } => {
+            WordStep::Former { first, known } => {
                 let former = self.carry_former(a, first, known)?;
                 Ok(former.0)
             }
-            Step::Later { first } => {
+            WordStep::Later { first } => {
                 let later = self.carry_later(a, first)?;
                 Ok(later.0)
             }
-            Step::Onward { number } => self.carry_at(a, number),
+            WordStep::Onward { number } => self.carry_at(a, number),
         }
     }
 
-    /// So with one of which something may be known.
-    fn follow_with(&mut self, a: u32, step: Step) -> Result<bool, Halt>
+    /// Takes the step with a byte of which something may be known.
+    fn follow_with(&mut self, a: u32, step: WordStep) -> Result<bool, LearnError>
         requires within { IsStepWithin (P.timeline self.old.paths).moments.end step }
         requires writings { AreWritings (state_of (reader P.timeline L.values) W.sets W.moves R.rules B.store self.old) }
         requires open { self.old.complete ≡ false }
         ensures grows { Grows (state_of (reader P.timeline L.values) W.sets W.moves R.rules B.store self.old) (state_of (reader P.timeline L.values) W.sets W.moves R.rules B.store self.new) }
-        ensures drew { IfOk result (λ learnt. Drew (state_of (reader P.timeline L.values) W.sets W.moves R.rules B.store self.old) (state_of (reader P.timeline L.values) W.sets W.moves R.rules B.store self.new) learnt (λ _. ⊤)) }
+        ensures inferred { IfOk result (λ learnt. HasInferred (state_of (reader P.timeline L.values) W.sets W.moves R.rules B.store self.old) (state_of (reader P.timeline L.values) W.sets W.moves R.rules B.store self.new) learnt (λ _. ⊤)) }
         ensures halt { IfErr result (λ h. IsHalt (state_of (reader P.timeline L.values) W.sets W.moves R.rules B.store self.new) h) }
     {
         if !self.has_value(a) {
@@ -84,13 +86,15 @@ impl<'a, P: Reaches + Drop, L: LastValues + Drop, B: ByteFacts, W: Transfer, R: 
         self.take_step(a, step)
     }
 
-    /// So with the others of its word, after it told something new of the first one; nothing after another byte. That this is done at once saves that these are gone over, too: no clause rests on it.
-    fn follow(&mut self, a: u32, step: Step) -> Result<bool, Halt>
+    /// Takes the step with the other bytes of a word, after it told something new of the word's
+    /// first byte. After another byte it does nothing. That this is done at once saves that these
+    /// are gone over, too: no clause rests on it.
+    fn follow(&mut self, a: u32, step: WordStep) -> Result<bool, LearnError>
         requires within { IsStepWithin (P.timeline self.old.paths).moments.end step }
         requires writings { AreWritings (state_of (reader P.timeline L.values) W.sets W.moves R.rules B.store self.old) }
         requires open { self.old.complete ≡ false }
         ensures grows { Grows (state_of (reader P.timeline L.values) W.sets W.moves R.rules B.store self.old) (state_of (reader P.timeline L.values) W.sets W.moves R.rules B.store self.new) }
-        ensures drew { IfOk result (λ learnt. Drew (state_of (reader P.timeline L.values) W.sets W.moves R.rules B.store self.old) (state_of (reader P.timeline L.values) W.sets W.moves R.rules B.store self.new) learnt (λ _. ⊤)) }
+        ensures inferred { IfOk result (λ learnt. HasInferred (state_of (reader P.timeline L.values) W.sets W.moves R.rules B.store self.old) (state_of (reader P.timeline L.values) W.sets W.moves R.rules B.store self.new) learnt (λ _. ⊤)) }
         ensures halt { IfErr result (λ h. IsHalt (state_of (reader P.timeline L.values) W.sets W.moves R.rules B.store self.new) h) }
     {
         if a % WORD != 0 {
@@ -104,13 +108,18 @@ impl<'a, P: Reaches + Drop, L: LastValues + Drop, B: ByteFacts, W: Transfer, R: 
         Ok(learnt)
     }
 
-    /// So, where there are news of the first one.
-    pub(super) fn follow_if(&mut self, has_news: bool, a: u32, step: Step) -> Result<bool, Halt>
+    /// Takes the step with the other bytes of a word, where there are news of the first one.
+    pub(super) fn follow_if(
+        &mut self,
+        has_news: bool,
+        a: u32,
+        step: WordStep,
+    ) -> Result<bool, LearnError>
         requires within { IsStepWithin (P.timeline self.old.paths).moments.end step }
         requires writings { AreWritings (state_of (reader P.timeline L.values) W.sets W.moves R.rules B.store self.old) }
         requires open { self.old.complete ≡ false }
         ensures grows { Grows (state_of (reader P.timeline L.values) W.sets W.moves R.rules B.store self.old) (state_of (reader P.timeline L.values) W.sets W.moves R.rules B.store self.new) }
-        ensures drew { IfOk result (λ learnt. Drew (state_of (reader P.timeline L.values) W.sets W.moves R.rules B.store self.old) (state_of (reader P.timeline L.values) W.sets W.moves R.rules B.store self.new) learnt (λ _. ⊤)) }
+        ensures inferred { IfOk result (λ learnt. HasInferred (state_of (reader P.timeline L.values) W.sets W.moves R.rules B.store self.old) (state_of (reader P.timeline L.values) W.sets W.moves R.rules B.store self.new) learnt (λ _. ⊤)) }
         ensures halt { IfErr result (λ h. IsHalt (state_of (reader P.timeline L.values) W.sets W.moves R.rules B.store self.new) h) }
     {
         if !has_news {
@@ -119,88 +128,93 @@ impl<'a, P: Reaches + Drop, L: LastValues + Drop, B: ByteFacts, W: Transfer, R: 
         self.follow(a, step)
     }
 
-    /// The value of a byte around a number, down as far as it goes at once; and so with the others of its word, where it was new. Answers whether it was, and the first number of it.
-    pub(super) fn down_together(&mut self, a: u32, number: u32) -> Result<(bool, u32), Halt>
+    /// The value of a byte around a number, down as far as it goes at once; and so with the others
+    /// of its word, where it was new. Answers whether it was, and the first number of it.
+    pub(super) fn down_together(&mut self, a: u32, number: u32) -> Result<(bool, u32), LearnError>
         requires inside { number ≤ (P.timeline self.old.paths).moments.end }
         requires writings { AreWritings (state_of (reader P.timeline L.values) W.sets W.moves R.rules B.store self.old) }
         requires open { self.old.complete ≡ false }
         ensures grows { Grows (state_of (reader P.timeline L.values) W.sets W.moves R.rules B.store self.old) (state_of (reader P.timeline L.values) W.sets W.moves R.rules B.store self.new) }
-        ensures drew { IfOk result (λ ended. Drew (state_of (reader P.timeline L.values) W.sets W.moves R.rules B.store self.old) (state_of (reader P.timeline L.values) W.sets W.moves R.rules B.store self.new) ended.0 (λ _. ⊤)) }
+        ensures inferred { IfOk result (λ ended. HasInferred (state_of (reader P.timeline L.values) W.sets W.moves R.rules B.store self.old) (state_of (reader P.timeline L.values) W.sets W.moves R.rules B.store self.new) ended.0 (λ _. ⊤)) }
         ensures halt { IfErr result (λ h. IsHalt (state_of (reader P.timeline L.values) W.sets W.moves R.rules B.store self.new) h) }
         ensures down { IfOk result (λ ended. ended.1 ≤ number) }
     {
         let down = self.leap_down(a, number)?;
-        let others = self.follow_if(down.0, a, Step::Down { number })?;
+        let others = self.follow_if(down.0, a, WordStep::Down { number })?;
         Ok((down.0 | others, down.1))
     }
 
-    /// The value of a byte to the end of the strip before a number from those of a window that are next to it, and down from there, where it isn't known there; and so with the others of its word, where it was
-    /// new. Answers whether it was, and a number up to which it was looked for.
+    /// The value of a byte to the end of the strip before a number from those of a window that are
+    /// next to it, and down from there, where it isn't known there; and so with the others of its
+    /// word, where it was new. Answers whether it was, and a number up to which it was looked for.
     pub(super) fn former_together(
         &mut self,
         a: u32,
         first: u32,
-        known: Window,
-    ) -> Result<(bool, u32), Halt>
+        known: NumberWindow,
+    ) -> Result<(bool, u32), LearnError>
         requires some { 0 < first }
         requires inside { first ≤ (P.timeline self.old.paths).moments.end }
         requires tracked { IsTracked a (state_of (reader P.timeline L.values) W.sets W.moves R.rules B.store self.old) }
         requires writings { AreWritings (state_of (reader P.timeline L.values) W.sets W.moves R.rules B.store self.old) }
         requires open { self.old.complete ≡ false }
         ensures grows { Grows (state_of (reader P.timeline L.values) W.sets W.moves R.rules B.store self.old) (state_of (reader P.timeline L.values) W.sets W.moves R.rules B.store self.new) }
-        ensures drew { IfOk result (λ ended. Drew (state_of (reader P.timeline L.values) W.sets W.moves R.rules B.store self.old) (state_of (reader P.timeline L.values) W.sets W.moves R.rules B.store self.new) ended.0 (λ _. ⊤)) }
+        ensures inferred { IfOk result (λ ended. HasInferred (state_of (reader P.timeline L.values) W.sets W.moves R.rules B.store self.old) (state_of (reader P.timeline L.values) W.sets W.moves R.rules B.store self.new) ended.0 (λ _. ⊤)) }
         ensures halt { IfErr result (λ h. IsHalt (state_of (reader P.timeline L.values) W.sets W.moves R.rules B.store self.new) h) }
         ensures down { IfOk result (λ ended. ended.1 < first) }
     {
         let former = self.carry_former(a, first, known)?;
-        let others = self.follow_if(former.0, a, Step::Former { first, known })?;
+        let others = self.follow_if(former.0, a, WordStep::Former { first, known })?;
         Ok((former.0 | others, former.1))
     }
 
-    /// The value of a byte in the strip around a number, up from it, and on to the numbers next to it, where it is known there; and so with the others of its word, where it was new. Answers whether it was,
-    /// and its last number.
-    pub(super) fn later_together(&mut self, a: u32, first: u32) -> Result<(bool, u32), Halt>
+    /// The value of a byte in the strip around a number, up from it, and on to the numbers next to
+    /// it, where it is known there; and so with the others of its word, where it was new. Answers
+    /// whether it was, and its last number.
+    pub(super) fn later_together(&mut self, a: u32, first: u32) -> Result<(bool, u32), LearnError>
         requires inside { first ≤ (P.timeline self.old.paths).moments.end }
         requires tracked { IsTracked a (state_of (reader P.timeline L.values) W.sets W.moves R.rules B.store self.old) }
         requires writings { AreWritings (state_of (reader P.timeline L.values) W.sets W.moves R.rules B.store self.old) }
         requires open { self.old.complete ≡ false }
         ensures grows { Grows (state_of (reader P.timeline L.values) W.sets W.moves R.rules B.store self.old) (state_of (reader P.timeline L.values) W.sets W.moves R.rules B.store self.new) }
-        ensures drew { IfOk result (λ ended. Drew (state_of (reader P.timeline L.values) W.sets W.moves R.rules B.store self.old) (state_of (reader P.timeline L.values) W.sets W.moves R.rules B.store self.new) ended.0 (λ _. ⊤)) }
+        ensures inferred { IfOk result (λ ended. HasInferred (state_of (reader P.timeline L.values) W.sets W.moves R.rules B.store self.old) (state_of (reader P.timeline L.values) W.sets W.moves R.rules B.store self.new) ended.0 (λ _. ⊤)) }
         ensures halt { IfErr result (λ h. IsHalt (state_of (reader P.timeline L.values) W.sets W.moves R.rules B.store self.new) h) }
         ensures up { IfOk result (λ ended. (first ≤ ended.1) × (ended.1 ≤ (P.timeline self.old.paths).moments.end)) }
     {
         let later = self.carry_later(a, first)?;
-        let others = self.follow_if(later.0, a, Step::Later { first })?;
+        let others = self.follow_if(later.0, a, WordStep::Later { first })?;
         Ok((later.0 | others, later.1))
     }
 
-    /// The value of a byte from a number to those that are next to it, where it is known there; and where it was new, the others of its word in the strip around the number, and on from it.
-    pub(super) fn links_together(&mut self, a: u32, number: u32) -> Result<bool, Halt>
+    /// The value of a byte from a number to those that are next to it, where it is known there; and
+    /// where it was new, the others of its word in the strip around the number, and on from it.
+    pub(super) fn links_together(&mut self, a: u32, number: u32) -> Result<bool, LearnError>
         requires inside { number ≤ (P.timeline self.old.paths).moments.end }
         requires tracked { IsTracked a (state_of (reader P.timeline L.values) W.sets W.moves R.rules B.store self.old) }
         requires writings { AreWritings (state_of (reader P.timeline L.values) W.sets W.moves R.rules B.store self.old) }
         requires open { self.old.complete ≡ false }
         ensures grows { Grows (state_of (reader P.timeline L.values) W.sets W.moves R.rules B.store self.old) (state_of (reader P.timeline L.values) W.sets W.moves R.rules B.store self.new) }
-        ensures drew { IfOk result (λ learnt. Drew (state_of (reader P.timeline L.values) W.sets W.moves R.rules B.store self.old) (state_of (reader P.timeline L.values) W.sets W.moves R.rules B.store self.new) learnt (λ _. ⊤)) }
+        ensures inferred { IfOk result (λ learnt. HasInferred (state_of (reader P.timeline L.values) W.sets W.moves R.rules B.store self.old) (state_of (reader P.timeline L.values) W.sets W.moves R.rules B.store self.new) learnt (λ _. ⊤)) }
         ensures halt { IfErr result (λ h. IsHalt (state_of (reader P.timeline L.values) W.sets W.moves R.rules B.store self.new) h) }
     {
         let links = self.carry_links_on(a, number)?;
-        let others = self.follow_if(links, a, Step::Onward { number })?;
+        let others = self.follow_if(links, a, WordStep::Onward { number })?;
         Ok(links | others)
     }
 
-    /// The value of a byte in a strip; and where it was new, the others of its word in it, and on from it.
-    pub(super) fn strip_together(&mut self, a: u32, strip: Strip) -> Result<bool, Halt>
+    /// The value of a byte in a strip; and where it was new, the others of its word in it, and on
+    /// from it.
+    pub(super) fn strip_together(&mut self, a: u32, strip: Strip) -> Result<bool, LearnError>
         requires strip { IsStrip (P.timeline self.old.paths) strip.first strip }
         requires writings { AreWritings (state_of (reader P.timeline L.values) W.sets W.moves R.rules B.store self.old) }
         requires open { self.old.complete ≡ false }
         ensures grows { Grows (state_of (reader P.timeline L.values) W.sets W.moves R.rules B.store self.old) (state_of (reader P.timeline L.values) W.sets W.moves R.rules B.store self.new) }
-        ensures drew { IfOk result (λ learnt. Drew (state_of (reader P.timeline L.values) W.sets W.moves R.rules B.store self.old) (state_of (reader P.timeline L.values) W.sets W.moves R.rules B.store self.new) learnt (λ _. ⊤)) }
+        ensures inferred { IfOk result (λ learnt. HasInferred (state_of (reader P.timeline L.values) W.sets W.moves R.rules B.store self.old) (state_of (reader P.timeline L.values) W.sets W.moves R.rules B.store self.new) learnt (λ _. ⊤)) }
         ensures halt { IfErr result (λ h. IsHalt (state_of (reader P.timeline L.values) W.sets W.moves R.rules B.store self.new) h) }
     {
         let inside = self.carry_strip(a, strip)?;
         let number = strip.first;
-        let others = self.follow_if(inside, a, Step::Onward { number })?;
+        let others = self.follow_if(inside, a, WordStep::Onward { number })?;
         Ok(inside | others)
     }
 }

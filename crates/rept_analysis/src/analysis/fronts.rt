@@ -3,7 +3,7 @@
 ghost use Rattle.std.specs.Prelude.{◌≡◌, ◌+◌, ◌<◌, ◌≤◌, length, true, IfOk, IfSome, IfNone};
 ghost use Rattle.rept_reason.specs.declared.fact.Cell.TheVariants.{Register, Byte};
 ghost use Rattle.rept_report.specs.Log.{oldest};
-ghost use Rattle.rept_report.specs.Why.{Because, IsDrawnBecause, IsKnownBecause, IsCarriedBecause};
+ghost use Rattle.rept_report.specs.Why.{Because, IsInferredBecause, IsKnownBecause, IsCarriedBecause};
 ghost use Rattle.rept_log.specs.Fronts.{IsInPlace, basis_of, front_of, stands, told_by, setting_in};
 ghost use Rattle.rept_analysis.specs.State.{setting_of, state_of, reader};
 ghost use Rattle.rept_analysis.specs.Reasoned.{front_below, AreSetsOf, KeepsAll};
@@ -72,7 +72,8 @@ impl<'a, P: Reaches + Drop, L: LastValues + Drop, B: ByteFacts, W: Transfer, R: 
         )
     }
 
-    /// The byte that stands in the prefix of the log below a limit. `OutOfMemory` says that the room for the search can't be had.
+    /// The byte that stands in the prefix of the log below a limit. `OutOfMemory` says that the
+    /// room for the search can't be had.
     pub(super) fn byte_below(
         &self,
         spans: &Spans<W>,
@@ -122,8 +123,8 @@ impl<'a, P: Reaches + Drop, L: LastValues + Drop, B: ByteFacts, W: Transfer, R: 
         front.of_register(&mut self.rules, alloc, fact, r)
     }
 
-    /// The reason of a byte's fact by what a row lets one draw from what stands in the front.
-    pub(super) fn drawn_below(
+    /// The reason of a byte's fact by what a row lets one infer from what stands in the front.
+    pub(super) fn inferred_below(
         &mut self,
         alloc: Global,
         spans: &Spans<W>,
@@ -135,8 +136,8 @@ impl<'a, P: Reaches + Drop, L: LastValues + Drop, B: ByteFacts, W: Transfer, R: 
         requires sets { AreSetsOf (setting_of (reader P.timeline L.values) W.sets W.moves R.rules self.old) (oldest limit self.old.known.log) spans.now }
         requires cell { fact.now.cell ≡ Byte a }
         requires complete { self.old.complete ≡ true }
-        ensures found { IfOk result (λ found. IfSome found (λ reason. IsDrawnBecause (setting_in (front_below (reader P.timeline L.values) W.sets W.moves R.rules self.old limit)) (stands (front_below (reader P.timeline L.values) W.sets W.moves R.rules self.old limit)) fact.now (told_by reason))) }
-        ensures none { IfOk result (λ found. IfNone found ((why : Because) → IsDrawnBecause (setting_in (front_below (reader P.timeline L.values) W.sets W.moves R.rules self.old limit)) (stands (front_below (reader P.timeline L.values) W.sets W.moves R.rules self.old limit)) fact.now why → ⊥)) }
+        ensures found { IfOk result (λ found. IfSome found (λ reason. IsInferredBecause (setting_in (front_below (reader P.timeline L.values) W.sets W.moves R.rules self.old limit)) (stands (front_below (reader P.timeline L.values) W.sets W.moves R.rules self.old limit)) fact.now (told_by reason))) }
+        ensures none { IfOk result (λ found. IfNone found ((why : Because) → IsInferredBecause (setting_in (front_below (reader P.timeline L.values) W.sets W.moves R.rules self.old limit)) (stands (front_below (reader P.timeline L.values) W.sets W.moves R.rules self.old limit)) fact.now why → ⊥)) }
         ensures room { IfOk result (λ found. IfSome found IsInPlace) }
         ensures same { KeepsAll (state_of (reader P.timeline L.values) W.sets W.moves R.rules B.store self.old) (state_of (reader P.timeline L.values) W.sets W.moves R.rules B.store self.new) }
     {
@@ -149,7 +150,7 @@ impl<'a, P: Reaches + Drop, L: LastValues + Drop, B: ByteFacts, W: Transfer, R: 
             &self.dump,
             spans,
         );
-        front.of_drawn_byte(&mut self.rules, alloc, fact, a)
+        front.of_inferred_byte(&mut self.rules, alloc, fact, a)
     }
 
     /// The reason by which a byte is carried in the front.

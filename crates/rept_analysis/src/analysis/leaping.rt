@@ -5,25 +5,25 @@ ghost use Rattle.rept_reason.specs.declared.fact.Cell.TheVariants.{Byte};
 ghost use Rattle.rept_reach.specs.Reaching.{IsLeaving, IsReachedUp, IsReachedDown};
 ghost use Rattle.rept_report.specs.Timeline.{IsStrip};
 ghost use Rattle.rept_analysis.specs.State.{state_of, reader};
-ghost use Rattle.rept_analysis.specs.Drawing.{Knows, IsTracked, Grows, Drew, IsHalt, AreWritings, IsEven, IsCarriedUpTo, IsCarriedAlong, AllCarried, AreLinks, IsCarriedIf, IsHitBy, IsLeapUp, IsLeapDown, IsEvenAround};
+ghost use Rattle.rept_analysis.specs.Inferring.{Knows, IsTracked, Grows, HasInferred, IsHalt, AreWritings, IsEven, IsCarriedUpTo, IsCarriedAlong, AllCarried, AreLinks, IsCarriedIf, IsHitBy, IsLeapUp, IsLeapDown, IsEvenAround};
 ghost use Rattle.rept_analysis.specs.Likeness.{IsCurrent};
 
 use super::Analysis;
 use super::carrying::border;
-use crate::halt::Halt;
-use crate::leap::Leap;
-use crate::step::Step;
+use crate::halt::LearnError;
+use crate::leap::ByteLeap;
+use crate::step::WordStep;
 use rept_log::LastValues;
-use rept_reach::{Reaches, Window};
+use rept_reach::{NumberWindow, Reaches};
 use rept_report::paths::Strip;
 use rept_span::Transfer;
 use rept_versions::ByteFacts;
 use rept_view::RowRules;
 
-/// So far back it is looked at first for numbers at which the same is known.
+/// How far back one looks at first for numbers at which the same is known.
 const FAR: u32 = 4096;
 
-/// And so far where that was too far.
+/// How far back one looks where `FAR` was too far.
 const NEAR: u32 = 256;
 
 impl<'a, P: Reaches + Drop, L: LastValues + Drop, B: ByteFacts, W: Transfer, R: RowRules> Analysis<
@@ -34,8 +34,9 @@ impl<'a, P: Reaches + Drop, L: LastValues + Drop, B: ByteFacts, W: Transfer, R: 
     W,
     R,
 > {
-    /// A number from one on, before the end of a window, before which no number from there on has a next one outside the window.
-    fn leaving_from(&self, least: u32, known: Window) -> u32
+    /// A number from one on, before the end of a window, before which no number from there on has a
+    /// next one outside the window.
+    fn leaving_from(&self, least: u32, known: NumberWindow) -> u32
         requires since { known.from ≤ least }
         requires order { least < known.to }
         requires inside { known.to ≤ (P.timeline self.now.paths).moments.end + 1 }
@@ -44,8 +45,9 @@ impl<'a, P: Reaches + Drop, L: LastValues + Drop, B: ByteFacts, W: Transfer, R: 
         self.paths.leaving_from(least, known)
     }
 
-    /// A number up to which, but no further than another one, each number after those of a window is next to an earlier one that isn't below the window.
-    fn reached_up(&self, known: Window, most: u32) -> u32
+    /// A number up to which, but no further than another one, each number after those of a window
+    /// is next to an earlier one that isn't below the window.
+    fn reached_up(&self, known: NumberWindow, most: u32) -> u32
         requires order { known.from < known.to }
         requires inside { known.to ≤ (P.timeline self.now.paths).moments.end + 1 }
         ensures { IsReachedUp (P.timeline self.now.paths).moments known most result }
@@ -53,8 +55,9 @@ impl<'a, P: Reaches + Drop, L: LastValues + Drop, B: ByteFacts, W: Transfer, R: 
         self.paths.reached_up(known, most)
     }
 
-    /// A number down to which, but no further than another one, each number before those of a window has a next one after it that isn't past the window.
-    fn reached_down(&self, known: Window, least: u32) -> u32
+    /// A number down to which, but no further than another one, each number before those of a
+    /// window has a next one after it that isn't past the window.
+    fn reached_down(&self, known: NumberWindow, least: u32) -> u32
         requires order { known.from < known.to }
         requires inside { known.to ≤ (P.timeline self.now.paths).moments.end + 1 }
         ensures { IsReachedDown (P.timeline self.now.paths).moments known least result }
@@ -62,7 +65,8 @@ impl<'a, P: Reaches + Drop, L: LastValues + Drop, B: ByteFacts, W: Transfer, R: 
         self.paths.reached_down(known, least)
     }
 
-    /// A number up to which from another one on the same is known of a byte: the last before its value begins or at which it ends.
+    /// A number up to which from another one on the same is known of a byte: the last before its
+    /// value begins or at which it ends.
     pub(super) fn even_to(&self, a: u32, from: u32) -> u32
         requires { from ≤ (P.timeline self.now.paths).moments.end }
         ensures even { IsEven a from result (state_of (reader P.timeline L.values) W.sets W.moves R.rules B.store self.now) }
@@ -76,32 +80,34 @@ impl<'a, P: Reaches + Drop, L: LastValues + Drop, B: ByteFacts, W: Transfer, R: 
         }
     }
 
-    /// Numbers around one at which the same is known of a byte, by the first stretch that ends at another one or later.
-    fn window_from(&self, a: u32, since: u32, number: u32) -> Option<Window>
+    /// Numbers around one at which the same is known of a byte, by the first stretch that ends at
+    /// another one or later.
+    fn window_from(&self, a: u32, since: u32, number: u32) -> Option<NumberWindow>
         requires order { since ≤ number }
         requires inside { number ≤ (P.timeline self.now.paths).moments.end }
         ensures window { IfSome result (λ known. IsEvenAround a number known (state_of (reader P.timeline L.values) W.sets W.moves R.rules B.store self.now)) }
     {
         let end = self.end();
         match self.stretch(a, since) {
-            None => Some(Window {
+            None => Some(NumberWindow {
                 from: since,
                 to: end + 1,
             }),
             Some(stretch) if stretch.last < number => None,
-            Some(stretch) if number < stretch.first => Some(Window {
+            Some(stretch) if number < stretch.first => Some(NumberWindow {
                 from: since,
                 to: stretch.first.min(end + 1),
             }),
-            Some(stretch) => Some(Window {
+            Some(stretch) => Some(NumberWindow {
                 from: since.max(stretch.first),
                 to: stretch.last.min(end) + 1,
             }),
         }
     }
 
-    /// Numbers around one at which the same is known of a byte: those before it are looked for a while back.
-    fn even_around(&self, a: u32, number: u32) -> Window
+    /// Numbers around one at which the same is known of a byte: those before it are looked for a
+    /// while back.
+    fn even_around(&self, a: u32, number: u32) -> NumberWindow
         requires inside { number ≤ (P.timeline self.now.paths).moments.end }
         ensures { IsEvenAround a number result (state_of (reader P.timeline L.values) W.sets W.moves R.rules B.store self.now) }
     {
@@ -110,14 +116,15 @@ impl<'a, P: Reaches + Drop, L: LastValues + Drop, B: ByteFacts, W: Transfer, R: 
         }
         match self.window_from(a, number.saturating_sub(NEAR), number) {
             Some(known) => known,
-            None => Window {
+            None => NumberWindow {
                 from: number,
                 to: self.even_to(a, number) + 1,
             },
         }
     }
 
-    /// A number from one on, before which a byte goes over the end of no strip: the same is known from the one up to another one, and at the last number of each strip on the way a byte
+    /// A number from one on, before which a byte goes over the end of no strip: the same is known
+    /// from the one up to another one, and at the last number of each strip on the way a byte
     /// stopped at a row that may write this one, too.
     fn walled_to(&self, a: u32, from: u32, last: u32) -> u32
         requires order { from ≤ last }
@@ -138,8 +145,9 @@ impl<'a, P: Reaches + Drop, L: LastValues + Drop, B: ByteFacts, W: Transfer, R: 
         number
     }
 
-    /// A number from one on, before which a byte is carried no further: the same is known of it at each number from there on and at those next to it, or a row that may write it
-    /// falls between them.
+    /// A number from one on, before which a byte is carried no further: the same is known of it at
+    /// each number from there on and at those next to it, or a row that may write it may act
+    /// between them.
     fn uneven_from(&self, a: u32, from: u32) -> u32
         requires writings { AreWritings (state_of (reader P.timeline L.values) W.sets W.moves R.rules B.store self.now) }
         ensures order { from ≤ result }
@@ -153,8 +161,10 @@ impl<'a, P: Reaches + Drop, L: LastValues + Drop, B: ByteFacts, W: Transfer, R: 
         self.shut_to(a, walled, known)
     }
 
-    /// A number from one on that is next to another one, which stands in a window, before which from there on the byte goes nowhere: the same is known in the window, or a row falls between.
-    fn idle_past(&self, a: u32, m: u32, next: u32, known: Window, row: Option<u32>) -> u32
+    /// A number from one on that is next to another one, which stands in a window, before which
+    /// from there on the byte goes nowhere: the same is known in the window, or a row may act
+    /// between.
+    fn idle_past(&self, a: u32, m: u32, next: u32, known: NumberWindow, row: Option<u32>) -> u32
         requires even { IsEvenAround a m known (state_of (reader P.timeline L.values) W.sets W.moves R.rules B.store self.now) }
         requires writings { AreWritings (state_of (reader P.timeline L.values) W.sets W.moves R.rules B.store self.now) }
         requires next { (P.timeline self.now.paths).moments.next m next ≡ true }
@@ -173,9 +183,10 @@ impl<'a, P: Reaches + Drop, L: LastValues + Drop, B: ByteFacts, W: Transfer, R: 
         }
     }
 
-    /// Whether it is seen at once that a byte goes from a number of a window, at all of whose numbers the same is known of it, to none that is next to it: a row of the list that may write it, if
-    /// one is named, falls before those outside.
-    fn is_idle(&self, a: u32, m: u32, known: Window, index: Option<usize>) -> bool
+    /// Whether it is seen at once that a byte goes from a number of a window, at all of whose
+    /// numbers the same is known of it, to none that is next to it: a row of the list that may
+    /// write it, if one is named, may act before those outside.
+    fn is_idle(&self, a: u32, m: u32, known: NumberWindow, index: Option<usize>) -> bool
         requires even { IsEvenAround a m known (state_of (reader P.timeline L.values) W.sets W.moves R.rules B.store self.now) }
         requires inside { m ≤ (P.timeline self.now.paths).moments.end }
         requires writings { AreWritings (state_of (reader P.timeline L.values) W.sets W.moves R.rules B.store self.now) }
@@ -196,9 +207,11 @@ impl<'a, P: Reaches + Drop, L: LastValues + Drop, B: ByteFacts, W: Transfer, R: 
         true
     }
 
-    /// A number from one of a window on, at all of whose numbers the same is known of a byte, before which it is carried no further: the same is known at those next to them, too, or a
-    /// row falls between that may write it, as the one of the list that stands at the window's end.
-    fn shut_to(&self, a: u32, from: u32, known: Window) -> u32
+    /// A number from one of a window on, at all of whose numbers the same is known of a byte,
+    /// before which it is carried no further: the same is known at those next to them, too, or a
+    /// row may act between that may write it, as the one of the list that stands at the window's
+    /// end.
+    fn shut_to(&self, a: u32, from: u32, known: NumberWindow) -> u32
         requires since { known.from ≤ from }
         requires even { (number : ℕ) × IsEvenAround a number known (state_of (reader P.timeline L.values) W.sets W.moves R.rules B.store self.now) }
         requires writings { AreWritings (state_of (reader P.timeline L.values) W.sets W.moves R.rules B.store self.now) }
@@ -242,7 +255,7 @@ impl<'a, P: Reaches + Drop, L: LastValues + Drop, B: ByteFacts, W: Transfer, R: 
         if from > last || until <= last + 1 {
             return last;
         }
-        let known = Window { from, to: last + 1 };
+        let known = NumberWindow { from, to: last + 1 };
         self.reached_up(known, until - 1)
     }
 
@@ -258,7 +271,7 @@ impl<'a, P: Reaches + Drop, L: LastValues + Drop, B: ByteFacts, W: Transfer, R: 
         if until <= first || since >= first {
             return first;
         }
-        let known = Window {
+        let known = NumberWindow {
             from: first,
             to: until,
         };
@@ -266,39 +279,40 @@ impl<'a, P: Reaches + Drop, L: LastValues + Drop, B: ByteFacts, W: Transfer, R: 
     }
 
     /// The value of a byte at the numbers between two, at those after them to which it goes.
-    fn spread_up(&mut self, leap: Leap, value: u8) -> Result<bool, Halt>
+    fn spread_up(&mut self, leap: ByteLeap, value: u8) -> Result<bool, LearnError>
         requires order { leap.first ≤ leap.last }
         requires known { (q : ℕ) → leap.first ≤ q → q ≤ leap.last → Knows q (Byte leap.address) value (state_of (reader P.timeline L.values) W.sets W.moves R.rules B.store self.old) }
         requires led { IsLeapUp leap (state_of (reader P.timeline L.values) W.sets W.moves R.rules B.store self.old) }
         requires open { self.old.complete ≡ false }
         ensures grows { Grows (state_of (reader P.timeline L.values) W.sets W.moves R.rules B.store self.old) (state_of (reader P.timeline L.values) W.sets W.moves R.rules B.store self.new) }
-        ensures drew { IfOk result (λ learnt. Drew (state_of (reader P.timeline L.values) W.sets W.moves R.rules B.store self.old) (state_of (reader P.timeline L.values) W.sets W.moves R.rules B.store self.new) learnt (λ _. ⊤)) }
+        ensures inferred { IfOk result (λ learnt. HasInferred (state_of (reader P.timeline L.values) W.sets W.moves R.rules B.store self.old) (state_of (reader P.timeline L.values) W.sets W.moves R.rules B.store self.new) learnt (λ _. ⊤)) }
         ensures halt { IfErr result (λ h. IsHalt (state_of (reader P.timeline L.values) W.sets W.moves R.rules B.store self.new) h) }
     {
         self.spread_led(leap.address, leap.last, leap.to, value)
     }
 
     /// At those before them.
-    fn spread_down(&mut self, leap: Leap, value: u8) -> Result<bool, Halt>
+    fn spread_down(&mut self, leap: ByteLeap, value: u8) -> Result<bool, LearnError>
         requires order { leap.first ≤ leap.last }
         requires inside { leap.last ≤ (P.timeline self.old.paths).moments.end }
         requires known { (q : ℕ) → leap.first ≤ q → q ≤ leap.last → Knows q (Byte leap.address) value (state_of (reader P.timeline L.values) W.sets W.moves R.rules B.store self.old) }
         requires led { IsLeapDown leap (state_of (reader P.timeline L.values) W.sets W.moves R.rules B.store self.old) }
         requires open { self.old.complete ≡ false }
         ensures grows { Grows (state_of (reader P.timeline L.values) W.sets W.moves R.rules B.store self.old) (state_of (reader P.timeline L.values) W.sets W.moves R.rules B.store self.new) }
-        ensures drew { IfOk result (λ learnt. Drew (state_of (reader P.timeline L.values) W.sets W.moves R.rules B.store self.old) (state_of (reader P.timeline L.values) W.sets W.moves R.rules B.store self.new) learnt (λ _. ⊤)) }
+        ensures inferred { IfOk result (λ learnt. HasInferred (state_of (reader P.timeline L.values) W.sets W.moves R.rules B.store self.old) (state_of (reader P.timeline L.values) W.sets W.moves R.rules B.store self.new) learnt (λ _. ⊤)) }
         ensures halt { IfErr result (λ h. IsHalt (state_of (reader P.timeline L.values) W.sets W.moves R.rules B.store self.new) h) }
     {
         self.spread_led(leap.address, leap.first, leap.to, value)
     }
 
-    /// The value of a byte around a number, up as far as it goes at once. Answers whether it was new, and the last number of it.
-    fn leap_up(&mut self, a: u32, number: u32) -> Result<(bool, u32), Halt>
+    /// The value of a byte around a number, up as far as it goes at once. Answers whether it was
+    /// new, and the last number of it.
+    fn leap_up(&mut self, a: u32, number: u32) -> Result<(bool, u32), LearnError>
         requires inside { number ≤ (P.timeline self.old.paths).moments.end }
         requires writings { AreWritings (state_of (reader P.timeline L.values) W.sets W.moves R.rules B.store self.old) }
         requires open { self.old.complete ≡ false }
         ensures grows { Grows (state_of (reader P.timeline L.values) W.sets W.moves R.rules B.store self.old) (state_of (reader P.timeline L.values) W.sets W.moves R.rules B.store self.new) }
-        ensures drew { IfOk result (λ ended. Drew (state_of (reader P.timeline L.values) W.sets W.moves R.rules B.store self.old) (state_of (reader P.timeline L.values) W.sets W.moves R.rules B.store self.new) ended.0 (λ _. ⊤)) }
+        ensures inferred { IfOk result (λ ended. HasInferred (state_of (reader P.timeline L.values) W.sets W.moves R.rules B.store self.old) (state_of (reader P.timeline L.values) W.sets W.moves R.rules B.store self.new) ended.0 (λ _. ⊤)) }
         ensures halt { IfErr result (λ h. IsHalt (state_of (reader P.timeline L.values) W.sets W.moves R.rules B.store self.new) h) }
         ensures up { IfOk result (λ ended. (number ≤ ended.1) × (ended.1 ≤ (P.timeline self.old.paths).moments.end)) }
     {
@@ -313,7 +327,7 @@ impl<'a, P: Reaches + Drop, L: LastValues + Drop, B: ByteFacts, W: Transfer, R: 
         if to == last {
             return Ok((false, last));
         }
-        let leap = Leap {
+        let leap = ByteLeap {
             address: a,
             first: stretch.first,
             last,
@@ -323,13 +337,14 @@ impl<'a, P: Reaches + Drop, L: LastValues + Drop, B: ByteFacts, W: Transfer, R: 
         Ok((new, to))
     }
 
-    /// The same down. Answers the first number of it, too.
-    pub(super) fn leap_down(&mut self, a: u32, number: u32) -> Result<(bool, u32), Halt>
+    /// Carries the value of a byte around a number down as far as it goes at once. Answers whether
+    /// it was new, and the first number to which it went.
+    pub(super) fn leap_down(&mut self, a: u32, number: u32) -> Result<(bool, u32), LearnError>
         requires inside { number ≤ (P.timeline self.old.paths).moments.end }
         requires writings { AreWritings (state_of (reader P.timeline L.values) W.sets W.moves R.rules B.store self.old) }
         requires open { self.old.complete ≡ false }
         ensures grows { Grows (state_of (reader P.timeline L.values) W.sets W.moves R.rules B.store self.old) (state_of (reader P.timeline L.values) W.sets W.moves R.rules B.store self.new) }
-        ensures drew { IfOk result (λ ended. Drew (state_of (reader P.timeline L.values) W.sets W.moves R.rules B.store self.old) (state_of (reader P.timeline L.values) W.sets W.moves R.rules B.store self.new) ended.0 (λ _. ⊤)) }
+        ensures inferred { IfOk result (λ ended. HasInferred (state_of (reader P.timeline L.values) W.sets W.moves R.rules B.store self.old) (state_of (reader P.timeline L.values) W.sets W.moves R.rules B.store self.new) ended.0 (λ _. ⊤)) }
         ensures halt { IfErr result (λ h. IsHalt (state_of (reader P.timeline L.values) W.sets W.moves R.rules B.store self.new) h) }
         ensures down { IfOk result (λ ended. ended.1 ≤ number) }
     {
@@ -344,7 +359,7 @@ impl<'a, P: Reaches + Drop, L: LastValues + Drop, B: ByteFacts, W: Transfer, R: 
         if to == stretch.first {
             return Ok((false, to));
         }
-        let leap = Leap {
+        let leap = ByteLeap {
             address: a,
             first: stretch.first,
             last,
@@ -354,11 +369,12 @@ impl<'a, P: Reaches + Drop, L: LastValues + Drop, B: ByteFacts, W: Transfer, R: 
         Ok((new, to))
     }
 
-    /// The least number to which one is next, or itself. Where writers that aren't told don't lie before the number, they fall before it on each way to it, and it answers the number.
+    /// The least number to which one is next, or itself. Where writers that aren't told don't lie
+    /// before the number, they may act before it on each way to it, and it answers the number.
     fn least_former(&self, number: u32) -> u32
         requires { number ≤ (P.timeline self.now.paths).moments.end }
     {
-        if !self.paths.is_dark_past(number) {
+        if !self.paths.is_untraced_past(number) {
             return number;
         }
         match self.paths.former_from(number, 0) {
@@ -373,7 +389,7 @@ impl<'a, P: Reaches + Drop, L: LastValues + Drop, B: ByteFacts, W: Transfer, R: 
         ensures { result ≤ (P.timeline self.now.paths).moments.end }
     {
         let end = self.end();
-        if !self.paths.is_dark_past(number) {
+        if !self.paths.is_untraced_past(number) {
             return number;
         }
         let mut found = number;
@@ -388,13 +404,14 @@ impl<'a, P: Reaches + Drop, L: LastValues + Drop, B: ByteFacts, W: Transfer, R: 
         found
     }
 
-    /// The value of a byte in a strip, and down from it. Answers whether it was new, and the first number of it.
-    fn carry_under(&mut self, a: u32, strip: Strip) -> Result<(bool, u32), Halt>
+    /// The value of a byte in a strip, and down from it. Answers whether it was new, and the first
+    /// number of it.
+    fn carry_under(&mut self, a: u32, strip: Strip) -> Result<(bool, u32), LearnError>
         requires strip { IsStrip (P.timeline self.old.paths) strip.first strip }
         requires writings { AreWritings (state_of (reader P.timeline L.values) W.sets W.moves R.rules B.store self.old) }
         requires open { self.old.complete ≡ false }
         ensures grows { Grows (state_of (reader P.timeline L.values) W.sets W.moves R.rules B.store self.old) (state_of (reader P.timeline L.values) W.sets W.moves R.rules B.store self.new) }
-        ensures drew { IfOk result (λ ended. Drew (state_of (reader P.timeline L.values) W.sets W.moves R.rules B.store self.old) (state_of (reader P.timeline L.values) W.sets W.moves R.rules B.store self.new) ended.0 (λ _. ⊤)) }
+        ensures inferred { IfOk result (λ ended. HasInferred (state_of (reader P.timeline L.values) W.sets W.moves R.rules B.store self.old) (state_of (reader P.timeline L.values) W.sets W.moves R.rules B.store self.new) ended.0 (λ _. ⊤)) }
         ensures halt { IfErr result (λ h. IsHalt (state_of (reader P.timeline L.values) W.sets W.moves R.rules B.store self.new) h) }
         ensures down { IfOk result (λ ended. ended.1 ≤ strip.first) }
     {
@@ -404,13 +421,13 @@ impl<'a, P: Reaches + Drop, L: LastValues + Drop, B: ByteFacts, W: Transfer, R: 
     }
 
     /// The value of a byte to a number from those of a window that are next to it, until it is new.
-    fn carry_from(&mut self, a: u32, m: u32, known: Window) -> Result<bool, Halt>
+    fn carry_from(&mut self, a: u32, m: u32, known: NumberWindow) -> Result<bool, LearnError>
         requires inside { m ≤ (P.timeline self.old.paths).moments.end }
         requires tracked { IsTracked a (state_of (reader P.timeline L.values) W.sets W.moves R.rules B.store self.old) }
         requires writings { AreWritings (state_of (reader P.timeline L.values) W.sets W.moves R.rules B.store self.old) }
         requires open { self.old.complete ≡ false }
         ensures grows { Grows (state_of (reader P.timeline L.values) W.sets W.moves R.rules B.store self.old) (state_of (reader P.timeline L.values) W.sets W.moves R.rules B.store self.new) }
-        ensures drew { IfOk result (λ learnt. Drew (state_of (reader P.timeline L.values) W.sets W.moves R.rules B.store self.old) (state_of (reader P.timeline L.values) W.sets W.moves R.rules B.store self.new) learnt (λ _. ⊤)) }
+        ensures inferred { IfOk result (λ learnt. HasInferred (state_of (reader P.timeline L.values) W.sets W.moves R.rules B.store self.old) (state_of (reader P.timeline L.values) W.sets W.moves R.rules B.store self.new) learnt (λ _. ⊤)) }
         ensures halt { IfErr result (λ h. IsHalt (state_of (reader P.timeline L.values) W.sets W.moves R.rules B.store self.new) h) }
     {
         let mut learnt = false;
@@ -435,14 +452,15 @@ impl<'a, P: Reaches + Drop, L: LastValues + Drop, B: ByteFacts, W: Transfer, R: 
         Ok(learnt)
     }
 
-    /// So from the first one of them from that on from which a byte came back last, if that is in the window: mostly the others of its word come from there, too.
-    fn carry_open(&mut self, a: u32, m: u32, known: Window) -> Result<bool, Halt>
+    /// Carries the value of a byte to a number from the window's number from which a byte came back
+    /// last, if it is there. The other bytes of a word mostly come from there, too.
+    fn carry_open(&mut self, a: u32, m: u32, known: NumberWindow) -> Result<bool, LearnError>
         requires inside { m ≤ (P.timeline self.old.paths).moments.end }
         requires tracked { IsTracked a (state_of (reader P.timeline L.values) W.sets W.moves R.rules B.store self.old) }
         requires writings { AreWritings (state_of (reader P.timeline L.values) W.sets W.moves R.rules B.store self.old) }
         requires open { self.old.complete ≡ false }
         ensures grows { Grows (state_of (reader P.timeline L.values) W.sets W.moves R.rules B.store self.old) (state_of (reader P.timeline L.values) W.sets W.moves R.rules B.store self.new) }
-        ensures drew { IfOk result (λ learnt. Drew (state_of (reader P.timeline L.values) W.sets W.moves R.rules B.store self.old) (state_of (reader P.timeline L.values) W.sets W.moves R.rules B.store self.new) learnt (λ _. ⊤)) }
+        ensures inferred { IfOk result (λ learnt. HasInferred (state_of (reader P.timeline L.values) W.sets W.moves R.rules B.store self.old) (state_of (reader P.timeline L.values) W.sets W.moves R.rules B.store self.new) learnt (λ _. ⊤)) }
         ensures halt { IfErr result (λ h. IsHalt (state_of (reader P.timeline L.values) W.sets W.moves R.rules B.store self.new) h) }
     {
         let Some(open) = self.walls.open() else {
@@ -462,14 +480,15 @@ impl<'a, P: Reaches + Drop, L: LastValues + Drop, B: ByteFacts, W: Transfer, R: 
         Ok(done.0.has_news)
     }
 
-    /// So from that one, and where that told nothing new, from each of them.
-    fn carry_over(&mut self, a: u32, m: u32, known: Window) -> Result<bool, Halt>
+    /// Carries the value of a byte to a number from the one from which a byte came back last, and
+    /// where that told nothing new, from each of the window.
+    fn carry_over(&mut self, a: u32, m: u32, known: NumberWindow) -> Result<bool, LearnError>
         requires inside { m ≤ (P.timeline self.old.paths).moments.end }
         requires tracked { IsTracked a (state_of (reader P.timeline L.values) W.sets W.moves R.rules B.store self.old) }
         requires writings { AreWritings (state_of (reader P.timeline L.values) W.sets W.moves R.rules B.store self.old) }
         requires open { self.old.complete ≡ false }
         ensures grows { Grows (state_of (reader P.timeline L.values) W.sets W.moves R.rules B.store self.old) (state_of (reader P.timeline L.values) W.sets W.moves R.rules B.store self.new) }
-        ensures drew { IfOk result (λ learnt. Drew (state_of (reader P.timeline L.values) W.sets W.moves R.rules B.store self.old) (state_of (reader P.timeline L.values) W.sets W.moves R.rules B.store self.new) learnt (λ _. ⊤)) }
+        ensures inferred { IfOk result (λ learnt. HasInferred (state_of (reader P.timeline L.values) W.sets W.moves R.rules B.store self.old) (state_of (reader P.timeline L.values) W.sets W.moves R.rules B.store self.new) learnt (λ _. ⊤)) }
         ensures halt { IfErr result (λ h. IsHalt (state_of (reader P.timeline L.values) W.sets W.moves R.rules B.store self.new) h) }
     {
         let open = self.carry_open(a, m, known)?;
@@ -479,26 +498,28 @@ impl<'a, P: Reaches + Drop, L: LastValues + Drop, B: ByteFacts, W: Transfer, R: 
         self.carry_from(a, m, known)
     }
 
-    /// The value of a byte to the end of the strip before a number from those of a window that are next to it, and down from there, where it isn't known there. Answers whether it was
-    /// new, and a number up to which it was looked for: the first one, where writers that aren't told don't lie before that strip's end, since they fall between all that come before.
+    /// The value of a byte to the end of the strip before a number from those of a window that are
+    /// next to it, and down from there, where it isn't known there. Answers whether it was new, and
+    /// a number up to which it was looked for: the first one, where writers that aren't told don't
+    /// lie before that strip's end, since they may act between all that come before.
     pub(super) fn carry_former(
         &mut self,
         a: u32,
         first: u32,
-        known: Window,
-    ) -> Result<(bool, u32), Halt>
+        known: NumberWindow,
+    ) -> Result<(bool, u32), LearnError>
         requires some { 0 < first }
         requires inside { first ≤ (P.timeline self.old.paths).moments.end }
         requires tracked { IsTracked a (state_of (reader P.timeline L.values) W.sets W.moves R.rules B.store self.old) }
         requires writings { AreWritings (state_of (reader P.timeline L.values) W.sets W.moves R.rules B.store self.old) }
         requires open { self.old.complete ≡ false }
         ensures grows { Grows (state_of (reader P.timeline L.values) W.sets W.moves R.rules B.store self.old) (state_of (reader P.timeline L.values) W.sets W.moves R.rules B.store self.new) }
-        ensures drew { IfOk result (λ ended. Drew (state_of (reader P.timeline L.values) W.sets W.moves R.rules B.store self.old) (state_of (reader P.timeline L.values) W.sets W.moves R.rules B.store self.new) ended.0 (λ _. ⊤)) }
+        ensures inferred { IfOk result (λ ended. HasInferred (state_of (reader P.timeline L.values) W.sets W.moves R.rules B.store self.old) (state_of (reader P.timeline L.values) W.sets W.moves R.rules B.store self.new) ended.0 (λ _. ⊤)) }
         ensures halt { IfErr result (λ h. IsHalt (state_of (reader P.timeline L.values) W.sets W.moves R.rules B.store self.new) h) }
         ensures down { IfOk result (λ ended. ended.1 < first) }
     {
         let former = self.strip(first - 1);
-        if !self.paths.is_dark_past(former.last) {
+        if !self.paths.is_untraced_past(former.last) {
             return Ok((false, 0));
         }
         if self.known_byte(former.last, a).is_some() || self.is_walled(a, former.last) {
@@ -512,15 +533,16 @@ impl<'a, P: Reaches + Drop, L: LastValues + Drop, B: ByteFacts, W: Transfer, R: 
         Ok((true, under.1))
     }
 
-    /// The value of a byte, if it is known there, down from the first number of a strip, and back through the strips before it that lead to one where it was new. That this is done at once saves rounds: no
-    /// clause rests on it.
-    pub(super) fn carry_back(&mut self, a: u32, number: u32) -> Result<bool, Halt>
+    /// The value of a byte, if it is known there, down from the first number of a strip, and back
+    /// through the strips before it that lead to one where it was new. That this is done at once
+    /// saves rounds: no clause rests on it.
+    pub(super) fn carry_back(&mut self, a: u32, number: u32) -> Result<bool, LearnError>
         requires inside { number ≤ (P.timeline self.old.paths).moments.end }
         requires tracked { IsTracked a (state_of (reader P.timeline L.values) W.sets W.moves R.rules B.store self.old) }
         requires writings { AreWritings (state_of (reader P.timeline L.values) W.sets W.moves R.rules B.store self.old) }
         requires open { self.old.complete ≡ false }
         ensures grows { Grows (state_of (reader P.timeline L.values) W.sets W.moves R.rules B.store self.old) (state_of (reader P.timeline L.values) W.sets W.moves R.rules B.store self.new) }
-        ensures drew { IfOk result (λ learnt. Drew (state_of (reader P.timeline L.values) W.sets W.moves R.rules B.store self.old) (state_of (reader P.timeline L.values) W.sets W.moves R.rules B.store self.new) learnt (λ _. ⊤)) }
+        ensures inferred { IfOk result (λ learnt. HasInferred (state_of (reader P.timeline L.values) W.sets W.moves R.rules B.store self.old) (state_of (reader P.timeline L.values) W.sets W.moves R.rules B.store self.new) learnt (λ _. ⊤)) }
         ensures halt { IfErr result (λ h. IsHalt (state_of (reader P.timeline L.values) W.sets W.moves R.rules B.store self.new) h) }
     {
         if self.known_byte(number, a).is_none() {
@@ -533,7 +555,7 @@ impl<'a, P: Reaches + Drop, L: LastValues + Drop, B: ByteFacts, W: Transfer, R: 
         let mut from = first;
         let mut low = self.least_former(first);
         while first > low {
-            let former = self.former_together(a, first, Window { from, to })?;
+            let former = self.former_together(a, first, NumberWindow { from, to })?;
             learnt = learnt | former.0;
             first = former.1;
             if former.0 {
@@ -545,13 +567,13 @@ impl<'a, P: Reaches + Drop, L: LastValues + Drop, B: ByteFacts, W: Transfer, R: 
     }
 
     /// The value of a byte from a number to those that are next to it, where it is known there.
-    pub(super) fn carry_links_on(&mut self, a: u32, m: u32) -> Result<bool, Halt>
+    pub(super) fn carry_links_on(&mut self, a: u32, m: u32) -> Result<bool, LearnError>
         requires inside { m ≤ (P.timeline self.old.paths).moments.end }
         requires tracked { IsTracked a (state_of (reader P.timeline L.values) W.sets W.moves R.rules B.store self.old) }
         requires writings { AreWritings (state_of (reader P.timeline L.values) W.sets W.moves R.rules B.store self.old) }
         requires open { self.old.complete ≡ false }
         ensures grows { Grows (state_of (reader P.timeline L.values) W.sets W.moves R.rules B.store self.old) (state_of (reader P.timeline L.values) W.sets W.moves R.rules B.store self.new) }
-        ensures drew { IfOk result (λ learnt. Drew (state_of (reader P.timeline L.values) W.sets W.moves R.rules B.store self.old) (state_of (reader P.timeline L.values) W.sets W.moves R.rules B.store self.new) learnt (λ _. ⊤)) }
+        ensures inferred { IfOk result (λ learnt. HasInferred (state_of (reader P.timeline L.values) W.sets W.moves R.rules B.store self.old) (state_of (reader P.timeline L.values) W.sets W.moves R.rules B.store self.new) learnt (λ _. ⊤)) }
         ensures halt { IfErr result (λ h. IsHalt (state_of (reader P.timeline L.values) W.sets W.moves R.rules B.store self.new) h) }
     {
         if self.known_byte(m, a).is_none() {
@@ -560,14 +582,15 @@ impl<'a, P: Reaches + Drop, L: LastValues + Drop, B: ByteFacts, W: Transfer, R: 
         self.carry_links(a, m)
     }
 
-    /// The value of a byte in the strip around a number, up from it, and on to the numbers next to it, where it is known there. Answers whether it was new, and its last number.
-    pub(super) fn carry_later(&mut self, a: u32, first: u32) -> Result<(bool, u32), Halt>
+    /// The value of a byte in the strip around a number, up from it, and on to the numbers next to
+    /// it, where it is known there. Answers whether it was new, and its last number.
+    pub(super) fn carry_later(&mut self, a: u32, first: u32) -> Result<(bool, u32), LearnError>
         requires inside { first ≤ (P.timeline self.old.paths).moments.end }
         requires tracked { IsTracked a (state_of (reader P.timeline L.values) W.sets W.moves R.rules B.store self.old) }
         requires writings { AreWritings (state_of (reader P.timeline L.values) W.sets W.moves R.rules B.store self.old) }
         requires open { self.old.complete ≡ false }
         ensures grows { Grows (state_of (reader P.timeline L.values) W.sets W.moves R.rules B.store self.old) (state_of (reader P.timeline L.values) W.sets W.moves R.rules B.store self.new) }
-        ensures drew { IfOk result (λ ended. Drew (state_of (reader P.timeline L.values) W.sets W.moves R.rules B.store self.old) (state_of (reader P.timeline L.values) W.sets W.moves R.rules B.store self.new) ended.0 (λ _. ⊤)) }
+        ensures inferred { IfOk result (λ ended. HasInferred (state_of (reader P.timeline L.values) W.sets W.moves R.rules B.store self.old) (state_of (reader P.timeline L.values) W.sets W.moves R.rules B.store self.new) ended.0 (λ _. ⊤)) }
         ensures halt { IfErr result (λ h. IsHalt (state_of (reader P.timeline L.values) W.sets W.moves R.rules B.store self.new) h) }
         ensures up { IfOk result (λ ended. (first ≤ ended.1) × (ended.1 ≤ (P.timeline self.old.paths).moments.end)) }
     {
@@ -579,14 +602,15 @@ impl<'a, P: Reaches + Drop, L: LastValues + Drop, B: ByteFacts, W: Transfer, R: 
         Ok((inside | up.0 | links, number))
     }
 
-    /// The value of a byte at the last number of a strip, on through those strips to which one leads where it was new.
-    pub(super) fn carry_forth(&mut self, a: u32, number: u32) -> Result<bool, Halt>
+    /// The value of a byte at the last number of a strip, on through those strips to which one
+    /// leads where it was new.
+    pub(super) fn carry_forth(&mut self, a: u32, number: u32) -> Result<bool, LearnError>
         requires inside { number ≤ (P.timeline self.old.paths).moments.end }
         requires tracked { IsTracked a (state_of (reader P.timeline L.values) W.sets W.moves R.rules B.store self.old) }
         requires writings { AreWritings (state_of (reader P.timeline L.values) W.sets W.moves R.rules B.store self.old) }
         requires open { self.old.complete ≡ false }
         ensures grows { Grows (state_of (reader P.timeline L.values) W.sets W.moves R.rules B.store self.old) (state_of (reader P.timeline L.values) W.sets W.moves R.rules B.store self.new) }
-        ensures drew { IfOk result (λ learnt. Drew (state_of (reader P.timeline L.values) W.sets W.moves R.rules B.store self.old) (state_of (reader P.timeline L.values) W.sets W.moves R.rules B.store self.new) learnt (λ _. ⊤)) }
+        ensures inferred { IfOk result (λ learnt. HasInferred (state_of (reader P.timeline L.values) W.sets W.moves R.rules B.store self.old) (state_of (reader P.timeline L.values) W.sets W.moves R.rules B.store self.new) learnt (λ _. ⊤)) }
         ensures halt { IfErr result (λ h. IsHalt (state_of (reader P.timeline L.values) W.sets W.moves R.rules B.store self.new) h) }
     {
         let mut learnt = self.links_together(a, number)?;
@@ -604,12 +628,12 @@ impl<'a, P: Reaches + Drop, L: LastValues + Drop, B: ByteFacts, W: Transfer, R: 
     }
 
     /// The value of a byte up from a number, where it is known there and not at the one after it.
-    pub(super) fn leap_end(&mut self, a: u32, number: u32) -> Result<bool, Halt>
+    pub(super) fn leap_end(&mut self, a: u32, number: u32) -> Result<bool, LearnError>
         requires inside { number ≤ (P.timeline self.old.paths).moments.end }
         requires writings { AreWritings (state_of (reader P.timeline L.values) W.sets W.moves R.rules B.store self.old) }
         requires open { self.old.complete ≡ false }
         ensures grows { Grows (state_of (reader P.timeline L.values) W.sets W.moves R.rules B.store self.old) (state_of (reader P.timeline L.values) W.sets W.moves R.rules B.store self.new) }
-        ensures drew { IfOk result (λ learnt. Drew (state_of (reader P.timeline L.values) W.sets W.moves R.rules B.store self.old) (state_of (reader P.timeline L.values) W.sets W.moves R.rules B.store self.new) learnt (λ _. ⊤)) }
+        ensures inferred { IfOk result (λ learnt. HasInferred (state_of (reader P.timeline L.values) W.sets W.moves R.rules B.store self.old) (state_of (reader P.timeline L.values) W.sets W.moves R.rules B.store self.new) learnt (λ _. ⊤)) }
         ensures halt { IfErr result (λ h. IsHalt (state_of (reader P.timeline L.values) W.sets W.moves R.rules B.store self.new) h) }
     {
         if self.even_to(a, number) > number {
@@ -620,12 +644,12 @@ impl<'a, P: Reaches + Drop, L: LastValues + Drop, B: ByteFacts, W: Transfer, R: 
     }
 
     /// The value of a byte back from the beginning of each of its stretches.
-    fn carry_edges(&mut self, a: u32) -> Result<bool, Halt>
+    fn carry_edges(&mut self, a: u32) -> Result<bool, LearnError>
         requires tracked { IsTracked a (state_of (reader P.timeline L.values) W.sets W.moves R.rules B.store self.old) }
         requires writings { AreWritings (state_of (reader P.timeline L.values) W.sets W.moves R.rules B.store self.old) }
         requires open { self.old.complete ≡ false }
         ensures grows { Grows (state_of (reader P.timeline L.values) W.sets W.moves R.rules B.store self.old) (state_of (reader P.timeline L.values) W.sets W.moves R.rules B.store self.new) }
-        ensures drew { IfOk result (λ learnt. Drew (state_of (reader P.timeline L.values) W.sets W.moves R.rules B.store self.old) (state_of (reader P.timeline L.values) W.sets W.moves R.rules B.store self.new) learnt (λ _. ⊤)) }
+        ensures inferred { IfOk result (λ learnt. HasInferred (state_of (reader P.timeline L.values) W.sets W.moves R.rules B.store self.old) (state_of (reader P.timeline L.values) W.sets W.moves R.rules B.store self.new) learnt (λ _. ⊤)) }
         ensures halt { IfErr result (λ h. IsHalt (state_of (reader P.timeline L.values) W.sets W.moves R.rules B.store self.new) h) }
     {
         let end = self.end();
@@ -644,13 +668,14 @@ impl<'a, P: Reaches + Drop, L: LastValues + Drop, B: ByteFacts, W: Transfer, R: 
         Ok(learnt)
     }
 
-    /// The value of a byte over all that may not write it: strip by strip, and from the last number of each to those next to it.
-    fn carry_onward(&mut self, a: u32) -> Result<bool, Halt>
+    /// The value of a byte over all that may not write it: strip by strip, and from the last number
+    /// of each to those next to it.
+    fn carry_onward(&mut self, a: u32) -> Result<bool, LearnError>
         requires tracked { IsTracked a (state_of (reader P.timeline L.values) W.sets W.moves R.rules B.store self.old) }
         requires writings { AreWritings (state_of (reader P.timeline L.values) W.sets W.moves R.rules B.store self.old) }
         requires open { self.old.complete ≡ false }
         ensures grows { Grows (state_of (reader P.timeline L.values) W.sets W.moves R.rules B.store self.old) (state_of (reader P.timeline L.values) W.sets W.moves R.rules B.store self.new) }
-        ensures drew { IfOk result (λ learnt. Drew (state_of (reader P.timeline L.values) W.sets W.moves R.rules B.store self.old) (state_of (reader P.timeline L.values) W.sets W.moves R.rules B.store self.new) learnt (IsCarriedAlong a)) }
+        ensures inferred { IfOk result (λ learnt. HasInferred (state_of (reader P.timeline L.values) W.sets W.moves R.rules B.store self.old) (state_of (reader P.timeline L.values) W.sets W.moves R.rules B.store self.new) learnt (IsCarriedAlong a)) }
         ensures halt { IfErr result (λ h. IsHalt (state_of (reader P.timeline L.values) W.sets W.moves R.rules B.store self.new) h) }
     {
         let end = self.end();
@@ -663,20 +688,21 @@ impl<'a, P: Reaches + Drop, L: LastValues + Drop, B: ByteFacts, W: Transfer, R: 
             let up = self.leap_end(a, strip.last)?;
             let links = self.carry_links(a, strip.last)?;
             let number = strip.first;
-            let others = self.follow_if(inside | up | links, a, Step::Onward { number })?;
+            let others = self.follow_if(inside | up | links, a, WordStep::Onward { number })?;
             learnt = learnt | inside | up | links | others;
             from = self.uneven_from(a, strip.last + 1);
         }
         Ok(learnt)
     }
 
-    /// So, and before that back from the beginning of each of its stretches.
-    fn carry_address(&mut self, a: u32) -> Result<bool, Halt>
+    /// Carries the value of a byte back from the beginning of each of its stretches, and then over
+    /// all that may not write it.
+    fn carry_address(&mut self, a: u32) -> Result<bool, LearnError>
         requires tracked { IsTracked a (state_of (reader P.timeline L.values) W.sets W.moves R.rules B.store self.old) }
         requires writings { AreWritings (state_of (reader P.timeline L.values) W.sets W.moves R.rules B.store self.old) }
         requires open { self.old.complete ≡ false }
         ensures grows { Grows (state_of (reader P.timeline L.values) W.sets W.moves R.rules B.store self.old) (state_of (reader P.timeline L.values) W.sets W.moves R.rules B.store self.new) }
-        ensures drew { IfOk result (λ learnt. Drew (state_of (reader P.timeline L.values) W.sets W.moves R.rules B.store self.old) (state_of (reader P.timeline L.values) W.sets W.moves R.rules B.store self.new) learnt (λ _. ⊤)) }
+        ensures inferred { IfOk result (λ learnt. HasInferred (state_of (reader P.timeline L.values) W.sets W.moves R.rules B.store self.old) (state_of (reader P.timeline L.values) W.sets W.moves R.rules B.store self.new) learnt (λ _. ⊤)) }
         ensures halt { IfErr result (λ h. IsHalt (state_of (reader P.timeline L.values) W.sets W.moves R.rules B.store self.new) h) }
     {
         let back = self.carry_edges(a)?;
@@ -684,13 +710,14 @@ impl<'a, P: Reaches + Drop, L: LastValues + Drop, B: ByteFacts, W: Transfer, R: 
         Ok(back | onward)
     }
 
-    /// The value of a tracked byte, where something was learnt of it lately, and it isn't like the first one of its word, which it follows.
-    fn carry_told(&mut self, k: usize) -> Result<bool, Halt>
+    /// The value of a tracked byte, where something was learnt of it lately, and it isn't like the
+    /// first one of its word, which it follows.
+    fn carry_told(&mut self, k: usize) -> Result<bool, LearnError>
         requires within { k < length (state_of (reader P.timeline L.values) W.sets W.moves R.rules B.store self.old).known.store.tracked }
         requires writings { AreWritings (state_of (reader P.timeline L.values) W.sets W.moves R.rules B.store self.old) }
         requires open { self.old.complete ≡ false }
         ensures grows { Grows (state_of (reader P.timeline L.values) W.sets W.moves R.rules B.store self.old) (state_of (reader P.timeline L.values) W.sets W.moves R.rules B.store self.new) }
-        ensures drew { IfOk result (λ learnt. Drew (state_of (reader P.timeline L.values) W.sets W.moves R.rules B.store self.old) (state_of (reader P.timeline L.values) W.sets W.moves R.rules B.store self.new) learnt (λ _. ⊤)) }
+        ensures inferred { IfOk result (λ learnt. HasInferred (state_of (reader P.timeline L.values) W.sets W.moves R.rules B.store self.old) (state_of (reader P.timeline L.values) W.sets W.moves R.rules B.store self.new) learnt (λ _. ⊤)) }
         ensures halt { IfErr result (λ h. IsHalt (state_of (reader P.timeline L.values) W.sets W.moves R.rules B.store self.new) h) }
     {
         let a = self.address(k);
@@ -701,11 +728,11 @@ impl<'a, P: Reaches + Drop, L: LastValues + Drop, B: ByteFacts, W: Transfer, R: 
     }
 
     /// The values of the tracked bytes of which something was learnt lately.
-    pub(super) fn carry_all_told(&mut self) -> Result<bool, Halt>
+    pub(super) fn carry_all_told(&mut self) -> Result<bool, LearnError>
         requires writings { AreWritings (state_of (reader P.timeline L.values) W.sets W.moves R.rules B.store self.old) }
         requires open { self.old.complete ≡ false }
         ensures grows { Grows (state_of (reader P.timeline L.values) W.sets W.moves R.rules B.store self.old) (state_of (reader P.timeline L.values) W.sets W.moves R.rules B.store self.new) }
-        ensures drew { IfOk result (λ learnt. Drew (state_of (reader P.timeline L.values) W.sets W.moves R.rules B.store self.old) (state_of (reader P.timeline L.values) W.sets W.moves R.rules B.store self.new) learnt (λ _. ⊤)) }
+        ensures inferred { IfOk result (λ learnt. HasInferred (state_of (reader P.timeline L.values) W.sets W.moves R.rules B.store self.old) (state_of (reader P.timeline L.values) W.sets W.moves R.rules B.store self.new) learnt (λ _. ⊤)) }
         ensures halt { IfErr result (λ h. IsHalt (state_of (reader P.timeline L.values) W.sets W.moves R.rules B.store self.new) h) }
     {
         let count = self.tracked_count();
@@ -725,13 +752,14 @@ impl<'a, P: Reaches + Drop, L: LastValues + Drop, B: ByteFacts, W: Transfer, R: 
         self.recent.begin();
     }
 
-    /// The values of all tracked bytes. One that is like the last that was gone over is carried as that one is.
-    pub(super) fn carry_tracked(&mut self) -> Result<bool, Halt>
+    /// The values of all tracked bytes. One that is like the last that was gone over is carried as
+    /// that one is.
+    pub(super) fn carry_tracked(&mut self) -> Result<bool, LearnError>
         requires writings { AreWritings (state_of (reader P.timeline L.values) W.sets W.moves R.rules B.store self.old) }
         requires current { IsCurrent (state_of (reader P.timeline L.values) W.sets W.moves R.rules B.store self.old) }
         requires open { self.old.complete ≡ false }
         ensures grows { Grows (state_of (reader P.timeline L.values) W.sets W.moves R.rules B.store self.old) (state_of (reader P.timeline L.values) W.sets W.moves R.rules B.store self.new) }
-        ensures drew { IfOk result (λ learnt. Drew (state_of (reader P.timeline L.values) W.sets W.moves R.rules B.store self.old) (state_of (reader P.timeline L.values) W.sets W.moves R.rules B.store self.new) learnt (AllCarried)) }
+        ensures inferred { IfOk result (λ learnt. HasInferred (state_of (reader P.timeline L.values) W.sets W.moves R.rules B.store self.old) (state_of (reader P.timeline L.values) W.sets W.moves R.rules B.store self.new) learnt (AllCarried)) }
         ensures halt { IfErr result (λ h. IsHalt (state_of (reader P.timeline L.values) W.sets W.moves R.rules B.store self.new) h) }
     {
         let count = self.tracked_count();

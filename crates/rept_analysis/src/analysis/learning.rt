@@ -7,13 +7,13 @@ ghost use Rattle.rept_reason.specs.Facts.{told};
 ghost use Rattle.rept_analysis.specs.Begun.{IsLogWith};
 ghost use Rattle.rept_analysis.specs.State.{state_of, reader};
 ghost use Rattle.rept_report.specs.Why.{fact_of};
-ghost use Rattle.rept_analysis.specs.Drawing.{Knows, IsTracked, Grows, Drew, IsFollowing, IsBrought, IsHalt, IsLearntAt, IsRowAddress, HasPlace};
+ghost use Rattle.rept_analysis.specs.Inferring.{Knows, IsTracked, Grows, HasInferred, IsFollowing, IsBrought, IsHalt, IsLearntAt, IsRowAddress, HasPlace};
 ghost use Rattle.rept_analysis.specs.Told.{ByteToldAs, ToldAs, Tracks};
 
 use super::Analysis;
-use crate::halt::Halt;
+use crate::halt::LearnError;
 use rept_isa::Reg;
-use rept_log::{Answer, LastValues};
+use rept_log::{LastValues, LearnOutcome};
 use rept_partial::Flat;
 use rept_reach::Reaches;
 use rept_reason::Cell;
@@ -31,7 +31,7 @@ impl<'a, P: Reaches + Drop, L: LastValues + Drop, B: ByteFacts, W: Transfer, R: 
     R,
 > {
     /// Learns a register's value that follows.
-    fn tell(&mut self, point: u32, r: Reg, value: u32) -> Answer
+    fn tell(&mut self, point: u32, r: Reg, value: u32) -> LearnOutcome
         requires point { point ≤ (P.timeline self.old.paths).legs.count }
         requires named { 0 < r }
         requires follows { value < 2 ^ 32 → IsFollowing (state_of (reader P.timeline L.values) W.sets W.moves R.rules B.store self.old) (fact_of point (Register r) value) }
@@ -51,7 +51,7 @@ impl<'a, P: Reaches + Drop, L: LastValues + Drop, B: ByteFacts, W: Transfer, R: 
         a: u32,
         value: u8,
         keep: bool,
-    ) -> Result<Answer, OutOfMemory>
+    ) -> Result<LearnOutcome, OutOfMemory>
         requires point { point ≤ (P.timeline self.old.paths).moments.end }
         requires tracked { IsTracked a (state_of (reader P.timeline L.values) W.sets W.moves R.rules B.store self.old) }
         requires follows { IsFollowing (state_of (reader P.timeline L.values) W.sets W.moves R.rules B.store self.old) (fact_of point (Byte a) value) }
@@ -75,13 +75,13 @@ impl<'a, P: Reaches + Drop, L: LastValues + Drop, B: ByteFacts, W: Transfer, R: 
     }
 
     /// Adds a value that follows, and says whether it was new.
-    pub(super) fn learn(&mut self, point: u32, r: Reg, value: u32) -> Result<bool, Halt>
+    pub(super) fn learn(&mut self, point: u32, r: Reg, value: u32) -> Result<bool, LearnError>
         requires point { point ≤ (P.timeline self.old.paths).legs.count }
         requires named { 0 < r }
         requires follows { value < 2 ^ 32 → IsFollowing (state_of (reader P.timeline L.values) W.sets W.moves R.rules B.store self.old) (fact_of point (Register r) value) }
         requires open { self.old.complete ≡ false }
         ensures grows { Grows (state_of (reader P.timeline L.values) W.sets W.moves R.rules B.store self.old) (state_of (reader P.timeline L.values) W.sets W.moves R.rules B.store self.new) }
-        ensures drew { IfOk result (λ learnt. Drew (state_of (reader P.timeline L.values) W.sets W.moves R.rules B.store self.old) (state_of (reader P.timeline L.values) W.sets W.moves R.rules B.store self.new) learnt (Knows point (Register r) value)) }
+        ensures inferred { IfOk result (λ learnt. HasInferred (state_of (reader P.timeline L.values) W.sets W.moves R.rules B.store self.old) (state_of (reader P.timeline L.values) W.sets W.moves R.rules B.store self.new) learnt (Knows point (Register r) value)) }
         ensures known { IfOk result (λ _. Knows point (Register r) value (state_of (reader P.timeline L.values) W.sets W.moves R.rules B.store self.new)) }
         ensures log { IsLogWith (fact_of point (Register r) value) self.old.known.log self.new.known.log }
         ensures loud { IfErr result (λ _. (w : ℕ) × ((told self.old.known.log point (Register r) ≡ Some w) × (w ≢ value))) }
@@ -89,11 +89,11 @@ impl<'a, P: Reaches + Drop, L: LastValues + Drop, B: ByteFacts, W: Transfer, R: 
         ensures halt { IfErr result (λ h. IsHalt (state_of (reader P.timeline L.values) W.sets W.moves R.rules B.store self.new) h) }
     {
         match self.tell(point, r, value) {
-            Answer::Old => Ok(false),
-            Answer::New => Ok(true),
-            Answer::Clash(known) => {
+            LearnOutcome::Old => Ok(false),
+            LearnOutcome::New => Ok(true),
+            LearnOutcome::Clash(known) => {
                 let cell = Cell::Register(r);
-                Err(Halt::Clash {
+                Err(LearnError::Clash {
                     point,
                     cell,
                     known,
@@ -117,7 +117,7 @@ impl<'a, P: Reaches + Drop, L: LastValues + Drop, B: ByteFacts, W: Transfer, R: 
         a: u32,
         value: u8,
         keep: bool,
-    ) -> Result<bool, Halt>
+    ) -> Result<bool, LearnError>
         requires point { point ≤ (P.timeline self.old.paths).moments.end }
         requires tracked { IsTracked a (state_of (reader P.timeline L.values) W.sets W.moves R.rules B.store self.old) }
         requires follows { IsFollowing (state_of (reader P.timeline L.values) W.sets W.moves R.rules B.store self.old) (fact_of point (Byte a) value) }
@@ -125,21 +125,21 @@ impl<'a, P: Reaches + Drop, L: LastValues + Drop, B: ByteFacts, W: Transfer, R: 
         requires place { HasPlace keep point a (state_of (reader P.timeline L.values) W.sets W.moves R.rules B.store self.old) }
         requires open { self.old.complete ≡ false }
         ensures grows { Grows (state_of (reader P.timeline L.values) W.sets W.moves R.rules B.store self.old) (state_of (reader P.timeline L.values) W.sets W.moves R.rules B.store self.new) }
-        ensures drew { IfOk result (λ learnt. Drew (state_of (reader P.timeline L.values) W.sets W.moves R.rules B.store self.old) (state_of (reader P.timeline L.values) W.sets W.moves R.rules B.store self.new) learnt (Knows point (Byte a) value)) }
+        ensures inferred { IfOk result (λ learnt. HasInferred (state_of (reader P.timeline L.values) W.sets W.moves R.rules B.store self.old) (state_of (reader P.timeline L.values) W.sets W.moves R.rules B.store self.new) learnt (Knows point (Byte a) value)) }
         ensures known { IfOk result (λ _. Knows point (Byte a) value (state_of (reader P.timeline L.values) W.sets W.moves R.rules B.store self.new)) }
         ensures still { self.new.work ≡ self.old.work }
         ensures halt { IfErr result (λ h. IsHalt (state_of (reader P.timeline L.values) W.sets W.moves R.rules B.store self.new) h) }
     {
         match self.tell_byte(point, a, value, keep) {
-            Err(_) => Err(Halt::OutOfMemory),
-            Ok(Answer::Old) => Ok(false),
-            Ok(Answer::New) => {
+            Err(_) => Err(LearnError::OutOfMemory),
+            Ok(LearnOutcome::Old) => Ok(false),
+            Ok(LearnOutcome::New) => {
                 self.note_byte(a);
                 Ok(true)
             }
-            Ok(Answer::Clash(known)) => {
+            Ok(LearnOutcome::Clash(known)) => {
                 let cell = Cell::Byte(a);
-                Err(Halt::Clash {
+                Err(LearnError::Clash {
                     point,
                     cell,
                     known,
@@ -150,12 +150,12 @@ impl<'a, P: Reaches + Drop, L: LastValues + Drop, B: ByteFacts, W: Transfer, R: 
     }
 
     /// Adds the value if there is one, and the register is not x0.
-    pub(super) fn learn_if(&mut self, point: u32, r: Reg, value: Flat) -> Result<bool, Halt>
+    pub(super) fn learn_if(&mut self, point: u32, r: Reg, value: Flat) -> Result<bool, LearnError>
         requires point { point ≤ (P.timeline self.old.paths).legs.count }
         requires follows { (v : ℕ) → value ≡ Flat.Known v → 0 < r → r < 32 → v < 2 ^ 32 → IsFollowing (state_of (reader P.timeline L.values) W.sets W.moves R.rules B.store self.old) (fact_of point (Register r) v) }
         requires open { self.old.complete ≡ false }
         ensures grows { Grows (state_of (reader P.timeline L.values) W.sets W.moves R.rules B.store self.old) (state_of (reader P.timeline L.values) W.sets W.moves R.rules B.store self.new) }
-        ensures drew { IfOk result (λ learnt. Drew (state_of (reader P.timeline L.values) W.sets W.moves R.rules B.store self.old) (state_of (reader P.timeline L.values) W.sets W.moves R.rules B.store self.new) learnt (IsLearntAt point r value)) }
+        ensures inferred { IfOk result (λ learnt. HasInferred (state_of (reader P.timeline L.values) W.sets W.moves R.rules B.store self.old) (state_of (reader P.timeline L.values) W.sets W.moves R.rules B.store self.new) learnt (IsLearntAt point r value)) }
         ensures halt { IfErr result (λ h. IsHalt (state_of (reader P.timeline L.values) W.sets W.moves R.rules B.store self.new) h) }
     {
         if r.number() == 0 {

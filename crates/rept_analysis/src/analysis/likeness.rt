@@ -1,9 +1,10 @@
-//! Bytes that go the same ways as another one: what is known of them follows from what is known of that one, and the rows that may write that one may write them.
+//! Bytes that go the same ways as another one: what is known of them follows from what is known of
+//! that one, and the rows that may write that one may write them.
 
 ghost use Rattle.std.specs.Prelude.{◌≡◌, ◌≤◌, true, IfSome};
 ghost use Rattle.rept_analysis.specs.State.{state_of, reader};
-ghost use Rattle.rept_analysis.specs.Drawing.{AreWritings, IsEven};
-ghost use Rattle.rept_analysis.specs.Likeness.{IsToldBy, AreHitsShared, IsLike, IsLikeAny};
+ghost use Rattle.rept_analysis.specs.Inferring.{AreWritings, IsEven};
+ghost use Rattle.rept_analysis.specs.Likeness.{IsToldBy, AreHitsShared, IsLikeByte, IsLikeAny};
 
 use super::Analysis;
 use crate::pairs::Pairs;
@@ -13,7 +14,8 @@ use rept_span::Transfer;
 use rept_versions::ByteFacts;
 use rept_view::RowRules;
 
-/// Of so many rows that may write a byte it is looked at whether they may write another one, for each piece in which the same is known of both.
+/// Of so many rows that may write a byte it is looked at whether they may write another one, for
+/// each piece in which the same is known of both.
 const HITS: usize = 16;
 
 /// A word's bytes begin at a multiple of it.
@@ -43,7 +45,8 @@ impl<'a, P: Reaches + Drop, L: LastValues + Drop, B: ByteFacts, W: Transfer, R: 
         }
     }
 
-    /// Whether what is known of a byte at any number tells what is known of another one there. Answers how many pieces there are in which the same is known of both, if it does.
+    /// Whether what is known of a byte at any number tells what is known of another one there.
+    /// Answers how many pieces there are in which the same is known of both, if it does.
     fn is_told_by(&self, a: u32, b: u32) -> Option<usize>
         ensures { IfSome result (λ _. IsToldBy a b (state_of (reader P.timeline L.values) W.sets W.moves R.rules B.store self.now)) }
     {
@@ -63,7 +66,8 @@ impl<'a, P: Reaches + Drop, L: LastValues + Drop, B: ByteFacts, W: Transfer, R: 
         Some(pieces)
     }
 
-    /// Whether each row of the list that may write a byte may write another one: of so many it is looked at.
+    /// Whether each row of the list that may write a byte may write another one: of so many it is
+    /// looked at.
     fn are_hits_shared(&self, a: u32, b: u32, most: usize) -> bool
         requires writings { AreWritings (state_of (reader P.timeline L.values) W.sets W.moves R.rules B.store self.now) }
         ensures { result ≡ true → AreHitsShared a b (state_of (reader P.timeline L.values) W.sets W.moves R.rules B.store self.now) }
@@ -86,7 +90,7 @@ impl<'a, P: Reaches + Drop, L: LastValues + Drop, B: ByteFacts, W: Transfer, R: 
     /// Whether it is seen that a byte is like another one.
     pub(super) fn is_like(&self, a: u32, b: u32) -> bool
         requires writings { AreWritings (state_of (reader P.timeline L.values) W.sets W.moves R.rules B.store self.now) }
-        ensures { result ≡ true → IsLike a b (state_of (reader P.timeline L.values) W.sets W.moves R.rules B.store self.now) }
+        ensures { result ≡ true → IsLikeByte a b (state_of (reader P.timeline L.values) W.sets W.moves R.rules B.store self.now) }
     {
         match self.is_told_by(a, b) {
             None => false,

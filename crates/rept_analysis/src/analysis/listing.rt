@@ -3,7 +3,7 @@
 ghost use Rattle.std.specs.Prelude.{◌≡◌, ◌∷◌, ◌++◌, [], ◌+◌, ◌^◌, ◌<◌, ◌≤◌, ℕ, length, true, false, Some, None, IsSome, set, slice_get};
 ghost use Rattle.rept_alias.specs.Accesses.{call_hits};
 ghost use Rattle.rept_analysis.specs.State.{state_of, with_writing, reader};
-ghost use Rattle.rept_analysis.specs.Drawing.{past, Grows, IsFitted, AreWritings, AreWritingsBefore, AreExact, IsUncut};
+ghost use Rattle.rept_analysis.specs.Inferring.{past, Grows, IsFitted, AreWritings, AreWritingsBefore, AreExact, IsUncut};
 ghost use Rattle.rept_isa.specs.declared.row.StepRow.{StepRow};
 ghost use Rattle.rept_reach.specs.Reaching.{IsExtent};
 ghost use Rattle.rept_report.specs.Timeline.{IsRowAt};
@@ -36,7 +36,8 @@ impl<'a, P: Reaches + Drop, L: LastValues + Drop, B: ByteFacts, W: Transfer, R: 
     W,
     R,
 > {
-    /// The index of the first row from index k to before another one that may write the byte, in the list of those that may write.
+    /// The index of the first row from index k to before another one that may write the byte, in
+    /// the list of those that may write.
     pub(super) fn next_hit(&self, k: usize, end: usize, a: u32) -> Option<usize>
         ensures next { IsNextHitBelow self.now.work.writing k end a result }
         ensures few { length self.now.work.writing < 2 ^ 64 }
@@ -45,7 +46,8 @@ impl<'a, P: Reaches + Drop, L: LastValues + Drop, B: ByteFacts, W: Transfer, R: 
         self.writing.next_hit(k, end, a)
     }
 
-    /// The index of the first row from index k on in that list that may write the byte and may fall between two numbers.
+    /// The index of the first row from index k on in that list that may write the byte and may act
+    /// between two numbers.
     pub(super) fn next_meeting(&self, k: usize, m: u32, w: u32, a: u32) -> Option<usize>
         ensures next { IsNextMeeting self.now.work.writing k (record { from = m; to = w; address = a }) result }
         ensures few { length self.now.work.writing < 2 ^ 64 }
@@ -54,14 +56,16 @@ impl<'a, P: Reaches + Drop, L: LastValues + Drop, B: ByteFacts, W: Transfer, R: 
         self.writing.next_meeting(k, m, w, a)
     }
 
-    /// A number at which and after which no row of that list falls that stands at a lower number and may write the byte.
+    /// A number at which and after which no row of that list may act that stands at a lower number
+    /// and may write the byte.
     pub(super) fn free_since(&self, number: u32, a: u32) -> u32
         ensures { AreInOrder self.now.work.writing → IsFreeSince self.now.work.writing number a result }
     {
         self.writing.free_since(number, a)
     }
 
-    /// A number before which no row of that list falls that stands at this one or a higher one and may write the byte.
+    /// A number before which no row of that list may act that stands at this one or a higher one
+    /// and may write the byte.
     pub(super) fn free_until(&self, number: u32, a: u32) -> u32
         ensures { AreInOrder self.now.work.writing → IsFreeUntil self.now.work.writing number a result }
     {
@@ -76,7 +80,8 @@ impl<'a, P: Reaches + Drop, L: LastValues + Drop, B: ByteFacts, W: Transfer, R: 
         self.writing.at(k)
     }
 
-    /// The index in that list after the last row from an index on before a moment that may write the byte, or that index.
+    /// The index in that list after the last row from an index on before a moment that may write
+    /// the byte, or that index.
     pub(super) fn past_hit(&self, low: usize, point: u32, a: u32) -> usize
         requires { low ≤ length self.now.work.writing }
         ensures bound { result ≤ length self.now.work.writing }
@@ -100,7 +105,8 @@ impl<'a, P: Reaches + Drop, L: LastValues + Drop, B: ByteFacts, W: Transfer, R: 
         self.writing.before(number)
     }
 
-    /// Puts a row in the place of the one at an index of that list, if by the list that one may write many addresses.
+    /// Puts a row in the place of the one at an index of that list, if by the list that one may
+    /// write many addresses.
     fn put_writing(&mut self, k: usize, writing: Writing) -> bool
         requires open { self.old.complete ≡ false }
         requires within { k < length self.old.work.writing }
@@ -132,8 +138,8 @@ impl<'a, P: Reaches + Drop, L: LastValues + Drop, B: ByteFacts, W: Transfer, R: 
         self.has_put = false;
     }
 
-    /// Whether a row was put in the list anew since the last store of unknown address that was looked at: then bytes may be carried
-    /// that weren't before.
+    /// Whether a row was put in the list anew since the last store of unknown address that was
+    /// looked at: then bytes may be carried that weren't before.
     pub(super) fn is_freed(&self) -> bool {
         self.is_freed
     }
@@ -153,7 +159,8 @@ impl<'a, P: Reaches + Drop, L: LastValues + Drop, B: ByteFacts, W: Transfer, R: 
         }
     }
 
-    /// An entry of that list: row i, which stands at a number and may write these bytes, with the numbers between which it may fall.
+    /// An entry of that list: row i, which stands at a number and may write these bytes, with the
+    /// numbers between which it may act.
     fn writing_of(&self, i: u32, row: &StepRow, at: u32, access: CallAccess) -> Writing
         requires row { (P.timeline self.now.paths).legs.row i ≡ Some row.now }
         ensures row { result.row ≡ i }
@@ -172,7 +179,8 @@ impl<'a, P: Reaches + Drop, L: LastValues + Drop, B: ByteFacts, W: Transfer, R: 
         }
     }
 
-    /// Puts the bytes that row i may write by all that is known by now in the list, where it may write many by the list.
+    /// Puts the bytes that row i may write by all that is known by now in the list, where it may
+    /// write many by the list.
     fn list_anew(&mut self, k: usize, i: u32, row: &StepRow)
         requires inside { i < (P.timeline self.old.paths).legs.count }
         requires row { (P.timeline self.old.paths).legs.row i ≡ Some row.now }
@@ -192,7 +200,8 @@ impl<'a, P: Reaches + Drop, L: LastValues + Drop, B: ByteFacts, W: Transfer, R: 
         }
     }
 
-    /// So for a store that may stand in the list or not; nothing for another row, and nothing in the first round.
+    /// Puts the bytes that row i may write in the list, for a store that may stand in the list or
+    /// not. For another row, and in the first round, it does nothing.
     pub(super) fn free(&mut self, i: u32, row: &StepRow)
         requires inside { i < (P.timeline self.old.paths).legs.count }
         requires row { (P.timeline self.old.paths).legs.row i ≡ Some row.now }
@@ -270,7 +279,8 @@ impl<'a, P: Reaches + Drop, L: LastValues + Drop, B: ByteFacts, W: Transfer, R: 
         self.paths.row_at(number)
     }
 
-    /// Adds the row before which a moment lies, if there is one and it may write, by the facts of which the sets are.
+    /// Adds the row before which a moment lies, if there is one and it may write, by the facts of
+    /// which the sets are.
     fn list_at(&mut self, number: u32)
         requires open { self.old.complete ≡ false }
         requires inside { number ≤ (P.timeline self.old.paths).moments.end }

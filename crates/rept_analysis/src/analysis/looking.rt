@@ -13,10 +13,10 @@ ghost use Rattle.rept_report.specs.Log.{oldest};
 ghost use Rattle.rept_alias.specs.Accesses.{call_hits};
 ghost use Rattle.rept_analysis.specs.Moments.{moment};
 ghost use Rattle.rept_analysis.specs.State.{setting_of, state_of, reader};
-ghost use Rattle.rept_analysis.specs.Drawing.{IsFitted, SameFacts, IsAccess, IsSparedNow};
+ghost use Rattle.rept_analysis.specs.Inferring.{IsFitted, SameFacts, IsAccess, IsSparedNow};
 
 use super::Analysis;
-use crate::moment::Moment;
+use crate::moment::RegisterView;
 use crate::trail::PathTrail;
 use crate::turns::is_wrong_turn;
 use rept_alias::CallAccess;
@@ -37,14 +37,15 @@ impl<'a, P: Reaches + Drop, L: LastValues + Drop, B: ByteFacts, W: Transfer, R: 
     W,
     R,
 > {
-    /// The bytes that row i may write, by the facts at places below the limit and the sets as they were filled.
+    /// The bytes that row i may write, by the facts at places below the limit and the sets as they
+    /// were filled.
     fn access_below(&self, limit: u32, i: u32, row: &StepRow) -> CallAccess
         requires { i < (P.timeline self.now.paths).legs.count }
         ensures { (a : ℕ) → a < 2 ^ 32 → call_hits result a ≡ R.rules.touched row.now (moment W.sets (oldest limit self.now.known.log) self.now.spans i) (contents self.now.exe).end a }
     {
         let _len = self.known.len();
         let image_end = self.dump.image_end();
-        let view = Moment {
+        let view = RegisterView {
             facts: &self.known,
             spans: &self.spans,
             limit,
@@ -63,7 +64,8 @@ impl<'a, P: Reaches + Drop, L: LastValues + Drop, B: ByteFacts, W: Transfer, R: 
         self.access_below(self.filled, i, row)
     }
 
-    /// The bytes that row i may write, by all facts that are known by now and the sets as they were filled.
+    /// The bytes that row i may write, by all facts that are known by now and the sets as they were
+    /// filled.
     pub(super) fn access_now(&self, i: u32, row: &StepRow) -> CallAccess
         requires inside { i < (P.timeline self.now.paths).legs.count }
         requires row { (P.timeline self.now.paths).legs.row i ≡ Some row.now }
@@ -87,7 +89,8 @@ impl<'a, P: Reaches + Drop, L: LastValues + Drop, B: ByteFacts, W: Transfer, R: 
         }
     }
 
-    /// Whether row i, if there is one, went another way than the facts at places below the limit say.
+    /// Whether row i, if there is one, went another way than the facts at places below the limit
+    /// say.
     fn is_wrong(&self, limit: u32, i: u32) -> bool
         requires inside { i < (P.timeline self.now.paths).legs.count }
         ensures wrong { result ≡ true → IsWrongTurn (setting_of (reader P.timeline L.values) W.sets W.moves R.rules self.now) (told (oldest limit self.now.known.log)) i }
@@ -139,7 +142,8 @@ impl<'a, P: Reaches + Drop, L: LastValues + Drop, B: ByteFacts, W: Transfer, R: 
         filled
     }
 
-    /// The sets and turns by the facts at places below the limit: a conflict that these show, if there is one.
+    /// The sets and turns by the facts at places below the limit: a conflict that these show, if
+    /// there is one.
     pub(super) fn look(&mut self, limit: u32) -> Option<ConflictKind>
         requires open { self.old.complete ≡ false }
         requires within { limit ≤ length self.old.known.log }
@@ -159,7 +163,8 @@ impl<'a, P: Reaches + Drop, L: LastValues + Drop, B: ByteFacts, W: Transfer, R: 
         }
     }
 
-    /// Whether the facts at places below the limit leave no set empty and no turn wrong. The sets are then theirs.
+    /// Whether the facts at places below the limit leave no set empty and no turn wrong. The sets
+    /// are then theirs.
     pub(super) fn is_quiet(&mut self, limit: u32) -> bool
         requires open { self.old.complete ≡ false }
         requires within { limit ≤ length self.old.known.log }

@@ -6,13 +6,13 @@ ghost use Rattle.rept_report.specs.Conflicts.{IsQuiet};
 ghost use Rattle.rept_report.specs.declared.conflict.ConflictKind.{ConflictKind};
 ghost use Rattle.rept_analysis.specs.Begun.{ends_told, KnowsEnds, HasEndsFirst, LearnsEndsFirst};
 ghost use Rattle.rept_analysis.specs.State.{IsLined, setting_of, state_of, reader};
-ghost use Rattle.rept_analysis.specs.Drawing.{IsHalt, IsSettled, IsFitted, SameFacts, Continues, AreWritings, AreExact, IsUncut};
+ghost use Rattle.rept_analysis.specs.Inferring.{IsHalt, IsSettled, IsFitted, SameFacts, Continues, AreWritings, AreExact, IsUncut};
 ghost use Rattle.rept_analysis.specs.Work.{left};
 ghost use Rattle.rept_report.specs.Log.{oldest};
 ghost use Rattle.rept_analysis.specs.Refined.{KeepsKnown, IsEnded, Outcome};
 
 use super::Analysis;
-use crate::halt::Halt;
+use crate::halt::LearnError;
 use crate::stop::Stop;
 use rept_log::LastValues;
 use rept_reach::Reaches;
@@ -29,8 +29,8 @@ impl<'a, P: Reaches + Drop, L: LastValues + Drop, B: ByteFacts, W: Transfer, R: 
     W,
     R,
 > {
-    /// Whether the facts at places below the limit leave no set empty and no turn wrong. The sets are then theirs, and the rows that
-    /// may write are listed.
+    /// Whether the facts at places below the limit leave no set empty and no turn wrong. The sets
+    /// are then theirs, and the rows that may write are listed.
     fn ready(&mut self, limit: u32) -> bool
         requires open { self.old.complete ≡ false }
         requires within { limit ≤ length self.old.known.log }
@@ -50,24 +50,25 @@ impl<'a, P: Reaches + Drop, L: LastValues + Drop, B: ByteFacts, W: Transfer, R: 
         true
     }
 
-    /// Forgets how far rules were drawn.
+    /// Forgets how far rules were applied.
     fn restart(&mut self)
         requires open { self.old.complete ≡ false }
         ensures continues { Continues (state_of (reader P.timeline L.values) W.sets W.moves R.rules B.store self.old) (state_of (reader P.timeline L.values) W.sets W.moves R.rules B.store self.new) }
         ensures facts { self.new.known ≡ self.old.known }
-        ensures draws { self.new.work.draws ≡ self.old.work.draws }
-        ensures rows { length self.new.work.drawn ≡ (P.timeline self.old.paths).legs.count }
+        ensures infers { self.new.work.infers ≡ self.old.work.infers }
+        ensures rows { length self.new.work.inferred ≡ (P.timeline self.old.paths).legs.count }
         ensures uncut { IsUncut (state_of (reader P.timeline L.values) W.sets W.moves R.rules B.store self.new) }
     {
         let _paths = &self.paths;
-        self.drawn.clear();
+        self.inferred.clear();
     }
 
-    /// Rounds until nothing is new, each with the sets of the facts before it. Answers whether these have values.
-    fn settle(&mut self) -> Result<bool, Halt>
+    /// Rounds until nothing is new, each with the sets of the facts before it. Answers whether
+    /// these have values.
+    fn settle(&mut self) -> Result<bool, LearnError>
         requires open { self.old.complete ≡ false }
         requires uncut { IsUncut (state_of (reader P.timeline L.values) W.sets W.moves R.rules B.store self.old) }
-        ensures spent { self.new.work.draws ≤ self.old.work.draws + left self.old.work.drawn }
+        ensures spent { self.new.work.infers ≤ self.old.work.infers + left self.old.work.inferred }
         ensures continues { Continues (state_of (reader P.timeline L.values) W.sets W.moves R.rules B.store self.old) (state_of (reader P.timeline L.values) W.sets W.moves R.rules B.store self.new) }
         ensures more { KeepsKnown (state_of (reader P.timeline L.values) W.sets W.moves R.rules B.store self.old) (state_of (reader P.timeline L.values) W.sets W.moves R.rules B.store self.new) }
         ensures settled { result ≡ Ok true → IsSettled (state_of (reader P.timeline L.values) W.sets W.moves R.rules B.store self.new) }
@@ -95,7 +96,7 @@ impl<'a, P: Reaches + Drop, L: LastValues + Drop, B: ByteFacts, W: Transfer, R: 
         requires settled { IsSettled (state_of (reader P.timeline L.values) W.sets W.moves R.rules B.store self.old) }
         requires open { self.old.conflict ≡ None }
         ensures ended { IsEnded (state_of (reader P.timeline L.values) W.sets W.moves R.rules B.store self.old) (state_of (reader P.timeline L.values) W.sets W.moves R.rules B.store self.new) }
-        ensures still { self.new.work.draws ≡ self.old.work.draws }
+        ensures still { self.new.work.infers ≡ self.old.work.infers }
         ensures log { self.new.known.log ≡ self.old.known.log }
     {
         self.held();
@@ -110,7 +111,7 @@ impl<'a, P: Reaches + Drop, L: LastValues + Drop, B: ByteFacts, W: Transfer, R: 
         requires calm { self.old.conflict ≡ None }
         ensures outcome { Outcome (state_of (reader P.timeline L.values) W.sets W.moves R.rules B.store self.old) (state_of (reader P.timeline L.values) W.sets W.moves R.rules B.store self.new) result }
         ensures plain { result ≡ Err Stop.OutOfMemory → B.JOINS ≡ true → IsLined (P.timeline self.old.paths) → ⊥ }
-        ensures draws { self.new.work.draws ≤ self.old.work.draws + 12 * (P.timeline self.old.paths).legs.count }
+        ensures infers { self.new.work.infers ≤ self.old.work.infers + 12 * (P.timeline self.old.paths).legs.count }
         ensures begins { LearnsEndsFirst (state_of (reader P.timeline L.values) W.sets W.moves R.rules B.store self.old) → LearnsEndsFirst (state_of (reader P.timeline L.values) W.sets W.moves R.rules B.store self.new) }
         ensures ends { LearnsEndsFirst (state_of (reader P.timeline L.values) W.sets W.moves R.rules B.store self.old) → IsQuiet (setting_of (reader P.timeline L.values) W.sets W.moves R.rules self.old) (ends_told (setting_of (reader P.timeline L.values) W.sets W.moves R.rules self.old)) → (kind : ConflictKind) → result ≡ Err (Stop.Conflict kind) → KnowsEnds (setting_of (reader P.timeline L.values) W.sets W.moves R.rules self.old) (told (oldest self.new.shown self.new.known.log)) }
     {
@@ -125,11 +126,12 @@ impl<'a, P: Reaches + Drop, L: LastValues + Drop, B: ByteFacts, W: Transfer, R: 
         }
     }
 
-    /// Learns all that follows. A second call answers as the first did, but where memory ran out it goes on.
+    /// Learns all that follows. A second call answers as the first did, but where memory ran out it
+    /// goes on.
     pub(super) fn outcome(&mut self) -> Result<(), Stop>
         ensures outcome { Outcome (state_of (reader P.timeline L.values) W.sets W.moves R.rules B.store self.old) (state_of (reader P.timeline L.values) W.sets W.moves R.rules B.store self.new) result }
         ensures plain { result ≡ Err Stop.OutOfMemory → B.JOINS ≡ true → IsLined (P.timeline self.old.paths) → ⊥ }
-        ensures draws { self.new.work.draws ≤ self.old.work.draws + 12 * (P.timeline self.old.paths).legs.count }
+        ensures infers { self.new.work.infers ≤ self.old.work.infers + 12 * (P.timeline self.old.paths).legs.count }
         ensures begins { LearnsEndsFirst (state_of (reader P.timeline L.values) W.sets W.moves R.rules B.store self.old) → LearnsEndsFirst (state_of (reader P.timeline L.values) W.sets W.moves R.rules B.store self.new) }
         ensures ends { self.old.conflict ≡ None → LearnsEndsFirst (state_of (reader P.timeline L.values) W.sets W.moves R.rules B.store self.old) → IsQuiet (setting_of (reader P.timeline L.values) W.sets W.moves R.rules self.old) (ends_told (setting_of (reader P.timeline L.values) W.sets W.moves R.rules self.old)) → (kind : ConflictKind) → result ≡ Err (Stop.Conflict kind) → KnowsEnds (setting_of (reader P.timeline L.values) W.sets W.moves R.rules self.old) (told (oldest self.new.shown self.new.known.log)) }
         ensures again { (kind : ConflictKind) → self.old.conflict ≡ Some kind → (result ≡ Err (Stop.Conflict kind)) × ((state_of (reader P.timeline L.values) W.sets W.moves R.rules B.store self.new) ≡ (state_of (reader P.timeline L.values) W.sets W.moves R.rules B.store self.old)) }

@@ -9,12 +9,12 @@ ghost use Rattle.rept_report.specs.Log.{oldest};
 ghost use Rattle.rept_analysis.specs.Begun.{ends_told, KnowsEnds, HasEndsFirst, LearnsEndsFirst};
 ghost use Rattle.rept_analysis.specs.State.{IsLined, setting_of, state_of, reader};
 ghost use Rattle.rept_report.specs.Why.{fact_of};
-ghost use Rattle.rept_analysis.specs.Drawing.{IsHalt, SameFacts, IsClash};
+ghost use Rattle.rept_analysis.specs.Inferring.{IsHalt, SameFacts, IsClash};
 ghost use Rattle.rept_analysis.specs.Refined.{QuietBelow, ShowsTo, IsStopped, IsPaused, IsHalted, clash_kind};
 ghost use Rattle.rept_report.specs.Closure.{ClosureHas};
 
 use super::Analysis;
-use crate::halt::Halt;
+use crate::halt::LearnError;
 use crate::stop::Stop;
 use rept_log::LastValues;
 use rept_reach::Reaches;
@@ -77,7 +77,8 @@ impl<'a, P: Reaches + Drop, L: LastValues + Drop, B: ByteFacts, W: Transfer, R: 
         low
     }
 
-    /// Keeps a conflict, and answers the facts at places below the limit alone from now on, which show it.
+    /// Keeps a conflict, and answers the facts at places below the limit alone from now on, which
+    /// show it.
     fn stop_at(&mut self, limit: u32, kind: ConflictKind)
         requires open { self.old.complete ≡ false }
         requires within { limit ≤ length self.old.known.log }
@@ -85,7 +86,7 @@ impl<'a, P: Reaches + Drop, L: LastValues + Drop, B: ByteFacts, W: Transfer, R: 
         requires shows { ShowsTo (state_of (reader P.timeline L.values) W.sets W.moves R.rules B.store self.old) limit kind }
         requires kind { ClosureHas (setting_of (reader P.timeline L.values) W.sets W.moves R.rules self.old) kind }
         ensures ended { IsStopped (state_of (reader P.timeline L.values) W.sets W.moves R.rules B.store self.old) (state_of (reader P.timeline L.values) W.sets W.moves R.rules B.store self.new) kind }
-        ensures still { self.new.work.draws ≡ self.old.work.draws }
+        ensures still { self.new.work.infers ≡ self.old.work.infers }
         ensures log { self.new.known.log ≡ self.old.known.log }
         ensures limit { self.new.shown ≡ limit }
     {
@@ -98,7 +99,7 @@ impl<'a, P: Reaches + Drop, L: LastValues + Drop, B: ByteFacts, W: Transfer, R: 
         requires open { self.old.complete ≡ false }
         requires loud { IsQuiet (setting_of (reader P.timeline L.values) W.sets W.moves R.rules self.old) (told self.old.known.log) → ⊥ }
         ensures ended { IsStopped (state_of (reader P.timeline L.values) W.sets W.moves R.rules B.store self.old) (state_of (reader P.timeline L.values) W.sets W.moves R.rules B.store self.new) result }
-        ensures still { self.new.work.draws ≡ self.old.work.draws }
+        ensures still { self.new.work.infers ≡ self.old.work.infers }
         ensures log { self.new.known.log ≡ self.old.known.log }
         ensures ends { LearnsEndsFirst (state_of (reader P.timeline L.values) W.sets W.moves R.rules B.store self.old) → IsQuiet (setting_of (reader P.timeline L.values) W.sets W.moves R.rules self.old) (ends_told (setting_of (reader P.timeline L.values) W.sets W.moves R.rules self.old)) → KnowsEnds (setting_of (reader P.timeline L.values) W.sets W.moves R.rules self.old) (told (oldest self.new.shown self.new.known.log)) }
     {
@@ -115,7 +116,7 @@ impl<'a, P: Reaches + Drop, L: LastValues + Drop, B: ByteFacts, W: Transfer, R: 
         requires open { self.old.complete ≡ false }
         requires clash { IsClash (state_of (reader P.timeline L.values) W.sets W.moves R.rules B.store self.old) (fact_of point cell value) known }
         ensures ended { IsStopped (state_of (reader P.timeline L.values) W.sets W.moves R.rules B.store self.old) (state_of (reader P.timeline L.values) W.sets W.moves R.rules B.store self.new) result }
-        ensures still { self.new.work.draws ≡ self.old.work.draws }
+        ensures still { self.new.work.infers ≡ self.old.work.infers }
         ensures log { self.new.known.log ≡ self.old.known.log }
         ensures ends { HasEndsFirst (state_of (reader P.timeline L.values) W.sets W.moves R.rules B.store self.old) → IsQuiet (setting_of (reader P.timeline L.values) W.sets W.moves R.rules self.old) (ends_told (setting_of (reader P.timeline L.values) W.sets W.moves R.rules self.old)) → KnowsEnds (setting_of (reader P.timeline L.values) W.sets W.moves R.rules self.old) (told (oldest self.new.shown self.new.known.log)) }
     {
@@ -138,17 +139,18 @@ impl<'a, P: Reaches + Drop, L: LastValues + Drop, B: ByteFacts, W: Transfer, R: 
         requires later { self.old.shown ≤ limit }
         requires quiet { QuietBelow (state_of (reader P.timeline L.values) W.sets W.moves R.rules B.store self.old) limit }
         ensures ended { IsPaused (state_of (reader P.timeline L.values) W.sets W.moves R.rules B.store self.old) (state_of (reader P.timeline L.values) W.sets W.moves R.rules B.store self.new) }
-        ensures still { self.new.work.draws ≡ self.old.work.draws }
+        ensures still { self.new.work.infers ≡ self.old.work.infers }
         ensures log { self.new.known.log ≡ self.old.known.log }
     {
         self.shown = limit;
     }
 
-    /// Where memory ran out: answers all facts, where these show no conflict, and else names their least one.
+    /// Where memory ran out: answers all facts, where these show no conflict, and else names their
+    /// least one.
     fn stop_memory(&mut self) -> Stop
         requires open { self.old.complete ≡ false }
         ensures ended { IsHalted (state_of (reader P.timeline L.values) W.sets W.moves R.rules B.store self.old) (state_of (reader P.timeline L.values) W.sets W.moves R.rules B.store self.new) result }
-        ensures still { self.new.work.draws ≡ self.old.work.draws }
+        ensures still { self.new.work.infers ≡ self.old.work.infers }
         ensures log { self.new.known.log ≡ self.old.known.log }
         ensures ends { HasEndsFirst (state_of (reader P.timeline L.values) W.sets W.moves R.rules B.store self.old) → IsQuiet (setting_of (reader P.timeline L.values) W.sets W.moves R.rules self.old) (ends_told (setting_of (reader P.timeline L.values) W.sets W.moves R.rules self.old)) → (kind : ConflictKind) → result ≡ Stop.Conflict kind → KnowsEnds (setting_of (reader P.timeline L.values) W.sets W.moves R.rules self.old) (told (oldest self.new.shown self.new.known.log)) }
     {
@@ -163,24 +165,24 @@ impl<'a, P: Reaches + Drop, L: LastValues + Drop, B: ByteFacts, W: Transfer, R: 
     }
 
     /// What a halt comes to.
-    pub(super) fn stop(&mut self, halt: &Halt) -> Stop
+    pub(super) fn stop(&mut self, halt: &LearnError) -> Stop
         requires open { self.old.complete ≡ false }
         requires halt { IsHalt (state_of (reader P.timeline L.values) W.sets W.moves R.rules B.store self.old) halt.now }
         ensures ended { IsHalted (state_of (reader P.timeline L.values) W.sets W.moves R.rules B.store self.old) (state_of (reader P.timeline L.values) W.sets W.moves R.rules B.store self.new) result }
-        ensures still { self.new.work.draws ≡ self.old.work.draws }
+        ensures still { self.new.work.infers ≡ self.old.work.infers }
         ensures log { self.new.known.log ≡ self.old.known.log }
         ensures ends { HasEndsFirst (state_of (reader P.timeline L.values) W.sets W.moves R.rules B.store self.old) → IsQuiet (setting_of (reader P.timeline L.values) W.sets W.moves R.rules self.old) (ends_told (setting_of (reader P.timeline L.values) W.sets W.moves R.rules self.old)) → (kind : ConflictKind) → result ≡ Stop.Conflict kind → KnowsEnds (setting_of (reader P.timeline L.values) W.sets W.moves R.rules self.old) (told (oldest self.new.shown self.new.known.log)) }
         ensures plain { result ≡ Stop.OutOfMemory → B.JOINS ≡ true → IsLined (P.timeline self.old.paths) → ⊥ }
     {
         self.counted();
         match halt {
-            Halt::Clash {
+            LearnError::Clash {
                 point,
                 cell,
                 known,
                 value,
             } => Stop::Conflict(self.stop_clash(*point, *cell, *known, *value)),
-            Halt::OutOfMemory => self.stop_memory(),
+            LearnError::OutOfMemory => self.stop_memory(),
         }
     }
 }

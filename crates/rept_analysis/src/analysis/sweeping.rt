@@ -7,11 +7,11 @@ ghost use Rattle.rept_report.specs.Setting.{IsLast};
 ghost use Rattle.rept_report.specs.Timeline.{IsLastFrom};
 ghost use Rattle.rept_analysis.specs.Begun.{HasEndsAlone, HasEndsFirst, LearnsEndsFirst};
 ghost use Rattle.rept_analysis.specs.State.{setting_of, state_of, reader};
-ghost use Rattle.rept_analysis.specs.Drawing.{IsTracked, Grows, Drew, IsHalt, IsFitted, LastKnownAt, LastPointKnown, AreWritings, AreExact, IsUncut, RowsClosed, LastByteKnown, LastBytesKnown, SingleKnown, PointSingles, SinglesKnown, AllCarried, IsDrawnAll, LastKnownBelow};
+ghost use Rattle.rept_analysis.specs.Inferring.{IsTracked, Grows, HasInferred, IsHalt, IsFitted, LastKnownAt, LastPointKnown, AreWritings, AreExact, IsUncut, RowsClosed, LastByteKnown, LastBytesKnown, SingleKnown, PointSingles, SinglesKnown, AllCarried, IsInferredAll, LastKnownBelow};
 ghost use Rattle.rept_analysis.specs.Likeness.{IsCurrent};
 
 use super::Analysis;
-use crate::halt::Halt;
+use crate::halt::LearnError;
 use rept_isa::{Reg, register};
 use rept_log::LastValues;
 use rept_partial::Flat;
@@ -20,7 +20,7 @@ use rept_span::Transfer;
 use rept_versions::ByteFacts;
 use rept_view::RowRules;
 
-/// So many times all rows are drawn back and onward again in a round at most.
+/// How many times at most all rows are gone over back and onward again in a round.
 const PASSES: u32 = 16;
 
 impl<'a, P: Reaches + Drop, L: LastValues + Drop, B: ByteFacts, W: Transfer, R: RowRules> Analysis<
@@ -32,30 +32,30 @@ impl<'a, P: Reaches + Drop, L: LastValues + Drop, B: ByteFacts, W: Transfer, R: 
     R,
 > {
     /// All rows, from the last to the first.
-    fn draw_back(&mut self) -> Result<bool, Halt>
+    fn infer_back(&mut self) -> Result<bool, LearnError>
         requires writings { AreWritings (state_of (reader P.timeline L.values) W.sets W.moves R.rules B.store self.old) }
         requires open { self.old.complete ≡ false }
         requires uncut { IsUncut (state_of (reader P.timeline L.values) W.sets W.moves R.rules B.store self.old) }
         ensures grows { Grows (state_of (reader P.timeline L.values) W.sets W.moves R.rules B.store self.old) (state_of (reader P.timeline L.values) W.sets W.moves R.rules B.store self.new) }
-        ensures drew { IfOk result (λ learnt. Drew (state_of (reader P.timeline L.values) W.sets W.moves R.rules B.store self.old) (state_of (reader P.timeline L.values) W.sets W.moves R.rules B.store self.new) learnt (RowsClosed)) }
+        ensures inferred { IfOk result (λ learnt. HasInferred (state_of (reader P.timeline L.values) W.sets W.moves R.rules B.store self.old) (state_of (reader P.timeline L.values) W.sets W.moves R.rules B.store self.new) learnt (RowsClosed)) }
         ensures halt { IfErr result (λ h. IsHalt (state_of (reader P.timeline L.values) W.sets W.moves R.rules B.store self.new) h) }
     {
         let count = self.count();
         let mut learnt = false;
         for i in (0..count).rev() {
-            let new = self.draw_noted(i)?;
+            let new = self.infer_noted(i)?;
             learnt = learnt | new;
         }
         Ok(learnt)
     }
 
     /// The row before which a moment lies, if there is one and it may tell something new.
-    fn draw_at(&mut self, number: u32) -> Result<bool, Halt>
+    fn infer_at(&mut self, number: u32) -> Result<bool, LearnError>
         requires writings { AreWritings (state_of (reader P.timeline L.values) W.sets W.moves R.rules B.store self.old) }
         requires open { self.old.complete ≡ false }
         requires uncut { IsUncut (state_of (reader P.timeline L.values) W.sets W.moves R.rules B.store self.old) }
         ensures grows { Grows (state_of (reader P.timeline L.values) W.sets W.moves R.rules B.store self.old) (state_of (reader P.timeline L.values) W.sets W.moves R.rules B.store self.new) }
-        ensures drew { IfOk result (λ learnt. Drew (state_of (reader P.timeline L.values) W.sets W.moves R.rules B.store self.old) (state_of (reader P.timeline L.values) W.sets W.moves R.rules B.store self.new) learnt (λ _. ⊤)) }
+        ensures inferred { IfOk result (λ learnt. HasInferred (state_of (reader P.timeline L.values) W.sets W.moves R.rules B.store self.old) (state_of (reader P.timeline L.values) W.sets W.moves R.rules B.store self.new) learnt (λ _. ⊤)) }
         ensures halt { IfErr result (λ h. IsHalt (state_of (reader P.timeline L.values) W.sets W.moves R.rules B.store self.new) h) }
     {
         match self.row_at(number) {
@@ -63,24 +63,24 @@ impl<'a, P: Reaches + Drop, L: LastValues + Drop, B: ByteFacts, W: Transfer, R: 
                 self.fresh.note_none(number);
                 Ok(false)
             }
-            Some(i) => self.draw_fresh(number, i),
+            Some(i) => self.infer_fresh(number, i),
         }
     }
 
     /// All rows that may tell something new, in the order of their moments.
-    fn draw_onward(&mut self) -> Result<bool, Halt>
+    fn infer_onward(&mut self) -> Result<bool, LearnError>
         requires writings { AreWritings (state_of (reader P.timeline L.values) W.sets W.moves R.rules B.store self.old) }
         requires open { self.old.complete ≡ false }
         requires uncut { IsUncut (state_of (reader P.timeline L.values) W.sets W.moves R.rules B.store self.old) }
         ensures grows { Grows (state_of (reader P.timeline L.values) W.sets W.moves R.rules B.store self.old) (state_of (reader P.timeline L.values) W.sets W.moves R.rules B.store self.new) }
-        ensures drew { IfOk result (λ learnt. Drew (state_of (reader P.timeline L.values) W.sets W.moves R.rules B.store self.old) (state_of (reader P.timeline L.values) W.sets W.moves R.rules B.store self.new) learnt (λ _. ⊤)) }
+        ensures inferred { IfOk result (λ learnt. HasInferred (state_of (reader P.timeline L.values) W.sets W.moves R.rules B.store self.old) (state_of (reader P.timeline L.values) W.sets W.moves R.rules B.store self.new) learnt (λ _. ⊤)) }
         ensures halt { IfErr result (λ h. IsHalt (state_of (reader P.timeline L.values) W.sets W.moves R.rules B.store self.new) h) }
     {
         let end = self.end();
         let mut learnt = false;
         let mut number = self.fresh.next(0);
         while number < end {
-            let new = self.draw_at(number)?;
+            let new = self.infer_at(number)?;
             learnt = learnt | new;
             number = self.fresh.next(number + 1);
         }
@@ -88,18 +88,18 @@ impl<'a, P: Reaches + Drop, L: LastValues + Drop, B: ByteFacts, W: Transfer, R: 
     }
 
     /// All of them in the opposite order.
-    fn draw_fresh_back(&mut self) -> Result<bool, Halt>
+    fn infer_fresh_back(&mut self) -> Result<bool, LearnError>
         requires writings { AreWritings (state_of (reader P.timeline L.values) W.sets W.moves R.rules B.store self.old) }
         requires open { self.old.complete ≡ false }
         requires uncut { IsUncut (state_of (reader P.timeline L.values) W.sets W.moves R.rules B.store self.old) }
         ensures grows { Grows (state_of (reader P.timeline L.values) W.sets W.moves R.rules B.store self.old) (state_of (reader P.timeline L.values) W.sets W.moves R.rules B.store self.new) }
-        ensures drew { IfOk result (λ learnt. Drew (state_of (reader P.timeline L.values) W.sets W.moves R.rules B.store self.old) (state_of (reader P.timeline L.values) W.sets W.moves R.rules B.store self.new) learnt (λ _. ⊤)) }
+        ensures inferred { IfOk result (λ learnt. HasInferred (state_of (reader P.timeline L.values) W.sets W.moves R.rules B.store self.old) (state_of (reader P.timeline L.values) W.sets W.moves R.rules B.store self.new) learnt (λ _. ⊤)) }
         ensures halt { IfErr result (λ h. IsHalt (state_of (reader P.timeline L.values) W.sets W.moves R.rules B.store self.new) h) }
     {
         let mut learnt = false;
         let mut end = self.fresh.end_below(self.end());
         while end > 0 {
-            let new = self.draw_at(end - 1)?;
+            let new = self.infer_at(end - 1)?;
             learnt = learnt | new;
             end = self.fresh.end_below(end - 1);
         }
@@ -107,12 +107,12 @@ impl<'a, P: Reaches + Drop, L: LastValues + Drop, B: ByteFacts, W: Transfer, R: 
     }
 
     /// The value of a register other than x0 at the last point of a thread.
-    fn draw_last(&mut self, point: u32, r: Reg) -> Result<bool, Halt>
+    fn infer_last(&mut self, point: u32, r: Reg) -> Result<bool, LearnError>
         requires point { IsLast (setting_of (reader P.timeline L.values) W.sets W.moves R.rules self.old) point }
         requires named { 0 < r }
         requires open { self.old.complete ≡ false }
         ensures grows { Grows (state_of (reader P.timeline L.values) W.sets W.moves R.rules B.store self.old) (state_of (reader P.timeline L.values) W.sets W.moves R.rules B.store self.new) }
-        ensures drew { IfOk result (λ learnt. Drew (state_of (reader P.timeline L.values) W.sets W.moves R.rules B.store self.old) (state_of (reader P.timeline L.values) W.sets W.moves R.rules B.store self.new) learnt (LastKnownAt point r)) }
+        ensures inferred { IfOk result (λ learnt. HasInferred (state_of (reader P.timeline L.values) W.sets W.moves R.rules B.store self.old) (state_of (reader P.timeline L.values) W.sets W.moves R.rules B.store self.new) learnt (LastKnownAt point r)) }
         ensures known { IfOk result (λ _. LastKnownAt point r (state_of (reader P.timeline L.values) W.sets W.moves R.rules B.store self.new)) }
         ensures ends { HasEndsAlone (state_of (reader P.timeline L.values) W.sets W.moves R.rules B.store self.old) → HasEndsAlone (state_of (reader P.timeline L.values) W.sets W.moves R.rules B.store self.new) }
         ensures calm { IfErr result (λ _. HasEndsAlone (state_of (reader P.timeline L.values) W.sets W.moves R.rules B.store self.old) → ⊥) }
@@ -124,12 +124,13 @@ impl<'a, P: Reaches + Drop, L: LastValues + Drop, B: ByteFacts, W: Transfer, R: 
         Ok(learnt)
     }
 
-    /// The values of all registers at the last point of a thread. Where nothing but such values is known, none clashes.
-    fn draw_last_point(&mut self, point: u32) -> Result<bool, Halt>
+    /// The values of all registers at the last point of a thread. Where nothing but such values is
+    /// known, none clashes.
+    fn infer_last_point(&mut self, point: u32) -> Result<bool, LearnError>
         requires point { IsLast (setting_of (reader P.timeline L.values) W.sets W.moves R.rules self.old) point }
         requires open { self.old.complete ≡ false }
         ensures grows { Grows (state_of (reader P.timeline L.values) W.sets W.moves R.rules B.store self.old) (state_of (reader P.timeline L.values) W.sets W.moves R.rules B.store self.new) }
-        ensures drew { IfOk result (λ learnt. Drew (state_of (reader P.timeline L.values) W.sets W.moves R.rules B.store self.old) (state_of (reader P.timeline L.values) W.sets W.moves R.rules B.store self.new) learnt (LastPointKnown 32 point)) }
+        ensures inferred { IfOk result (λ learnt. HasInferred (state_of (reader P.timeline L.values) W.sets W.moves R.rules B.store self.old) (state_of (reader P.timeline L.values) W.sets W.moves R.rules B.store self.new) learnt (LastPointKnown 32 point)) }
         ensures known { IfOk result (λ _. LastPointKnown 32 point (state_of (reader P.timeline L.values) W.sets W.moves R.rules B.store self.new)) }
         ensures ends { HasEndsAlone (state_of (reader P.timeline L.values) W.sets W.moves R.rules B.store self.old) → HasEndsAlone (state_of (reader P.timeline L.values) W.sets W.moves R.rules B.store self.new) }
         ensures calm { IfErr result (λ _. HasEndsAlone (state_of (reader P.timeline L.values) W.sets W.moves R.rules B.store self.old) → ⊥) }
@@ -137,7 +138,7 @@ impl<'a, P: Reaches + Drop, L: LastValues + Drop, B: ByteFacts, W: Transfer, R: 
     {
         let mut learnt = false;
         for r in 1..32u8 {
-            let new = self.draw_last(point, register(r))?;
+            let new = self.infer_last(point, register(r))?;
             learnt = learnt | new;
         }
         Ok(learnt)
@@ -153,10 +154,10 @@ impl<'a, P: Reaches + Drop, L: LastValues + Drop, B: ByteFacts, W: Transfer, R: 
     }
 
     /// The last values of all registers of all threads.
-    fn draw_all_last(&mut self) -> Result<bool, Halt>
+    fn infer_all_last(&mut self) -> Result<bool, LearnError>
         requires open { self.old.complete ≡ false }
         ensures grows { Grows (state_of (reader P.timeline L.values) W.sets W.moves R.rules B.store self.old) (state_of (reader P.timeline L.values) W.sets W.moves R.rules B.store self.new) }
-        ensures drew { IfOk result (λ learnt. Drew (state_of (reader P.timeline L.values) W.sets W.moves R.rules B.store self.old) (state_of (reader P.timeline L.values) W.sets W.moves R.rules B.store self.new) learnt (LastKnownBelow 32)) }
+        ensures inferred { IfOk result (λ learnt. HasInferred (state_of (reader P.timeline L.values) W.sets W.moves R.rules B.store self.old) (state_of (reader P.timeline L.values) W.sets W.moves R.rules B.store self.new) learnt (LastKnownBelow 32)) }
         ensures begun { LearnsEndsFirst (state_of (reader P.timeline L.values) W.sets W.moves R.rules B.store self.old) → HasEndsFirst (state_of (reader P.timeline L.values) W.sets W.moves R.rules B.store self.new) }
         ensures halt { IfErr result (λ h. IsHalt (state_of (reader P.timeline L.values) W.sets W.moves R.rules B.store self.new) h) }
     {
@@ -167,18 +168,18 @@ impl<'a, P: Reaches + Drop, L: LastValues + Drop, B: ByteFacts, W: Transfer, R: 
             let Some(point) = self.next_last(least) else {
                 return Ok(learnt);
             };
-            let new = self.draw_last_point(point)?;
+            let new = self.infer_last_point(point)?;
             learnt = learnt | new;
             least = point + 1;
         }
     }
 
     /// The byte of the dump at a tracked address.
-    pub(super) fn draw_last_byte(&mut self, a: u32) -> Result<bool, Halt>
+    pub(super) fn infer_last_byte(&mut self, a: u32) -> Result<bool, LearnError>
         requires tracked { IsTracked a (state_of (reader P.timeline L.values) W.sets W.moves R.rules B.store self.old) }
         requires open { self.old.complete ≡ false }
         ensures grows { Grows (state_of (reader P.timeline L.values) W.sets W.moves R.rules B.store self.old) (state_of (reader P.timeline L.values) W.sets W.moves R.rules B.store self.new) }
-        ensures drew { IfOk result (λ learnt. Drew (state_of (reader P.timeline L.values) W.sets W.moves R.rules B.store self.old) (state_of (reader P.timeline L.values) W.sets W.moves R.rules B.store self.new) learnt (LastByteKnown a)) }
+        ensures inferred { IfOk result (λ learnt. HasInferred (state_of (reader P.timeline L.values) W.sets W.moves R.rules B.store self.old) (state_of (reader P.timeline L.values) W.sets W.moves R.rules B.store self.new) learnt (LastByteKnown a)) }
         ensures halt { IfErr result (λ h. IsHalt (state_of (reader P.timeline L.values) W.sets W.moves R.rules B.store self.new) h) }
     {
         let byte = self.last_byte(a);
@@ -186,12 +187,12 @@ impl<'a, P: Reaches + Drop, L: LastValues + Drop, B: ByteFacts, W: Transfer, R: 
     }
 
     /// The byte of the dump at a tracked address, which was looked up.
-    fn learn_last_byte(&mut self, a: u32, byte: Option<u8>) -> Result<bool, Halt>
+    fn learn_last_byte(&mut self, a: u32, byte: Option<u8>) -> Result<bool, LearnError>
         requires tracked { IsTracked a (state_of (reader P.timeline L.values) W.sets W.moves R.rules B.store self.old) }
         requires open { self.old.complete ≡ false }
         requires byte { byte ≡ crash_byte (contents self.old.exe) self.old.core a }
         ensures grows { Grows (state_of (reader P.timeline L.values) W.sets W.moves R.rules B.store self.old) (state_of (reader P.timeline L.values) W.sets W.moves R.rules B.store self.new) }
-        ensures drew { IfOk result (λ learnt. Drew (state_of (reader P.timeline L.values) W.sets W.moves R.rules B.store self.old) (state_of (reader P.timeline L.values) W.sets W.moves R.rules B.store self.new) learnt (LastByteKnown a)) }
+        ensures inferred { IfOk result (λ learnt. HasInferred (state_of (reader P.timeline L.values) W.sets W.moves R.rules B.store self.old) (state_of (reader P.timeline L.values) W.sets W.moves R.rules B.store self.new) learnt (LastByteKnown a)) }
         ensures halt { IfErr result (λ h. IsHalt (state_of (reader P.timeline L.values) W.sets W.moves R.rules B.store self.new) h) }
     {
         let point = self.end();
@@ -202,29 +203,29 @@ impl<'a, P: Reaches + Drop, L: LastValues + Drop, B: ByteFacts, W: Transfer, R: 
     }
 
     /// The bytes of the dump at all tracked addresses.
-    fn draw_last_bytes(&mut self) -> Result<bool, Halt>
+    fn infer_last_bytes(&mut self) -> Result<bool, LearnError>
         requires open { self.old.complete ≡ false }
         ensures grows { Grows (state_of (reader P.timeline L.values) W.sets W.moves R.rules B.store self.old) (state_of (reader P.timeline L.values) W.sets W.moves R.rules B.store self.new) }
-        ensures drew { IfOk result (λ learnt. Drew (state_of (reader P.timeline L.values) W.sets W.moves R.rules B.store self.old) (state_of (reader P.timeline L.values) W.sets W.moves R.rules B.store self.new) learnt (LastBytesKnown)) }
+        ensures inferred { IfOk result (λ learnt. HasInferred (state_of (reader P.timeline L.values) W.sets W.moves R.rules B.store self.old) (state_of (reader P.timeline L.values) W.sets W.moves R.rules B.store self.new) learnt (LastBytesKnown)) }
         ensures halt { IfErr result (λ h. IsHalt (state_of (reader P.timeline L.values) W.sets W.moves R.rules B.store self.new) h) }
     {
         let count = self.tracked_count();
         let mut learnt = false;
         for k in 0..count {
             let a = self.address(k);
-            let new = self.draw_last_byte(a)?;
+            let new = self.infer_last_byte(a)?;
             learnt = learnt | new;
         }
         Ok(learnt)
     }
 
     /// A set of one value, as the sets were filled.
-    fn draw_single(&mut self, point: u32, r: Reg) -> Result<bool, Halt>
+    fn infer_single(&mut self, point: u32, r: Reg) -> Result<bool, LearnError>
         requires point { point ≤ (P.timeline self.old.paths).legs.count }
         requires fitted { IsFitted (state_of (reader P.timeline L.values) W.sets W.moves R.rules B.store self.old) }
         requires open { self.old.complete ≡ false }
         ensures grows { Grows (state_of (reader P.timeline L.values) W.sets W.moves R.rules B.store self.old) (state_of (reader P.timeline L.values) W.sets W.moves R.rules B.store self.new) }
-        ensures drew { IfOk result (λ learnt. Drew (state_of (reader P.timeline L.values) W.sets W.moves R.rules B.store self.old) (state_of (reader P.timeline L.values) W.sets W.moves R.rules B.store self.new) learnt (SingleKnown point r)) }
+        ensures inferred { IfOk result (λ learnt. HasInferred (state_of (reader P.timeline L.values) W.sets W.moves R.rules B.store self.old) (state_of (reader P.timeline L.values) W.sets W.moves R.rules B.store self.new) learnt (SingleKnown point r)) }
         ensures halt { IfErr result (λ h. IsHalt (state_of (reader P.timeline L.values) W.sets W.moves R.rules B.store self.new) h) }
     {
         self.held();
@@ -240,41 +241,42 @@ impl<'a, P: Reaches + Drop, L: LastValues + Drop, B: ByteFacts, W: Transfer, R: 
     }
 
     /// The sets of one value at a point.
-    fn draw_point(&mut self, point: u32) -> Result<bool, Halt>
+    fn infer_point(&mut self, point: u32) -> Result<bool, LearnError>
         requires point { point ≤ (P.timeline self.old.paths).legs.count }
         requires fitted { IsFitted (state_of (reader P.timeline L.values) W.sets W.moves R.rules B.store self.old) }
         requires open { self.old.complete ≡ false }
         ensures grows { Grows (state_of (reader P.timeline L.values) W.sets W.moves R.rules B.store self.old) (state_of (reader P.timeline L.values) W.sets W.moves R.rules B.store self.new) }
-        ensures drew { IfOk result (λ learnt. Drew (state_of (reader P.timeline L.values) W.sets W.moves R.rules B.store self.old) (state_of (reader P.timeline L.values) W.sets W.moves R.rules B.store self.new) learnt (PointSingles 32 point)) }
+        ensures inferred { IfOk result (λ learnt. HasInferred (state_of (reader P.timeline L.values) W.sets W.moves R.rules B.store self.old) (state_of (reader P.timeline L.values) W.sets W.moves R.rules B.store self.new) learnt (PointSingles 32 point)) }
         ensures halt { IfErr result (λ h. IsHalt (state_of (reader P.timeline L.values) W.sets W.moves R.rules B.store self.new) h) }
     {
         let mut learnt = false;
         for r in 0..32u8 {
-            let new = self.draw_single(point, register(r))?;
+            let new = self.infer_single(point, register(r))?;
             learnt = learnt | new;
         }
         Ok(learnt)
     }
 
     /// All sets of one value.
-    fn draw_singles(&mut self) -> Result<bool, Halt>
+    fn infer_singles(&mut self) -> Result<bool, LearnError>
         requires fitted { IsFitted (state_of (reader P.timeline L.values) W.sets W.moves R.rules B.store self.old) }
         requires open { self.old.complete ≡ false }
         ensures grows { Grows (state_of (reader P.timeline L.values) W.sets W.moves R.rules B.store self.old) (state_of (reader P.timeline L.values) W.sets W.moves R.rules B.store self.new) }
-        ensures drew { IfOk result (λ learnt. Drew (state_of (reader P.timeline L.values) W.sets W.moves R.rules B.store self.old) (state_of (reader P.timeline L.values) W.sets W.moves R.rules B.store self.new) learnt (SinglesKnown)) }
+        ensures inferred { IfOk result (λ learnt. HasInferred (state_of (reader P.timeline L.values) W.sets W.moves R.rules B.store self.old) (state_of (reader P.timeline L.values) W.sets W.moves R.rules B.store self.new) learnt (SinglesKnown)) }
         ensures halt { IfErr result (λ h. IsHalt (state_of (reader P.timeline L.values) W.sets W.moves R.rules B.store self.new) h) }
     {
         let count = self.count();
         let mut learnt = false;
         for point in 0..count + 1 {
-            let new = self.draw_point(point)?;
+            let new = self.infer_point(point)?;
             learnt = learnt | new;
         }
         Ok(learnt)
     }
 
-    /// All rows, onward, and back and onward again as long as rows are put in the list anew, but so many times at most.
-    fn draw_on(&mut self, most: u32) -> Result<(), Halt>
+    /// All rows, onward, and back and onward again as long as rows are put in the list anew, but so
+    /// many times at most.
+    fn infer_on(&mut self, most: u32) -> Result<(), LearnError>
         requires writings { AreWritings (state_of (reader P.timeline L.values) W.sets W.moves R.rules B.store self.old) }
         requires open { self.old.complete ≡ false }
         requires uncut { IsUncut (state_of (reader P.timeline L.values) W.sets W.moves R.rules B.store self.old) }
@@ -283,71 +285,74 @@ impl<'a, P: Reaches + Drop, L: LastValues + Drop, B: ByteFacts, W: Transfer, R: 
         ensures halt { IfErr result (λ h. IsHalt (state_of (reader P.timeline L.values) W.sets W.moves R.rules B.store self.new) h) }
     {
         self.note_pass();
-        self.draw_onward()?;
+        self.infer_onward()?;
         if most == 0 || !self.has_put() {
             return Ok(());
         }
-        self.draw_fresh_back()?;
-        self.draw_on(most - 1)
+        self.infer_fresh_back()?;
+        self.infer_on(most - 1)
     }
 
     /// All rows that may tell something new, back and, where that told something, onward.
-    fn draw_through(&mut self) -> Result<bool, Halt>
+    fn infer_through(&mut self) -> Result<bool, LearnError>
         requires writings { AreWritings (state_of (reader P.timeline L.values) W.sets W.moves R.rules B.store self.old) }
         requires open { self.old.complete ≡ false }
         requires uncut { IsUncut (state_of (reader P.timeline L.values) W.sets W.moves R.rules B.store self.old) }
         ensures grows { Grows (state_of (reader P.timeline L.values) W.sets W.moves R.rules B.store self.old) (state_of (reader P.timeline L.values) W.sets W.moves R.rules B.store self.new) }
-        ensures drew { IfOk result (λ learnt. Drew (state_of (reader P.timeline L.values) W.sets W.moves R.rules B.store self.old) (state_of (reader P.timeline L.values) W.sets W.moves R.rules B.store self.new) learnt (λ _. ⊤)) }
+        ensures inferred { IfOk result (λ learnt. HasInferred (state_of (reader P.timeline L.values) W.sets W.moves R.rules B.store self.old) (state_of (reader P.timeline L.values) W.sets W.moves R.rules B.store self.new) learnt (λ _. ⊤)) }
         ensures halt { IfErr result (λ h. IsHalt (state_of (reader P.timeline L.values) W.sets W.moves R.rules B.store self.new) h) }
     {
-        let back = self.draw_fresh_back()?;
+        let back = self.infer_fresh_back()?;
         if !back {
             return Ok(false);
         }
-        self.draw_on(PASSES)?;
+        self.infer_on(PASSES)?;
         Ok(true)
     }
 
-    /// The values of the tracked bytes of which something was learnt lately; where that told nothing, the bytes of the dump.
-    fn carry_and_end(&mut self) -> Result<bool, Halt>
+    /// The values of the tracked bytes of which something was learnt lately; where that told
+    /// nothing, the bytes of the dump.
+    fn carry_and_end(&mut self) -> Result<bool, LearnError>
         requires writings { AreWritings (state_of (reader P.timeline L.values) W.sets W.moves R.rules B.store self.old) }
         requires open { self.old.complete ≡ false }
         ensures grows { Grows (state_of (reader P.timeline L.values) W.sets W.moves R.rules B.store self.old) (state_of (reader P.timeline L.values) W.sets W.moves R.rules B.store self.new) }
-        ensures drew { IfOk result (λ learnt. Drew (state_of (reader P.timeline L.values) W.sets W.moves R.rules B.store self.old) (state_of (reader P.timeline L.values) W.sets W.moves R.rules B.store self.new) learnt (LastBytesKnown)) }
+        ensures inferred { IfOk result (λ learnt. HasInferred (state_of (reader P.timeline L.values) W.sets W.moves R.rules B.store self.old) (state_of (reader P.timeline L.values) W.sets W.moves R.rules B.store self.new) learnt (LastBytesKnown)) }
         ensures halt { IfErr result (λ h. IsHalt (state_of (reader P.timeline L.values) W.sets W.moves R.rules B.store self.new) h) }
     {
         let carried = self.carry_all_told()?;
         if carried {
             return Ok(true);
         }
-        self.draw_last_bytes()
+        self.infer_last_bytes()
     }
 
-    /// Bytes and rows by turns, as long as the bytes tell something new, but so many times at most: so the sets are filled seldom where little is learnt at a time.
-    fn carry_by_turns(&mut self, most: u32) -> Result<bool, Halt>
+    /// Bytes and rows by turns, as long as the bytes tell something new, but so many times at most:
+    /// so the sets are filled seldom where little is learnt at a time.
+    fn carry_by_turns(&mut self, most: u32) -> Result<bool, LearnError>
         requires writings { AreWritings (state_of (reader P.timeline L.values) W.sets W.moves R.rules B.store self.old) }
         requires open { self.old.complete ≡ false }
         requires uncut { IsUncut (state_of (reader P.timeline L.values) W.sets W.moves R.rules B.store self.old) }
         ensures grows { Grows (state_of (reader P.timeline L.values) W.sets W.moves R.rules B.store self.old) (state_of (reader P.timeline L.values) W.sets W.moves R.rules B.store self.new) }
-        ensures drew { IfOk result (λ learnt. Drew (state_of (reader P.timeline L.values) W.sets W.moves R.rules B.store self.old) (state_of (reader P.timeline L.values) W.sets W.moves R.rules B.store self.new) learnt (LastBytesKnown)) }
+        ensures inferred { IfOk result (λ learnt. HasInferred (state_of (reader P.timeline L.values) W.sets W.moves R.rules B.store self.old) (state_of (reader P.timeline L.values) W.sets W.moves R.rules B.store self.new) learnt (LastBytesKnown)) }
         ensures halt { IfErr result (λ h. IsHalt (state_of (reader P.timeline L.values) W.sets W.moves R.rules B.store self.new) h) }
     {
         let bytes = self.carry_and_end()?;
         if !bytes || most == 0 {
             return Ok(bytes);
         }
-        self.draw_through()?;
+        self.infer_through()?;
         self.carry_by_turns(most - 1)?;
         Ok(true)
     }
 
-    /// Bytes and rows by turns; nothing in the first round where the rows told news, since rows carry the bytes that they look at by themselves.
-    fn carry_rest(&mut self, has_news: bool) -> Result<bool, Halt>
+    /// Bytes and rows by turns; nothing in the first round where the rows told news, since rows
+    /// carry the bytes that they look at by themselves.
+    fn carry_rest(&mut self, has_news: bool) -> Result<bool, LearnError>
         requires writings { AreWritings (state_of (reader P.timeline L.values) W.sets W.moves R.rules B.store self.old) }
         requires open { self.old.complete ≡ false }
         requires uncut { IsUncut (state_of (reader P.timeline L.values) W.sets W.moves R.rules B.store self.old) }
         ensures grows { Grows (state_of (reader P.timeline L.values) W.sets W.moves R.rules B.store self.old) (state_of (reader P.timeline L.values) W.sets W.moves R.rules B.store self.new) }
-        ensures drew { IfOk result (λ learnt. Drew (state_of (reader P.timeline L.values) W.sets W.moves R.rules B.store self.old) (state_of (reader P.timeline L.values) W.sets W.moves R.rules B.store self.new) learnt (λ s. has_news ≡ false → LastBytesKnown s)) }
+        ensures inferred { IfOk result (λ learnt. HasInferred (state_of (reader P.timeline L.values) W.sets W.moves R.rules B.store self.old) (state_of (reader P.timeline L.values) W.sets W.moves R.rules B.store self.new) learnt (λ s. has_news ≡ false → LastBytesKnown s)) }
         ensures halt { IfErr result (λ h. IsHalt (state_of (reader P.timeline L.values) W.sets W.moves R.rules B.store self.new) h) }
     {
         if has_news && self.is_first_round() {
@@ -356,52 +361,55 @@ impl<'a, P: Reaches + Drop, L: LastValues + Drop, B: ByteFacts, W: Transfer, R: 
         self.carry_by_turns(PASSES)
     }
 
-    /// All rules once, with the rows and bytes that may tell something new: last values, rows, carried bytes, last bytes, and sets of one value. Bytes
-    /// are carried before the dump tells its own, so that most of those are known by then and take no place of their own.
-    fn sweep_fresh(&mut self) -> Result<bool, Halt>
+    /// All rules once, with the rows and bytes that may tell something new: last values, rows,
+    /// carried bytes, last bytes, and sets of one value. Bytes are carried before the dump tells
+    /// its own, so that most of those are known by then and take no place of their own.
+    fn sweep_fresh(&mut self) -> Result<bool, LearnError>
         requires writings { AreWritings (state_of (reader P.timeline L.values) W.sets W.moves R.rules B.store self.old) }
         requires open { self.old.complete ≡ false }
         requires uncut { IsUncut (state_of (reader P.timeline L.values) W.sets W.moves R.rules B.store self.old) }
         ensures grows { Grows (state_of (reader P.timeline L.values) W.sets W.moves R.rules B.store self.old) (state_of (reader P.timeline L.values) W.sets W.moves R.rules B.store self.new) }
-        ensures drew { IfOk result (λ learnt. Drew (state_of (reader P.timeline L.values) W.sets W.moves R.rules B.store self.old) (state_of (reader P.timeline L.values) W.sets W.moves R.rules B.store self.new) learnt (λ s. LastKnownBelow 32 s × LastBytesKnown s × SinglesKnown s)) }
+        ensures inferred { IfOk result (λ learnt. HasInferred (state_of (reader P.timeline L.values) W.sets W.moves R.rules B.store self.old) (state_of (reader P.timeline L.values) W.sets W.moves R.rules B.store self.new) learnt (λ s. LastKnownBelow 32 s × LastBytesKnown s × SinglesKnown s)) }
         ensures begun { LearnsEndsFirst (state_of (reader P.timeline L.values) W.sets W.moves R.rules B.store self.old) → HasEndsFirst (state_of (reader P.timeline L.values) W.sets W.moves R.rules B.store self.new) }
         ensures halt { IfErr result (λ h. IsHalt (state_of (reader P.timeline L.values) W.sets W.moves R.rules B.store self.new) h) }
     {
-        let last = self.draw_all_last()?;
-        let rows = self.draw_through()?;
+        let last = self.infer_all_last()?;
+        let rows = self.infer_through()?;
         let bytes = self.carry_rest(last | rows)?;
-        let singles = self.draw_singles()?;
+        let singles = self.infer_singles()?;
         Ok(last | rows | bytes | singles)
     }
 
-    /// The values of all tracked bytes; where that told something new, rows and bytes by turns, so that the sets aren't filled for each.
-    fn carry_through(&mut self) -> Result<bool, Halt>
+    /// The values of all tracked bytes; where that told something new, rows and bytes by turns, so
+    /// that the sets aren't filled for each.
+    fn carry_through(&mut self) -> Result<bool, LearnError>
         requires writings { AreWritings (state_of (reader P.timeline L.values) W.sets W.moves R.rules B.store self.old) }
         requires current { IsCurrent (state_of (reader P.timeline L.values) W.sets W.moves R.rules B.store self.old) }
         requires open { self.old.complete ≡ false }
         requires uncut { IsUncut (state_of (reader P.timeline L.values) W.sets W.moves R.rules B.store self.old) }
         ensures grows { Grows (state_of (reader P.timeline L.values) W.sets W.moves R.rules B.store self.old) (state_of (reader P.timeline L.values) W.sets W.moves R.rules B.store self.new) }
-        ensures drew { IfOk result (λ learnt. Drew (state_of (reader P.timeline L.values) W.sets W.moves R.rules B.store self.old) (state_of (reader P.timeline L.values) W.sets W.moves R.rules B.store self.new) learnt (AllCarried)) }
+        ensures inferred { IfOk result (λ learnt. HasInferred (state_of (reader P.timeline L.values) W.sets W.moves R.rules B.store self.old) (state_of (reader P.timeline L.values) W.sets W.moves R.rules B.store self.new) learnt (AllCarried)) }
         ensures halt { IfErr result (λ h. IsHalt (state_of (reader P.timeline L.values) W.sets W.moves R.rules B.store self.new) h) }
     {
         let carried = self.carry_tracked()?;
         if !carried {
             return Ok(carried);
         }
-        let rows = self.draw_through()?;
+        let rows = self.infer_through()?;
         let bytes = self.carry_by_turns(PASSES)?;
         Ok(carried | rows | bytes)
     }
 
-    /// All rules once, and with all bytes and rows where those that may tell something new tell nothing.
-    pub(super) fn sweep(&mut self) -> Result<bool, Halt>
+    /// All rules once, and with all bytes and rows where those that may tell something new tell
+    /// nothing.
+    pub(super) fn sweep(&mut self) -> Result<bool, LearnError>
         requires writings { AreWritings (state_of (reader P.timeline L.values) W.sets W.moves R.rules B.store self.old) }
         requires exact { AreExact (state_of (reader P.timeline L.values) W.sets W.moves R.rules B.store self.old) }
         requires current { IsCurrent (state_of (reader P.timeline L.values) W.sets W.moves R.rules B.store self.old) }
         requires open { self.old.complete ≡ false }
         requires uncut { IsUncut (state_of (reader P.timeline L.values) W.sets W.moves R.rules B.store self.old) }
         ensures grows { Grows (state_of (reader P.timeline L.values) W.sets W.moves R.rules B.store self.old) (state_of (reader P.timeline L.values) W.sets W.moves R.rules B.store self.new) }
-        ensures drew { IfOk result (λ learnt. Drew (state_of (reader P.timeline L.values) W.sets W.moves R.rules B.store self.old) (state_of (reader P.timeline L.values) W.sets W.moves R.rules B.store self.new) learnt (IsDrawnAll)) }
+        ensures inferred { IfOk result (λ learnt. HasInferred (state_of (reader P.timeline L.values) W.sets W.moves R.rules B.store self.old) (state_of (reader P.timeline L.values) W.sets W.moves R.rules B.store self.new) learnt (IsInferredAll)) }
         ensures begun { LearnsEndsFirst (state_of (reader P.timeline L.values) W.sets W.moves R.rules B.store self.old) → HasEndsFirst (state_of (reader P.timeline L.values) W.sets W.moves R.rules B.store self.new) }
         ensures halt { IfErr result (λ h. IsHalt (state_of (reader P.timeline L.values) W.sets W.moves R.rules B.store self.new) h) }
     {
@@ -413,7 +421,7 @@ impl<'a, P: Reaches + Drop, L: LastValues + Drop, B: ByteFacts, W: Transfer, R: 
         if carried {
             return Ok(true);
         }
-        let rows = self.draw_back()?;
+        let rows = self.infer_back()?;
         Ok(rows)
     }
 }

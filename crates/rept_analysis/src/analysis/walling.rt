@@ -1,9 +1,9 @@
 //! Which rows keep bytes from being carried.
 
 ghost use Rattle.std.specs.Prelude.{◌≡◌, ℕ, ◌+◌, ◌<◌, true, false, Some, IsSome, IfSome};
-ghost use Rattle.rept_report.specs.Timeline.{IsFallingFrom};
+ghost use Rattle.rept_report.specs.Timeline.{IsActingFrom};
 ghost use Rattle.rept_analysis.specs.State.{state_of, reader};
-ghost use Rattle.rept_analysis.specs.Drawing.{AreWritings, AreBlocked, IsBlocker, IsBridged, IsBlocked, IsHitBy};
+ghost use Rattle.rept_analysis.specs.Inferring.{AreWritings, AreBlocked, IsBlocker, IsBridged, IsBlocked, IsHitBy};
 
 use super::Analysis;
 use rept_log::LastValues;
@@ -20,18 +20,19 @@ impl<'a, P: Reaches + Drop, L: LastValues + Drop, B: ByteFacts, W: Transfer, R: 
     W,
     R,
 > {
-    /// The least row that falls between a number and one that is next to it.
-    fn first_falling(&self, m: u32, w: u32) -> Option<u32>
+    /// The least row that may act between a number and one that is next to it.
+    fn first_acting(&self, m: u32, w: u32) -> Option<u32>
         requires next { (P.timeline self.now.paths).moments.next m w ≡ true }
-        ensures { IsFallingFrom (P.timeline self.now.paths) m w 0 result }
+        ensures { IsActingFrom (P.timeline self.now.paths) m w 0 result }
     {
-        self.paths.falling_from(m, w, 0)
+        self.paths.acting_from(m, w, 0)
     }
 
-    /// Whether a number is before a row and another one after it, and the row can't write: then no row falls between the two.
+    /// Whether a number is before a row and another one after it, and the row can't write: then no
+    /// row may act between the two.
     fn is_unwritten(&self, m: u32, w: u32) -> bool
         requires next { (P.timeline self.now.paths).moments.next m w ≡ true }
-        ensures { result ≡ true → (i : ℕ) → i < (P.timeline self.now.paths).legs.count → (P.timeline self.now.paths).moments.falls i m w ≡ false }
+        ensures { result ≡ true → (i : ℕ) → i < (P.timeline self.now.paths).legs.count → (P.timeline self.now.paths).moments.may_act i m w ≡ false }
     {
         let Some(row) = self.row_at(m) else {
             return false;
@@ -39,13 +40,14 @@ impl<'a, P: Reaches + Drop, L: LastValues + Drop, B: ByteFacts, W: Transfer, R: 
         if self.moment_at(row, When::After) != w {
             return false;
         }
-        match self.first_falling(m, w) {
+        match self.first_acting(m, w) {
             Some(_) => false,
             None => true,
         }
     }
 
-    /// The index of the first row of the list that may write a byte and falls between a number and one that is next to it, if there is one.
+    /// The index of the first row of the list that may write a byte and may act between a number
+    /// and one that is next to it, if there is one.
     pub(super) fn blocker(&self, a: u32, m: u32, w: u32) -> Option<usize>
         requires writings { AreWritings (state_of (reader P.timeline L.values) W.sets W.moves R.rules B.store self.now) }
         requires next { (P.timeline self.now.paths).moments.next m w ≡ true }
@@ -60,21 +62,22 @@ impl<'a, P: Reaches + Drop, L: LastValues + Drop, B: ByteFacts, W: Transfer, R: 
                 return None;
             };
             let row = self.entry(hit).row;
-            if self.falls(row, m, w) {
+            if self.may_act(row, m, w) {
                 return Some(hit);
             }
             k = hit + 1;
         }
     }
 
-    /// Whether a byte is carried from a number to one that is next to it: whether nothing that isn't told falls between, and no row of the list that may write it.
+    /// Whether a byte is carried from a number to one that is next to it: whether nothing that
+    /// isn't told may act between, and no row of the list that may write it.
     pub(super) fn is_carried(&self, a: u32, m: u32, w: u32) -> bool
         requires writings { AreWritings (state_of (reader P.timeline L.values) W.sets W.moves R.rules B.store self.now) }
         requires next { (P.timeline self.now.paths).moments.next m w ≡ true }
         ensures yes { result ≡ true → IsBridged (record { address = a; from = m; to = w }) (state_of (reader P.timeline L.values) W.sets W.moves R.rules B.store self.now) }
         ensures no { result ≡ false → IsBlocked (record { address = a; from = m; to = w }) (state_of (reader P.timeline L.values) W.sets W.moves R.rules B.store self.now) }
     {
-        if self.is_dark_between(m, w) {
+        if self.is_untraced_between(m, w) {
             return false;
         }
         self.blocker(a, m, w).is_none()
@@ -101,7 +104,8 @@ impl<'a, P: Reaches + Drop, L: LastValues + Drop, B: ByteFacts, W: Transfer, R: 
         }
     }
 
-    /// Whether the row at an index of the list, if one is named, may write a byte and falls between a number and one that is next to it.
+    /// Whether the row at an index of the list, if one is named, may write a byte and may act
+    /// between a number and one that is next to it.
     pub(super) fn blocks(&self, a: u32, m: u32, w: u32, index: Option<usize>) -> bool
         requires writings { AreWritings (state_of (reader P.timeline L.values) W.sets W.moves R.rules B.store self.now) }
         requires next { (P.timeline self.now.paths).moments.next m w ≡ true }
@@ -109,22 +113,24 @@ impl<'a, P: Reaches + Drop, L: LastValues + Drop, B: ByteFacts, W: Transfer, R: 
     {
         match self.listed_hit(a, index) {
             None => false,
-            Some(row) => self.falls(row, m, w),
+            Some(row) => self.may_act(row, m, w),
         }
     }
 
-    /// Whether it is sure that the row at an index of the list, if one is named, may write a byte and falls between a number and each one that is next to it.
+    /// Whether it is sure that the row at an index of the list, if one is named, may write a byte
+    /// and may act between a number and each one that is next to it.
     pub(super) fn is_blocked(&self, a: u32, m: u32, index: Option<usize>) -> bool
         requires writings { AreWritings (state_of (reader P.timeline L.values) W.sets W.moves R.rules B.store self.now) }
         ensures { result ≡ true → AreBlocked a m (state_of (reader P.timeline L.values) W.sets W.moves R.rules B.store self.now) }
     {
         match self.listed_hit(a, index) {
             None => false,
-            Some(row) => self.bars(row, m),
+            Some(row) => self.surely_blocks(row, m),
         }
     }
 
-    /// The index of a row of the list that may stop a byte at a number: the one at which a byte stopped there, or else the one at which any stopped last. No clause rests on which it is.
+    /// The index of a row of the list that may stop a byte at a number: the one at which a byte
+    /// stopped there, or else the one at which any stopped last. No clause rests on which it is.
     pub(super) fn wall(&self, a: u32, m: u32) -> Option<usize>
         requires writings { AreWritings (state_of (reader P.timeline L.values) W.sets W.moves R.rules B.store self.now) }
     {
@@ -140,7 +146,8 @@ impl<'a, P: Reaches + Drop, L: LastValues + Drop, B: ByteFacts, W: Transfer, R: 
         }
     }
 
-    /// Whether a row at which a byte stopped before may write this one and falls between a number and each one that is next to it.
+    /// Whether a row at which a byte stopped before may write this one and may act between a number
+    /// and each one that is next to it.
     pub(super) fn is_walled(&self, a: u32, m: u32) -> bool
         requires writings { AreWritings (state_of (reader P.timeline L.values) W.sets W.moves R.rules B.store self.now) }
         ensures { result ≡ true → AreBlocked a m (state_of (reader P.timeline L.values) W.sets W.moves R.rules B.store self.now) }
@@ -167,7 +174,8 @@ impl<'a, P: Reaches + Drop, L: LastValues + Drop, B: ByteFacts, W: Transfer, R: 
         self.walls.note_open(number);
     }
 
-    /// Keeps which row of the list, if one is named, kept a byte from going on from a number to one that is next to it.
+    /// Keeps which row of the list, if one is named, kept a byte from going on from a number to one
+    /// that is next to it.
     pub(super) fn note_stop(&mut self, m: u32, index: Option<usize>)
         ensures { self.new ≡ self.old }
     {
@@ -176,7 +184,8 @@ impl<'a, P: Reaches + Drop, L: LastValues + Drop, B: ByteFacts, W: Transfer, R: 
         }
     }
 
-    /// Whether a byte is carried from a number to the one after it, which is next to it; where a row of the list keeps it from that, that is kept.
+    /// Whether a byte is carried from a number to the one after it, which is next to it; where a
+    /// row of the list keeps it from that, that is kept.
     pub(super) fn is_carried_on(&mut self, a: u32, m: u32) -> bool
         requires writings { AreWritings (state_of (reader P.timeline L.values) W.sets W.moves R.rules B.store self.old) }
         requires next { (P.timeline self.old.paths).moments.next m (m + 1) ≡ true }
@@ -185,7 +194,7 @@ impl<'a, P: Reaches + Drop, L: LastValues + Drop, B: ByteFacts, W: Transfer, R: 
         ensures same { self.new ≡ self.old }
     {
         let _end = self.end();
-        if self.is_dark_between(m, m + 1) {
+        if self.is_untraced_between(m, m + 1) {
             return false;
         }
         let blocker = self.blocker(a, m, m + 1);
@@ -193,8 +202,9 @@ impl<'a, P: Reaches + Drop, L: LastValues + Drop, B: ByteFacts, W: Transfer, R: 
         blocker.is_none()
     }
 
-    /// Whether it is seen at once that a byte isn't carried from a number to the one after it, which is next to it: the row that the number is before may write it, or one at which a
-    /// byte stopped before.
+    /// Whether it is seen at once that a byte isn't carried from a number to the one after it,
+    /// which is next to it: the row that the number is before may write it, or one at which a byte
+    /// stopped before.
     pub(super) fn is_stopped(&self, a: u32, m: u32) -> bool
         requires writings { AreWritings (state_of (reader P.timeline L.values) W.sets W.moves R.rules B.store self.now) }
         requires next { (P.timeline self.now.paths).moments.next m (m + 1) ≡ true }
@@ -208,7 +218,8 @@ impl<'a, P: Reaches + Drop, L: LastValues + Drop, B: ByteFacts, W: Transfer, R: 
         self.is_walled(a, m)
     }
 
-    /// Whether a row, if one is named, which may write a byte, falls between a number and one that is next to it.
+    /// Whether a row, if one is named, which may write a byte, may act between a number and one
+    /// that is next to it.
     fn is_crossed(&self, a: u32, m: u32, w: u32, row: Option<u32>) -> bool
         requires writings { AreWritings (state_of (reader P.timeline L.values) W.sets W.moves R.rules B.store self.now) }
         requires next { (P.timeline self.now.paths).moments.next m w ≡ true }
@@ -218,11 +229,12 @@ impl<'a, P: Reaches + Drop, L: LastValues + Drop, B: ByteFacts, W: Transfer, R: 
     {
         match row {
             None => false,
-            Some(i) => self.falls(i, m, w),
+            Some(i) => self.may_act(i, m, w),
         }
     }
 
-    /// Whether it is sure that a byte isn't carried between the two: such a row does, or writers that aren't told.
+    /// Whether it is sure that a byte isn't carried between the two: such a row does, or writers
+    /// that aren't told.
     pub(super) fn is_shut(&self, a: u32, m: u32, w: u32, row: Option<u32>) -> bool
         requires writings { AreWritings (state_of (reader P.timeline L.values) W.sets W.moves R.rules B.store self.now) }
         requires next { (P.timeline self.now.paths).moments.next m w ≡ true }
@@ -233,6 +245,6 @@ impl<'a, P: Reaches + Drop, L: LastValues + Drop, B: ByteFacts, W: Transfer, R: 
         if self.is_crossed(a, m, w, row) {
             return true;
         }
-        self.is_dark_between(m, w)
+        self.is_untraced_between(m, w)
     }
 }

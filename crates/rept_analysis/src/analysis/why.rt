@@ -93,7 +93,8 @@ impl<'a, P: Reaches + Drop, L: LastValues + Drop, B: ByteFacts, W: Transfer, R: 
         }
     }
 
-    /// Whether a byte's fact stands in the prefix of the log below a limit. `OutOfMemory` says that the room for the search can't be had.
+    /// Whether a byte's fact stands in the prefix of the log below a limit. `OutOfMemory` says that
+    /// the room for the search can't be had.
     fn stands_below(
         &self,
         spans: &Spans<W>,
@@ -116,8 +117,8 @@ impl<'a, P: Reaches + Drop, L: LastValues + Drop, B: ByteFacts, W: Transfer, R: 
         }
     }
 
-    /// How many facts in the log, from the oldest on, are enough for a byte's fact to stand in them. `OutOfMemory` says that the room for a search
-    /// can't be had.
+    /// How many facts in the log, from the oldest on, are enough for a byte's fact to stand in
+    /// them. `OutOfMemory` says that the room for a search can't be had.
     fn least_front(&self, spans: &mut Spans<W>, fact: &Fact, a: u32) -> Result<u32, OutOfMemory>
         requires sized { spans.old.points ≡ (P.timeline self.now.paths).legs.count + 1 }
         requires moment { fact.now.point ≤ (P.timeline self.now.paths).moments.end }
@@ -145,7 +146,7 @@ impl<'a, P: Reaches + Drop, L: LastValues + Drop, B: ByteFacts, W: Transfer, R: 
     }
 
     /// The reason of a byte's fact that is the last one of its least front.
-    fn why_drawn(
+    fn why_inferred(
         &mut self,
         alloc: Global,
         spans: &mut Spans<W>,
@@ -166,7 +167,7 @@ impl<'a, P: Reaches + Drop, L: LastValues + Drop, B: ByteFacts, W: Transfer, R: 
     {
         self.held();
         self.fill_sets(spans, place);
-        self.drawn_below(alloc, spans, place, fact, a)
+        self.inferred_below(alloc, spans, place, fact, a)
     }
 
     /// The reason of any other byte's fact.
@@ -237,14 +238,15 @@ impl<'a, P: Reaches + Drop, L: LastValues + Drop, B: ByteFacts, W: Transfer, R: 
         let mut spans = self.sets_below(0)?;
         let limit = self.least_front(&mut spans, fact, a)?;
         if self.is_last(limit, fact) {
-            return self.why_drawn(alloc, &mut spans, limit - 1, fact, a);
+            return self.why_inferred(alloc, &mut spans, limit - 1, fact, a);
         }
         self.why_carried(alloc, &mut spans, limit, fact, a)
     }
 
-    /// A reason of a fact: the rule that gives it, the facts that the rule rests on, which were known before it, and the ranges that
-    /// the rule looked at, by those facts. `None` exactly where the fact isn't answered. `OutOfMemory` says that the room for the
-    /// search can't be had. Nothing that other calls answer changes.
+    /// A reason of a fact: the rule that gives it, the facts that the rule rests on, which were
+    /// known before it, and the ranges that the rule looked at, by those facts. `None` exactly
+    /// where the fact isn't answered. `OutOfMemory` says that the room for the search can't be had.
+    /// Nothing that other calls answer changes.
     pub fn why(&mut self, alloc: Global, fact: Fact) -> Result<Option<Reason>, OutOfMemory>
         requires point { (r : ℕ) → fact.cell ≡ Register r → fact.point ≤ (P.timeline self.old.paths).legs.count }
         requires moment { (a : ℕ) → fact.cell ≡ Byte a → fact.point ≤ (P.timeline self.old.paths).moments.end }

@@ -3,7 +3,7 @@
 ghost use Rattle.std.specs.Prelude.{◌<◌};
 
 use super::Analysis;
-use crate::moment::Moment;
+use crate::moment::RegisterView;
 use rept_latest::RowWrites;
 use rept_log::LastValues;
 use rept_reach::Reaches;
@@ -16,7 +16,7 @@ impl<'a, P: Reaches + Drop, L: LastValues + Drop, B: ByteFacts, W: Transfer, R: 
     ghost use Rattle.rept_reason.specs.Facts.{told};
     ghost use Rattle.rept_report.specs.Log.{oldest};
     ghost use Rattle.rept_analysis.specs.State.{setting_of, state_of, reader};
-    ghost use Rattle.rept_analysis.specs.Drawing.{IsFitted};
+    ghost use Rattle.rept_analysis.specs.Inferring.{IsFitted};
     ghost use Rattle.rept_analysis.specs.Latest.{writes_by};
 
     ghost writes = { λ a. writes_by (setting_of (reader P.timeline L.values) W.sets W.moves R.rules a) (told (oldest a.filled a.known.log)) };
@@ -38,7 +38,7 @@ impl<'a, P: Reaches + Drop, L: LastValues + Drop, B: ByteFacts, W: Transfer, R: 
             None => false,
             Some(found) => {
                 let _len = self.known.len();
-                let view = Moment {
+                let view = RegisterView {
                     facts: &self.known,
                     spans: &self.spans,
                     limit: self.filled,

@@ -1,4 +1,5 @@
--- Functions that move bits, as shifts do: they take known bits to known bits, and open ones to open ones.
+-- Functions that move bits, as shifts do: they take known bits to known bits, and open ones to open
+-- ones.
 use Rattle.std.proofs.Common.{◌≡◌, ℕ, ◌+◌, ◌-◌, ◌*◌, ◌/◌, ◌%◌, ◌^◌, ◌<◌, ◌≤◌, ◌⊎◌, min, inl, inr, sym, ap, ◌∙◌, arith}
 use Rattle.std.specs.Int.{bit_at}
 use mir.Syntax.{w32}

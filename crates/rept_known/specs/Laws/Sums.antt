@@ -87,7 +87,8 @@ greatest a b first = (a.value + a.loose) + (b.value + b.loose) + first
 add_bits : (p q c p' q' : ℕ) → p ≡ p' → q ≡ q' → (p + q + c) % 2 ≡ (p' + q' + c) % 2
 add_bits p q c p' q' e f = omega arith
 
--- The lemma: where no bit of the operands is open, and the two sums don't differ, each sum has their bit.
+-- The lemma: where no bit of the operands is open, and the two sums don't differ, each sum has
+-- their bit.
 pub sum_known : (a b : Bits) (x y first i : ℕ) → first ≤ 1 → Agrees a x → Agrees b y → i < 32 → bit_at a.loose i ≡ 0 → bit_at b.loose i ≡ 0 → bit_at (greatest a b first) i ≡ bit_at (least a b first) i → bit_at (x + y + first) i ≡ bit_at (least a b first) i
 sum_known a b x y first i le h k l e f same =
     let v = a.value in

@@ -1,4 +1,5 @@
-//! What is known of registers at a point beside what is known of them at the points before and after it.
+//! What is known of registers at a point beside what is known of them at the points before and
+//! after it.
 
 ghost use Rattle.std.specs.Prelude.{◌≡◌, ◌+◌, ◌-◌, ◌<◌, ◌≤◌, ◌↔◌, Some, IsTrue};
 ghost use Rattle.rept_reason.specs.declared.fact.Cell.TheVariants.{Register};
@@ -61,7 +62,8 @@ impl<B: ByteFacts> FactLog<B> {
         self.same[slot(point, r)]
     }
 
-    /// The first register from one on, other than x0, of which not the same is known at a point and at the one after it, if there is one.
+    /// The first register from one on, other than x0, of which not the same is known at a point and
+    /// at the one after it, if there is one.
     pub fn next_differing(&self, point: u32, least: u8) -> Option<Reg>
         requires point { point < self.now.last }
         requires named { 0 < least }

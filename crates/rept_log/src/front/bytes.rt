@@ -43,7 +43,7 @@ impl<'k, 'd, P: Paths, L: LastValues, B: ByteFacts, W: Transfer, R: RowRules> Fr
         })
     }
 
-    /// So many bytes from a base on.
+    /// The bytes from a base on, this many.
     fn bytes_from(
         &self,
         alloc: Global,

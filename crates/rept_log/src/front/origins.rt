@@ -11,8 +11,8 @@ ghost use Rattle.rept_log.specs.Fronts.{basis_of, front_of, stands, IsCarriedBy,
 
 use super::Front;
 use crate::last::LastValues;
-use rept_nearest::Found;
-use rept_origin::{Sources, Step, nearer, nearest_origin};
+use rept_nearest::NearestValue;
+use rept_origin::{Carriage, Sources, nearer, nearest_origin};
 use rept_report::Paths;
 use rept_span::Transfer;
 use rept_versions::ByteFacts;
@@ -96,13 +96,14 @@ impl<'k, 'd, P: Paths, L: LastValues, B: ByteFacts, W: Transfer, R: RowRules> Fr
         })
     }
 
-    /// The nearest moment from which the byte is carried to this one, in steps from a moment to a next one, on or back.
+    /// The nearest moment from which the byte is carried to this one, in steps from a moment to a
+    /// next one, on or back.
     pub(super) fn nearest(
         &self,
         alloc: Global,
         byte: &LoggedByte<'_, 'k, 'd, P, L, B, W, R>,
         number: u32,
-    ) -> Result<Option<Found>, OutOfMemory>
+    ) -> Result<Option<NearestValue>, OutOfMemory>
         requires same { byte.now.front.now ≡ self.now }
         requires inside { number ≤ (P.timeline self.now.paths).moments.end }
         ensures { IfOk result (λ found. IsNearest (links_in (setting_in (front_of W.sets W.moves R.rules (basis_of P.timeline L.values self.now))) self.now.facts byte.now.address) number found) }
@@ -110,14 +111,15 @@ impl<'k, 'd, P: Paths, L: LastValues, B: ByteFacts, W: Transfer, R: RowRules> Fr
         nearest_origin(alloc, self.paths, byte, number)
     }
 
-    /// The step by which the byte is carried to a moment from one that is nearer to the nearest from which it is.
+    /// The step by which the byte is carried to a moment from one that is nearer to the nearest
+    /// from which it is.
     pub(super) fn step_to(
         &self,
         alloc: Global,
         byte: &LoggedByte<'_, 'k, 'd, P, L, B, W, R>,
         number: u32,
-        found: Found,
-    ) -> Result<Step, OutOfMemory>
+        found: NearestValue,
+    ) -> Result<Carriage, OutOfMemory>
         requires same { byte.now.front.now ≡ self.now }
         requires inside { number ≤ (P.timeline self.now.paths).moments.end }
         requires nearest { IsNearest (links_in (setting_in (front_of W.sets W.moves R.rules (basis_of P.timeline L.values self.now))) self.now.facts byte.now.address) number (Some found) }
@@ -128,7 +130,8 @@ impl<'k, 'd, P: Paths, L: LastValues, B: ByteFacts, W: Transfer, R: RowRules> Fr
         nearer(alloc, self.paths, byte, number, found)
     }
 
-    /// The byte that stands at a moment. `OutOfMemory` says that the room for the search, one number for each moment, can't be had.
+    /// The byte that stands at a moment. `OutOfMemory` says that the room for the search, one
+    /// number for each moment, can't be had.
     pub fn byte(&self, alloc: Global, number: u32, a: u32) -> Result<Option<u8>, OutOfMemory>
         requires { number ≤ (P.timeline self.now.paths).moments.end }
         ensures { IfOk result (λ byte. byte ≡ stands (front_of W.sets W.moves R.rules (basis_of P.timeline L.values self.now)) number (Byte a)) }
@@ -137,7 +140,7 @@ impl<'k, 'd, P: Paths, L: LastValues, B: ByteFacts, W: Transfer, R: RowRules> Fr
         self.standing(alloc, &byte, number)
     }
 
-    /// The same of a byte that was found before.
+    /// The place from which a byte that was found before stands at a moment.
     pub(super) fn standing(
         &self,
         alloc: Global,

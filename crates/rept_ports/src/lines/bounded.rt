@@ -2,16 +2,18 @@
 
 ghost use Rattle.std.specs.Prelude.{◌≡◌, [], None, false};
 
-use crate::lines::found::{Found, LineBytes};
+use crate::lines::found::{LineBytes, LineRead};
 use crate::lines::intake::Intake;
 use crate::lines::limits::LineFault;
 use crate::lines::read_line::read_line;
 use crate::traits::Source;
 
-/// The lines of a source, of which at most 1,048,576 bytes are taken, and no more at a time than 512.
+/// The lines of a source, of which at most 1,048,576 bytes are taken, and no more at a time than
+/// 512.
 ///
-/// A line ends with a newline, and one carriage return before it is no part of the line. What stands after the last
-/// newline is a line too, where it is not empty. The end of the input is remembered: nothing is read after it.
+/// A line ends with a newline, and one carriage return before it is no part of the line. What
+/// stands after the last newline is a line too, where it is not empty. The end of the input is
+/// remembered: nothing is read after it.
 #[derive(Drop)]
 pub struct BoundedLines<'s, S: Source> {
     pub(crate) source: &'s mut S,
@@ -40,7 +42,7 @@ impl<'s, S: Source> BoundedLines<'s, S> {
     }
 
     /// Goes on to the next line, whose bytes are then in `line`.
-    pub(crate) fn advance(&mut self) -> Result<Found, LineFault>
+    pub(crate) fn advance(&mut self) -> Result<LineRead, LineFault>
         ensures same { self.new.source.ghost_name ≡ self.old.source.ghost_name }
         ensures step { LinesOn S.port self.old self.new (said_of result self.new.line.items) }
     {
@@ -48,7 +50,7 @@ impl<'s, S: Source> BoundedLines<'s, S> {
             return Err(fault);
         }
         if self.intake.has_ended() {
-            return Ok(Found::End);
+            return Ok(LineRead::End);
         }
         let found = read_line(&mut self.intake, self.source, &mut self.line);
         if let Err(fault) = found {

@@ -19,7 +19,8 @@ pub enum LineFault {
     TooMuchInput,
 }
 
-/// A line of the input, without the newline that ends it and without one carriage return before that.
+/// A line of the input, without the newline that ends it and without one carriage return before
+/// that.
 #[derive(Clone, Copy, Debug)]
 pub enum Line<'a> {
     /// Its bytes, of which there are at most 256.

@@ -3,7 +3,7 @@
 ghost use Rattle.std.specs.Prelude.{◌≡◌, false};
 ghost use Rattle.rept_ports.specs.Lines.{LineStep, said_of};
 
-use crate::lines::found::{Found, LineBytes, at_end, finish};
+use crate::lines::found::{LineBytes, LineRead, at_end, finish};
 use crate::lines::intake::Intake;
 use crate::lines::limits::LineFault;
 use crate::traits::Source;
@@ -13,7 +13,7 @@ pub fn read_line<S: Source>(
     intake: &mut Intake,
     source: &mut S,
     line: &mut LineBytes,
-) -> Result<Found, LineFault>
+) -> Result<LineRead, LineFault>
     requires { intake.old.ended ≡ false }
     ensures { LineStep intake.old intake.new (S.port source.old) (S.port source.new) (said_of result line.new.items) }
 {

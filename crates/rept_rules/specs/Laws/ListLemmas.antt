@@ -11,12 +11,12 @@ use Rattle.rept_partial.specs.declared.flat.Flat.{Flat}
 use Rattle.rept_partial.specs.declared.flat.Flat.TheVariants.{Unknown, Known}
 use Rattle.rept_machine.specs.Arithmetic.{loaded, half_at, word_at, extended}
 use Rattle.rept_reason.specs.Facts.{flat}
-use Rattle.rept_view.specs.declared.drawn.When.{When}
-use Rattle.rept_view.specs.declared.drawn.When.TheVariants.{After}
-use Rattle.rept_view.specs.declared.drawn.Drawn.{Drawn}
+use Rattle.rept_view.specs.declared.inferred.When.{When}
+use Rattle.rept_view.specs.declared.inferred.When.TheVariants.{After}
+use Rattle.rept_view.specs.declared.inferred.Conclusion.{Conclusion}
 use Rattle.rept_view.specs.Seen.{Seen}
 use Rattle.rept_rules.specs.Conclusions.{IsOnRegister, on_register, on_byte, load_width}
-use Rattle.rept_rules.specs.Listing.{is_named, register_drawn, some_drawn, bytes_drawn, known_bytes_drawn, two_bytes, four_bytes, half_from, word_from, extended_from, loaded_from, at_known, known_after}
+use Rattle.rept_rules.specs.Listing.{is_named, register_inferred, some_inferred, bytes_inferred, known_bytes_inferred, two_bytes, four_bytes, half_from, word_from, extended_from, loaded_from, at_known, known_after}
 use Rattle.rept_rules.specs.Laws.ValueLemmas.{either_way}
 use Rattle.rept_rules.specs.Laws.SolveLemmas.{known, unknown}
 
@@ -45,49 +45,49 @@ is_named_by : (r : ℕ) → 0 < r → r < 32 → is_named r ≡ true
 is_named_by r some few = grind (arith, some, few)
 
 -- a conclusion on a register
-pub in_register : (rule : ℕ) (when : When) (r : ℕ) (x : Flat) (d : Drawn) → Contains (register_drawn rule when r x) d → (v : ℕ) × (x ≡ Known v) × IsOnRegister d rule when r v
+pub in_register : (rule : ℕ) (when : When) (r : ℕ) (x : Flat) (d : Conclusion) → Contains (register_inferred rule when r x) d → (v : ℕ) × (x ≡ Known v) × IsOnRegister d rule when r v
 in_register rule when r Unknown d has = absurd (nothing d has)
 in_register rule when r (Known v) d has = elim (either_way (is_named r)) [
   | inl t ↦ let n = named r t in (v, refl, record { named = n.0; in_file = n.1; is = single (on_register rule when r v) d (subst (λ (b : Bool). Contains (if b then on_register rule when r v ∷ [] else []) d) t has) })
   | inr f ↦ absurd (nothing d (subst (λ (b : Bool). Contains (if b then on_register rule when r v ∷ [] else []) d) f has))
 ]
 
-pub register_in : (rule : ℕ) (when : When) (r v : ℕ) (x : Flat) (d : Drawn) → x ≡ Known v → IsOnRegister d rule when r v → Contains (register_drawn rule when r x) d
+pub register_in : (rule : ℕ) (when : When) (r v : ℕ) (x : Flat) (d : Conclusion) → x ≡ Known v → IsOnRegister d rule when r v → Contains (register_inferred rule when r x) d
 register_in rule when r v x d e says =
-    subst (λ (y : Flat). Contains (register_drawn rule when r y) d) (sym e) (subst (λ (b : Bool). Contains (if b then on_register rule when r v ∷ [] else []) d) (sym (is_named_by r says.named says.in_file)) (has_single (on_register rule when r v) d says.is))
+    subst (λ (y : Flat). Contains (register_inferred rule when r y) d) (sym e) (subst (λ (b : Bool). Contains (if b then on_register rule when r v ∷ [] else []) d) (sym (is_named_by r says.named says.in_file)) (has_single (on_register rule when r v) d says.is))
 
-pub in_some : (rule : ℕ) (when : When) (o : Option ℕ) (x : Flat) (d : Drawn) → Contains (some_drawn rule when o x) d → (r v : ℕ) × (o ≡ Some r) × (x ≡ Known v) × IsOnRegister d rule when r v
+pub in_some : (rule : ℕ) (when : When) (o : Option ℕ) (x : Flat) (d : Conclusion) → Contains (some_inferred rule when o x) d → (r v : ℕ) × (o ≡ Some r) × (x ≡ Known v) × IsOnRegister d rule when r v
 in_some rule when None x d has = absurd (nothing d has)
 in_some rule when (Some r) x d has = let i = in_register rule when r x d has in (r, i.0, refl, i.1, i.2)
 
-pub some_in : (rule : ℕ) (when : When) (r v : ℕ) (o : Option ℕ) (x : Flat) (d : Drawn) → o ≡ Some r → x ≡ Known v → IsOnRegister d rule when r v → Contains (some_drawn rule when o x) d
-some_in rule when r v o x d named e says = subst (λ (y : Option ℕ). Contains (some_drawn rule when y x) d) (sym named) (register_in rule when r v x d e says)
+pub some_in : (rule : ℕ) (when : When) (r v : ℕ) (o : Option ℕ) (x : Flat) (d : Conclusion) → o ≡ Some r → x ≡ Known v → IsOnRegister d rule when r v → Contains (some_inferred rule when o x) d
+some_in rule when r v o x d named e says = subst (λ (y : Option ℕ). Contains (some_inferred rule when y x) d) (sym named) (register_in rule when r v x d e says)
 
 -- conclusions on bytes
-pub in_bytes : (rule : ℕ) (when : When) (base v width : ℕ) (d : Drawn) → Contains (bytes_drawn rule when base v width) d → (k : ℕ) × (k < width) × (d ≡ on_byte rule when base v k)
+pub in_bytes : (rule : ℕ) (when : When) (base v width : ℕ) (d : Conclusion) → Contains (bytes_inferred rule when base v width) d → (k : ℕ) × (k < width) × (d ≡ on_byte rule when base v k)
 in_bytes rule when base v zero d has = absurd (nothing d has)
-in_bytes rule when base v (suc n) d has = elim (Contains-append_cases (bytes_drawn rule when base v n) (on_byte rule when base v n ∷ []) d has) [
+in_bytes rule when base v (suc n) d has = elim (Contains-append_cases (bytes_inferred rule when base v n) (on_byte rule when base v n ∷ []) d has) [
   | inl before ↦ let i = in_bytes rule when base v n d before in (i.0, omega (arith, i.1), i.2)
   | inr last ↦ (n, omega arith, single (on_byte rule when base v n) d last)
 ]
 
-pub bytes_in : (rule : ℕ) (when : When) (base v width k : ℕ) (d : Drawn) → k < width → d ≡ on_byte rule when base v k → Contains (bytes_drawn rule when base v width) d
+pub bytes_in : (rule : ℕ) (when : When) (base v width k : ℕ) (d : Conclusion) → k < width → d ≡ on_byte rule when base v k → Contains (bytes_inferred rule when base v width) d
 bytes_in rule when base v zero k d below e = absurd (omega (arith, below))
 bytes_in rule when base v (suc n) k d below e = elim (last_or k n below) [
-  | inl is ↦ Contains-append_right (bytes_drawn rule when base v n) (on_byte rule when base v n ∷ []) d (has_single (on_byte rule when base v n) d (e ∙ ap (λ (i : ℕ). on_byte rule when base v i) is))
-  | inr less ↦ Contains-append_left (bytes_drawn rule when base v n) (on_byte rule when base v n ∷ []) d (bytes_in rule when base v n k d less e)
+  | inl is ↦ Contains-append_right (bytes_inferred rule when base v n) (on_byte rule when base v n ∷ []) d (has_single (on_byte rule when base v n) d (e ∙ ap (λ (i : ℕ). on_byte rule when base v i) is))
+  | inr less ↦ Contains-append_left (bytes_inferred rule when base v n) (on_byte rule when base v n ∷ []) d (bytes_in rule when base v n k d less e)
 ]
   where
     last_or : (k n : ℕ) → k < suc n → (k ≡ n) ⊎ (k < n)
     last_or k n h = elim (cases_order k n) [ inl e ↦ inl e | inr (inl l) ↦ inr l | inr (inr g) ↦ absurd (omega arith) ]
 
-pub in_known_bytes : (rule : ℕ) (when : When) (x : Flat) (imm : ℤ) (y : Flat) (width : ℕ) (d : Drawn) → Contains (known_bytes_drawn rule when x imm y width) d → (b v k : ℕ) × (x ≡ Known b) × (y ≡ Known v) × (k < width) × (d ≡ on_byte rule when (plus b imm) v k)
+pub in_known_bytes : (rule : ℕ) (when : When) (x : Flat) (imm : ℤ) (y : Flat) (width : ℕ) (d : Conclusion) → Contains (known_bytes_inferred rule when x imm y width) d → (b v k : ℕ) × (x ≡ Known b) × (y ≡ Known v) × (k < width) × (d ≡ on_byte rule when (plus b imm) v k)
 in_known_bytes rule when Unknown imm y width d has = absurd (nothing d has)
 in_known_bytes rule when (Known b) imm Unknown width d has = absurd (nothing d has)
 in_known_bytes rule when (Known b) imm (Known v) width d has = let i = in_bytes rule when (plus b imm) v width d has in (b, v, i.0, refl, refl, i.1, i.2)
 
-pub known_bytes_in : (rule : ℕ) (when : When) (x : Flat) (imm : ℤ) (y : Flat) (width b v k : ℕ) (d : Drawn) → x ≡ Known b → y ≡ Known v → k < width → d ≡ on_byte rule when (plus b imm) v k → Contains (known_bytes_drawn rule when x imm y width) d
-known_bytes_in rule when x imm y width b v k d e f below is = subst (λ (z : Flat). Contains (known_bytes_drawn rule when z imm y width) d) (sym e) (subst (λ (z : Flat). Contains (known_bytes_drawn rule when (Known b) imm z width) d) (sym f) (bytes_in rule when (plus b imm) v width k d below is))
+pub known_bytes_in : (rule : ℕ) (when : When) (x : Flat) (imm : ℤ) (y : Flat) (width b v k : ℕ) (d : Conclusion) → x ≡ Known b → y ≡ Known v → k < width → d ≡ on_byte rule when (plus b imm) v k → Contains (known_bytes_inferred rule when x imm y width) d
+known_bytes_in rule when x imm y width b v k d e f below is = subst (λ (z : Flat). Contains (known_bytes_inferred rule when z imm y width) d) (sym e) (subst (λ (z : Flat). Contains (known_bytes_inferred rule when (Known b) imm z width) d) (sym f) (bytes_in rule when (plus b imm) v width k d below is))
 
 -- what is known at a known base
 pub at_known_is : (x : Flat) (imm : ℤ) (f : ℕ → Flat) (v : ℕ) → at_known x imm f ≡ Known v → (b : ℕ) × (x ≡ Known b) × (f (plus b imm) ≡ Known v)

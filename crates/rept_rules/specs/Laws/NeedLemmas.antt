@@ -22,10 +22,10 @@ use Rattle.rept_machine.specs.Arithmetic.{register_form}
 use Rattle.rept_reason.specs.declared.fact.Cell.{Cell}
 use Rattle.rept_reason.specs.declared.fact.Cell.TheVariants.{Register, Byte}
 use Rattle.rept_reason.specs.Facts.{flat}
-use Rattle.rept_view.specs.declared.drawn.When.{When}
-use Rattle.rept_view.specs.declared.drawn.When.TheVariants.{Before, After}
-use Rattle.rept_view.specs.declared.drawn.Drawn.{Drawn}
-use Rattle.rept_view.specs.declared.drawn.Need.{Need}
+use Rattle.rept_view.specs.declared.inferred.When.{When}
+use Rattle.rept_view.specs.declared.inferred.When.TheVariants.{Before, After}
+use Rattle.rept_view.specs.declared.inferred.Conclusion.{Conclusion}
+use Rattle.rept_view.specs.declared.inferred.Premise.{Premise}
 use Rattle.rept_view.specs.Seen.{Seen, IsLawful, seen_cell}
 use Rattle.rept_view.specs.Rules.{IsRowCell, IsRowByte, offset_of}
 use Rattle.rept_rules.specs.declared.operand.Side.{Side}
@@ -43,12 +43,12 @@ use Rattle.rept_rules.specs.Laws.SolveLemmas.{unknown}
 use Rattle.rept_rules.specs.Laws.ListLemmas.{nothing, single, has_single, flat_some}
 use Rattle.rept_rules.specs.Laws.Own.{copied_read}
 
-abbrev pub need : When → Cell → Need
+abbrev pub need : When → Cell → Premise
 need when cell = record { when = when; cell = cell }
 
 -- ---- what stands in the lists
 
-pub in_need : (when : When) (r : ℕ) (n : Need) → Contains (register_need when r) n → (r ≢ 0) × (n ≡ need when (Register r))
+pub in_need : (when : When) (r : ℕ) (n : Premise) → Contains (register_need when r) n → (r ≢ 0) × (n ≡ need when (Register r))
 in_need when zero n has = absurd (nothing n has)
 in_need when (suc r) n has = (λ e. omega (arith, e), single (need when (Register (suc r))) n (subst (λ (b : Bool). Contains (if b then [] else need when (Register (suc r)) ∷ []) n) (over_zero r) has))
 
@@ -56,7 +56,7 @@ pub need_in : (when : When) (r : ℕ) → r ≢ 0 → Contains (register_need wh
 need_in when zero named = absurd (named refl)
 need_in when (suc r) named = subst (λ (b : Bool). Contains (if b then [] else need when (Register (suc r)) ∷ []) (need when (Register (suc r)))) (sym (over_zero r)) (has_single (need when (Register (suc r))) _ refl)
 
-pub in_byte_needs : (when : When) (base width : ℕ) (n : Need) → Contains (byte_needs when base width) n → (k : ℕ) × (k < width) × (n ≡ need when (Byte (beside base k)))
+pub in_byte_needs : (when : When) (base width : ℕ) (n : Premise) → Contains (byte_needs when base width) n → (k : ℕ) × (k < width) × (n ≡ need when (Byte (beside base k)))
 in_byte_needs when base zero n has = absurd (nothing n has)
 in_byte_needs when base (suc w) n has = elim (Contains-append_cases (byte_needs when base w) (need when (Byte (beside base w)) ∷ []) n has) [
   | inl h ↦ let i = in_byte_needs when base w n h in (i.0, omega (arith, i.1), i.2)
@@ -73,13 +73,13 @@ byte_needs_in when base (suc w) k below = elim (cases_order k w) [
 
 -- ---- two views agree on a list
 
-abbrev pub Agree : Seen → Seen → List Need → Type 0
-Agree s t ns = (n : Need) → Contains ns n → seen_cell t n.when n.cell ≡ seen_cell s n.when n.cell
+abbrev pub Agree : Seen → Seen → List Premise → Type 0
+Agree s t ns = (n : Premise) → Contains ns n → seen_cell t n.when n.cell ≡ seen_cell s n.when n.cell
 
-pub agree_left : (s t : Seen) (xs ys : List Need) → Agree s t (xs ++ ys) → Agree s t xs
+pub agree_left : (s t : Seen) (xs ys : List Premise) → Agree s t (xs ++ ys) → Agree s t xs
 agree_left s t xs ys h n has = h n (Contains-append_left xs ys n has)
 
-pub agree_right : (s t : Seen) (xs ys : List Need) → Agree s t (xs ++ ys) → Agree s t ys
+pub agree_right : (s t : Seen) (xs ys : List Premise) → Agree s t (xs ++ ys) → Agree s t ys
 agree_right s t xs ys h n has = h n (Contains-append_right xs ys n has)
 
 pub agree_register : (s t : Seen) (when : When) (r : ℕ) → IsLawful s → IsLawful t → Agree s t (register_need when r) → t.register when r ≡ s.register when r
@@ -103,25 +103,25 @@ agree_second s t r q ls lt h = elim (either_way (r == q)) [
 
 -- ---- what is needed is the row's and known
 
-pub record IsGood (row : StepRow) (s : Seen) (n : Need) : Type 0 where
+pub record IsGoodRow (row : StepRow) (s : Seen) (n : Premise) : Type 0 where
   pub own : IsRowCell base_rules row s n.when n.cell
   pub value : ℕ
   pub is_known : seen_cell s n.when n.cell ≡ Some value
 
-abbrev pub AreGood : StepRow → Seen → List Need → Type 0
-AreGood row s ns = (n : Need) → Contains ns n → IsGood row s n
+abbrev pub AreGood : StepRow → Seen → List Premise → Type 0
+AreGood row s ns = (n : Premise) → Contains ns n → IsGoodRow row s n
 
 good_none : (row : StepRow) (s : Seen) → AreGood row s []
 good_none row s n has = absurd (nothing n has)
 
-good_both : (row : StepRow) (s : Seen) (xs ys : List Need) → AreGood row s xs → AreGood row s ys → AreGood row s (xs ++ ys)
+good_both : (row : StepRow) (s : Seen) (xs ys : List Premise) → AreGood row s xs → AreGood row s ys → AreGood row s (xs ++ ys)
 good_both row s xs ys f g n has = elim (Contains-append_cases xs ys n has) [ inl h ↦ f n h | inr h ↦ g n h ]
 
 good_register : (row : StepRow) (s : Seen) (when : When) (r : ℕ) → IsRowCell base_rules row s when (Register r) → (r ≢ 0 → (v : ℕ) × (s.register when r ≡ Some v)) → AreGood row s (register_need when r)
 good_register row s when r own value n has =
     let i = in_need when r n has in
     let v = value i.0 in
-    subst (λ (m : Need). IsGood row s m) (sym i.1) (record { own = own; value = v.0; is_known = v.1 })
+    subst (λ (m : Premise). IsGoodRow row s m) (sym i.1) (record { own = own; value = v.0; is_known = v.1 })
 
 good_pair : (row : StepRow) (s : Seen) (r q : ℕ) → AreGood row s (register_need Before r) → AreGood row s (register_need Before q) → AreGood row s (both_needs r q)
 good_pair row s r q f g = elim (either_way (r == q)) [
@@ -137,7 +137,7 @@ good_bytes : (row : StepRow) (s : Seen) (when : When) (r b width : ℕ) (imm : �
 good_bytes row s when r b width imm memory read base offset places few bytes n has =
     let i = in_byte_needs when (plus b imm) width n has in
     let here : IsRowByte base_rules row s (beside (plus b imm) i.0) = record { base_register = r; base = b; k = i.0; read = read; base_known = base; below_places = subst (λ (w : ℕ). i.0 < w) places i.1; below_four = omega (arith, i.1, few); address = ap (λ (x : ℤ). beside (plus b x) i.0) (sym offset) } in
-    subst (λ (m : Need). IsGood row s m) (sym i.2) (record { own = byte_at row s when _ here; value = memory (beside (plus b imm) i.0); is_known = bytes i.0 i.1 })
+    subst (λ (m : Premise). IsGoodRow row s m) (sym i.2) (record { own = byte_at row s when _ here; value = memory (beside (plus b imm) i.0); is_known = bytes i.0 i.1 })
 
 -- ---- rule 7
 
@@ -163,7 +163,7 @@ both_known op Unknown Unknown v f g e = absurd (unknown e)
 operand_value : (s : Seen) (r a : ℕ) → operand r (known_at s Before r) ≡ Known a → r ≢ 0 → (v : ℕ) × (s.register Before r ≡ Some v)
 operand_value s r a e named = (a, flat_some (s.register Before r) a (operand_known r (known_at s Before r) a named e))
 
-abbrev choose_needs : Bool → Bool → Bool → ℕ → ℕ → List Need
+abbrev choose_needs : Bool → Bool → Bool → ℕ → ℕ → List Premise
 choose_needs c f g rs1 rs2 = if c then [] else if f then register_need Before rs1 else if g then register_need Before rs2 else both_needs rs1 rs2
 
 abbrev first_of : Seen → ℕ → Flat
@@ -263,19 +263,19 @@ again_result (Counter n csr) row s t rd v ls lt e h = e
 
 -- ---- the lists of the other rules
 
-load_list : (row : StepRow) (s : Seen) (d : Drawn) (op : LoadOp) (rd rs1 b v : ℕ) (imm : ℤ) → row.instr ≡ Load op rd rs1 imm → s.register Before rs1 ≡ Some b → d ≡ on_register 8 After rd v → needs_of row.instr s d ≡ register_need Before rs1 ++ byte_needs Before (plus b imm) (load_width op)
+load_list : (row : StepRow) (s : Seen) (d : Conclusion) (op : LoadOp) (rd rs1 b v : ℕ) (imm : ℤ) → row.instr ≡ Load op rd rs1 imm → s.register Before rs1 ≡ Some b → d ≡ on_register 8 After rd v → needs_of row.instr s d ≡ register_need Before rs1 ++ byte_needs Before (plus b imm) (load_width op)
 load_list row s d op rd rs1 b v imm is base e =
-    ap (λ (i : Instr). needs_of i s d) is ∙ ap (λ (x : Drawn). load_needs op rd rs1 imm s x.when) e ∙ ap (λ (x : Option ℕ). register_need Before rs1 ++ known_byte_needs Before (flat x) imm (load_width op)) base
+    ap (λ (i : Instr). needs_of i s d) is ∙ ap (λ (x : Conclusion). load_needs op rd rs1 imm s x.when) e ∙ ap (λ (x : Option ℕ). register_need Before rs1 ++ known_byte_needs Before (flat x) imm (load_width op)) base
 
-load_back_list : (row : StepRow) (s : Seen) (d : Drawn) (op : LoadOp) (rd rs1 base v k : ℕ) (imm : ℤ) → row.instr ≡ Load op rd rs1 imm → d ≡ on_byte 15 Before base v k → needs_of row.instr s d ≡ register_need After rd ++ register_need Before rs1
-load_back_list row s d op rd rs1 base v k imm is e = ap (λ (i : Instr). needs_of i s d) is ∙ ap (λ (x : Drawn). load_needs op rd rs1 imm s x.when) e
+load_back_list : (row : StepRow) (s : Seen) (d : Conclusion) (op : LoadOp) (rd rs1 base v k : ℕ) (imm : ℤ) → row.instr ≡ Load op rd rs1 imm → d ≡ on_byte 15 Before base v k → needs_of row.instr s d ≡ register_need After rd ++ register_need Before rs1
+load_back_list row s d op rd rs1 base v k imm is e = ap (λ (i : Instr). needs_of i s d) is ∙ ap (λ (x : Conclusion). load_needs op rd rs1 imm s x.when) e
 
-store_list : (row : StepRow) (s : Seen) (d : Drawn) (op : StoreOp) (rs1 rs2 base v k : ℕ) (imm : ℤ) → row.instr ≡ Store op rs1 rs2 imm → d ≡ on_byte 9 After base v k → needs_of row.instr s d ≡ both_needs rs1 rs2
-store_list row s d op rs1 rs2 base v k imm is e = ap (λ (i : Instr). needs_of i s d) is ∙ ap (λ (x : Drawn). store_needs rs1 rs2 imm s x.when) e
+store_list : (row : StepRow) (s : Seen) (d : Conclusion) (op : StoreOp) (rs1 rs2 base v k : ℕ) (imm : ℤ) → row.instr ≡ Store op rs1 rs2 imm → d ≡ on_byte 9 After base v k → needs_of row.instr s d ≡ both_needs rs1 rs2
+store_list row s d op rs1 rs2 base v k imm is e = ap (λ (i : Instr). needs_of i s d) is ∙ ap (λ (x : Conclusion). store_needs rs1 rs2 imm s x.when) e
 
-store_back_list : (row : StepRow) (s : Seen) (d : Drawn) (rs1 rs2 b v : ℕ) (imm : ℤ) → row.instr ≡ Store Sw rs1 rs2 imm → s.register Before rs1 ≡ Some b → d ≡ on_register 16 Before rs2 v → needs_of row.instr s d ≡ register_need Before rs1 ++ byte_needs After (plus b imm) 4
+store_back_list : (row : StepRow) (s : Seen) (d : Conclusion) (rs1 rs2 b v : ℕ) (imm : ℤ) → row.instr ≡ Store Sw rs1 rs2 imm → s.register Before rs1 ≡ Some b → d ≡ on_register 16 Before rs2 v → needs_of row.instr s d ≡ register_need Before rs1 ++ byte_needs After (plus b imm) 4
 store_back_list row s d rs1 rs2 b v imm is base e =
-    ap (λ (i : Instr). needs_of i s d) is ∙ ap (λ (x : Drawn). store_needs rs1 rs2 imm s x.when) e ∙ ap (λ (x : Option ℕ). register_need Before rs1 ++ known_byte_needs After (flat x) imm 4) base
+    ap (λ (i : Instr). needs_of i s d) is ∙ ap (λ (x : Conclusion). store_needs rs1 rs2 imm s x.when) e ∙ ap (λ (x : Option ℕ). register_need Before rs1 ++ known_byte_needs After (flat x) imm 4) base
 
 -- of two registers the one that the conclusion isn't on
 other_is : (side : Side) (rs1 rs2 : ℕ) → other_register (Register (on side rs1 rs2)) rs1 rs2 ≡ on (opposite side) rs1 rs2
@@ -285,8 +285,8 @@ other_is Second rs1 rs2 = elim (either_way (rs2 == rs1)) [
   | inr f ↦ rw f refl
 ]
 
-branch_list : (row : StepRow) (s : Seen) (d : Drawn) (side : Side) (op : _) (rs1 rs2 v : ℕ) (imm : ℤ) → row.instr ≡ Branch op rs1 rs2 imm → d ≡ on_register 14 Before (on side rs1 rs2) v → needs_of row.instr s d ≡ register_need Before (on (opposite side) rs1 rs2)
-branch_list row s d side op rs1 rs2 v imm is e = ap (λ (i : Instr). needs_of i s d) is ∙ ap (λ (x : Drawn). register_need Before (other_register x.cell rs1 rs2)) e ∙ ap (λ (r : ℕ). register_need Before r) (other_is side rs1 rs2)
+branch_list : (row : StepRow) (s : Seen) (d : Conclusion) (side : Side) (op : _) (rs1 rs2 v : ℕ) (imm : ℤ) → row.instr ≡ Branch op rs1 rs2 imm → d ≡ on_register 14 Before (on side rs1 rs2) v → needs_of row.instr s d ≡ register_need Before (on (opposite side) rs1 rs2)
+branch_list row s d side op rs1 rs2 v imm is e = ap (λ (i : Instr). needs_of i s d) is ∙ ap (λ (x : Conclusion). register_need Before (other_register x.cell rs1 rs2)) e ∙ ap (λ (r : ℕ). register_need Before r) (other_is side rs1 rs2)
 
 -- the rules of operands are neither that of results nor that of copies
 other_rule : (op : RegOp) (rule : ℕ) → operation_rule op ≡ Some rule → ((rule == 7) ≡ false) × ((rule == 18) ≡ false)
@@ -309,7 +309,7 @@ other_rule Mul rule e = by 13 (same_some e) refl refl
 other_rule _ rule e = absurd (no_some e)
 
 -- what an operand rests on
-data Solving (instr : Instr) (side : Side) (rd : ℕ) (s : Seen) (d : Drawn) : Type 0 where
+data Solving (instr : Instr) (side : Side) (rd : ℕ) (s : Seen) (d : Conclusion) : Type 0 where
   alone : needs_of instr s d ≡ register_need After rd → ((v : ℕ) (x y : Flat) → solve_of instr side v x ≡ solve_of instr side v y) → Solving instr side rd s d
   with_other : (q : ℕ) → needs_of instr s d ≡ register_need After rd ++ register_need Before q → operand_of instr (opposite side) ≡ Some q → ((v w : ℕ) (x : Flat) → solve_of instr side v x ≡ Known w → q ≢ 0 → (a : ℕ) × (x ≡ Known a)) → Solving instr side rd s d
 
@@ -334,20 +334,20 @@ opposite_register : (op : RegOp) (n rs1 rs2 : ℕ) (side : Side) → operand_of 
 opposite_register op n rs1 rs2 First = refl
 opposite_register op n rs1 rs2 Second = refl
 
-immediate_alone : (op : ImmOp) (n rs1 r rd rule w : ℕ) (imm : ℤ) (side : Side) (s : Seen) (d : Drawn) → n ≡ rd → operation_rule (register_form op) ≡ Some rule → operand_of (Imm op n rs1 imm) side ≡ Some r → d ≡ on_register rule Before r w → Solving (Imm op n rs1 imm) side rd s d
+immediate_alone : (op : ImmOp) (n rs1 r rd rule w : ℕ) (imm : ℤ) (side : Side) (s : Seen) (d : Conclusion) → n ≡ rd → operation_rule (register_form op) ≡ Some rule → operand_of (Imm op n rs1 imm) side ≡ Some r → d ≡ on_register rule Before r w → Solving (Imm op n rs1 imm) side rd s d
 immediate_alone op n rs1 r rd rule w imm Second s d same by read e = absurd (no_some read)
 immediate_alone op n rs1 r rd rule w imm First s d same by read e =
     let o = other_rule (register_form op) rule by in
-    alone (ap (λ (x : Drawn). immediate_needs op n rs1 imm x) e ∙ ap (λ (b : Bool). if b then (if absorbs (register_form op) (word imm) then [] else register_need Before rs1) else register_need After n) o.0 ∙ ap (λ (x : ℕ). register_need After x) same) (λ v x y. refl)
+    alone (ap (λ (x : Conclusion). immediate_needs op n rs1 imm x) e ∙ ap (λ (b : Bool). if b then (if absorbs (register_form op) (word imm) then [] else register_need Before rs1) else register_need After n) o.0 ∙ ap (λ (x : ℕ). register_need After x) same) (λ v x y. refl)
 
-solving : (instr : Instr) (side : Side) (rule rd r w : ℕ) (s : Seen) (d : Drawn) → solving_rule instr ≡ Some rule → written_by instr ≡ Some rd → operand_of instr side ≡ Some r → d ≡ on_register rule Before r w → Solving instr side rd s d
+solving : (instr : Instr) (side : Side) (rule rd r w : ℕ) (s : Seen) (d : Conclusion) → solving_rule instr ≡ Some rule → written_by instr ≡ Some rd → operand_of instr side ≡ Some r → d ≡ on_register rule Before r w → Solving instr side rd s d
 solving (Imm op n rs1 imm) side rule rd r w s d by named read e = immediate_alone op n rs1 r rd rule w imm side s d ((destination n rd named).0) by read e
 solving (Op op n rs1 rs2) side rule rd r w s d by named read e =
     let o = other_rule op rule by in
     let same = (destination n rd named).0 in
     let here : d ≡ on_register rule Before (on side rs1 rs2) w = e ∙ ap (λ (x : ℕ). on_register rule Before x w) (side_register op n rs1 rs2 r side read) in
     with_other (on (opposite side) rs1 rs2)
-    (ap (λ (x : Drawn). operation_needs op n rs1 rs2 s x) here
+    (ap (λ (x : Conclusion). operation_needs op n rs1 rs2 s x) here
     ∙ ap (λ (b : Bool). if b then result_needs op rs1 rs2 s else if rule == 18 then copy_needs Before n (copied_register op rs1 rs2) else register_need After n ++ register_need Before (other_register (Register (on side rs1 rs2)) rs1 rs2)) o.0
     ∙ ap (λ (b : Bool). if b then copy_needs Before n (copied_register op rs1 rs2) else register_need After n ++ register_need Before (other_register (Register (on side rs1 rs2)) rs1 rs2)) o.1
     ∙ ap (λ (x : ℕ). register_need After x ++ register_need Before (other_register (Register (on side rs1 rs2)) rs1 rs2)) same
@@ -357,17 +357,17 @@ solving (Op op n rs1 rs2) side rule rd r w s d by named read e =
 solving _ side rule rd r w s d by named read e = absurd (no_some by)
 
 -- a copy rests on its source, the source on the copy
-copy_list : (instr : Instr) (s : Seen) (d : Drawn) (rd source v : ℕ) → copied instr ≡ Some source → d ≡ on_register 18 After rd v → needs_of instr s d ≡ register_need Before source
+copy_list : (instr : Instr) (s : Seen) (d : Conclusion) (rd source v : ℕ) → copied instr ≡ Some source → d ≡ on_register 18 After rd v → needs_of instr s d ≡ register_need Before source
 copy_list (Imm op n rs1 imm) s d rd source v from e = elim (either_way (is_neutral op imm)) [
-  | inl u ↦ ap (λ (x : Drawn). immediate_needs op n rs1 imm x) e ∙ ap (λ (x : ℕ). register_need Before x) (same_some (rw u at from))
+  | inl u ↦ ap (λ (x : Conclusion). immediate_needs op n rs1 imm x) e ∙ ap (λ (x : ℕ). register_need Before x) (same_some (rw u at from))
   | inr f ↦ absurd (no_some (rw f at from))
 ]
-copy_list (Op op n rs1 rs2) s d rd source v from e = ap (λ (x : Drawn). operation_needs op n rs1 rs2 s x) e ∙ ap (λ (o : Option ℕ). source_need o) from
+copy_list (Op op n rs1 rs2) s d rd source v from e = ap (λ (x : Conclusion). operation_needs op n rs1 rs2 s x) e ∙ ap (λ (o : Option ℕ). source_need o) from
 copy_list _ s d rd source v from e = absurd (no_some from)
 
-copy_back_list : (instr : Instr) (s : Seen) (d : Drawn) (rd source v : ℕ) → written_by instr ≡ Some rd → copied instr ≡ Some source → d ≡ on_register 18 Before source v → needs_of instr s d ≡ register_need After rd
-copy_back_list (Imm op n rs1 imm) s d rd source v named from e = ap (λ (x : Drawn). immediate_needs op n rs1 imm x) e ∙ ap (λ (x : ℕ). register_need After x) ((destination n rd named).0)
-copy_back_list (Op op n rs1 rs2) s d rd source v named from e = ap (λ (x : Drawn). operation_needs op n rs1 rs2 s x) e ∙ ap (λ (x : ℕ). register_need After x) ((destination n rd named).0)
+copy_back_list : (instr : Instr) (s : Seen) (d : Conclusion) (rd source v : ℕ) → written_by instr ≡ Some rd → copied instr ≡ Some source → d ≡ on_register 18 Before source v → needs_of instr s d ≡ register_need After rd
+copy_back_list (Imm op n rs1 imm) s d rd source v named from e = ap (λ (x : Conclusion). immediate_needs op n rs1 imm x) e ∙ ap (λ (x : ℕ). register_need After x) ((destination n rd named).0)
+copy_back_list (Op op n rs1 rs2) s d rd source v named from e = ap (λ (x : Conclusion). operation_needs op n rs1 rs2 s x) e ∙ ap (λ (x : ℕ). register_need After x) ((destination n rd named).0)
 copy_back_list _ s d rd source v named from e = absurd (no_some from)
 
 -- ---- each rule
@@ -382,8 +382,8 @@ few_load Lhu = lit≤ tt
 known_value : (s : Seen) (when : When) (r v : ℕ) → s.register when r ≡ Some v → r ≢ 0 → (w : ℕ) × (s.register when r ≡ Some w)
 known_value s when r v e named = (v, e)
 
-good_list : (row : StepRow) (s : Seen) (d : Drawn) (ns : List Need) → needs_of row.instr s d ≡ ns → AreGood row s ns → AreGood row s (needs_of row.instr s d)
-good_list row s d ns e h = subst (λ (x : List Need). AreGood row s x) (sym e) h
+good_list : (row : StepRow) (s : Seen) (d : Conclusion) (ns : List Premise) → needs_of row.instr s d ≡ ns → AreGood row s ns → AreGood row s (needs_of row.instr s d)
+good_list row s d ns e h = subst (λ (x : List Premise). AreGood row s x) (sym e) h
 
 read_row : (row : StepRow) (s : Seen) (r : ℕ) → (first_read row.instr ≡ Some r) ⊎ (second_read row.instr ≡ Some r) → IsRowCell base_rules row s Before (Register r)
 read_row row s r h = h
@@ -392,7 +392,7 @@ read_side : (instr : Instr) (side : Side) (r : ℕ) → operand_of instr side �
 read_side instr First r e = inl e
 read_side instr Second r e = inr e
 
-good_solving : (row : StepRow) (s : Seen) (d : Drawn) (side : Side) (rd v w : ℕ) → written_by row.instr ≡ Some rd → s.register After rd ≡ Some v → solve_of row.instr side v (seen_operand s (operand_of row.instr (opposite side))) ≡ Known w → Solving row.instr side rd s d → AreGood row s (needs_of row.instr s d)
+good_solving : (row : StepRow) (s : Seen) (d : Conclusion) (side : Side) (rd v w : ℕ) → written_by row.instr ≡ Some rd → s.register After rd ≡ Some v → solve_of row.instr side v (seen_operand s (operand_of row.instr (opposite side))) ≡ Known w → Solving row.instr side rd s d → AreGood row s (needs_of row.instr s d)
 good_solving row s d side rd v w named value e (alone is same) = good_list row s d _ is (good_register row s After rd named (known_value s After rd v value))
 good_solving row s d side rd v w named value e (with_other q is read other) =
     let f : solve_of row.instr side v (known_at s Before q) ≡ Known w = subst (λ (o : Option ℕ). solve_of row.instr side v (seen_operand s o) ≡ Known w) read e in
@@ -401,8 +401,8 @@ good_solving row s d side rd v w named value e (with_other q is read other) =
     (good_register row s Before q (read_side row.instr (opposite side) q read) (λ n. let k = other v w (known_at s Before q) f n in (k.0, flat_some (s.register Before q) k.0 k.1))))
 
 -- what a conclusion rests on is the row's, and known
-pub good_by : (row : StepRow) (s : Seen) (d : Drawn) → ConcludesByRow row s d → AreGood row s (needs_of row.instr s d)
-good_by row s d (rules.result rd v named value says) = subst (λ (x : Drawn). AreGood row s (needs_of row.instr s x)) (sym says.is) (good_result row.instr row s rd v refl value)
+pub good_by : (row : StepRow) (s : Seen) (d : Conclusion) → ConcludesByRow row s d → AreGood row s (needs_of row.instr s d)
+good_by row s d (rules.result rd v named value says) = subst (λ (x : Conclusion). AreGood row s (needs_of row.instr s x)) (sym says.is) (good_result row.instr row s rd v refl value)
 good_by row s d (rules.load op rd rs1 imm b memory is base bytes says) =
     good_list row s d _ (load_list row s d op rd rs1 b _ imm is base says.is) (good_both row s (register_need Before rs1) (byte_needs Before (plus b imm) (load_width op))
     (good_register row s Before rs1 (inl (ap first_read is)) (known_value s Before rs1 b base))
@@ -429,10 +429,10 @@ good_by row s d (rules.copy rd source v named from value says) =
 good_by row s d (rules.copy_back rd source v named from value says) =
     good_list row s d _ (copy_back_list row.instr s d rd source v named from says.is) (good_register row s After rd named (known_value s After rd v value))
 
-agree_list : (row : StepRow) (s t : Seen) (d : Drawn) (ns : List Need) → needs_of row.instr s d ≡ ns → Agree s t (needs_of row.instr s d) → Agree s t ns
-agree_list row s t d ns e h = subst (λ (x : List Need). Agree s t x) e h
+agree_list : (row : StepRow) (s t : Seen) (d : Conclusion) (ns : List Premise) → needs_of row.instr s d ≡ ns → Agree s t (needs_of row.instr s d) → Agree s t ns
+agree_list row s t d ns e h = subst (λ (x : List Premise). Agree s t x) e h
 
-again_solving : (row : StepRow) (s t : Seen) (d : Drawn) (rule rd r v w : ℕ) (side : Side) → IsLawful s → IsLawful t → solving_rule row.instr ≡ Some rule → written_by row.instr ≡ Some rd → operand_of row.instr side ≡ Some r → s.register After rd ≡ Some v → solve_of row.instr side v (seen_operand s (operand_of row.instr (opposite side))) ≡ Known w → IsOnRegister d rule Before r w → Agree s t (needs_of row.instr s d) → Solving row.instr side rd s d → ConcludesByRow row t d
+again_solving : (row : StepRow) (s t : Seen) (d : Conclusion) (rule rd r v w : ℕ) (side : Side) → IsLawful s → IsLawful t → solving_rule row.instr ≡ Some rule → written_by row.instr ≡ Some rd → operand_of row.instr side ≡ Some r → s.register After rd ≡ Some v → solve_of row.instr side v (seen_operand s (operand_of row.instr (opposite side))) ≡ Known w → IsOnRegister d rule Before r w → Agree s t (needs_of row.instr s d) → Solving row.instr side rd s d → ConcludesByRow row t d
 again_solving row s t d rule rd r v w side ls lt by named read value e says h (alone is same) =
     let a = agree_register s t After rd ls lt (agree_list row s t d _ is h) in
     rules.solved rule rd r v w side by named read (a ∙ value) (same v _ _ ∙ e) says
@@ -445,8 +445,8 @@ again_solving row s t d rule rd r v w side ls lt by named read value e says h (w
     rules.solved rule rd r v w side by named read (a ∙ value) (subst (λ (o : Option ℕ). solve_of row.instr side v (seen_operand t o) ≡ Known w) (sym other_read) k) says
 
 -- and it is enough
-pub again_by : (row : StepRow) (s t : Seen) (d : Drawn) → IsLawful s → IsLawful t → Agree s t (needs_of row.instr s d) → ConcludesByRow row s d → ConcludesByRow row t d
-again_by row s t d ls lt h (rules.result rd v named value says) = rules.result rd v named (again_result row.instr row s t rd v ls lt value (subst (λ (x : Drawn). Agree s t (needs_of row.instr s x)) says.is h)) says
+pub again_by : (row : StepRow) (s t : Seen) (d : Conclusion) → IsLawful s → IsLawful t → Agree s t (needs_of row.instr s d) → ConcludesByRow row s d → ConcludesByRow row t d
+again_by row s t d ls lt h (rules.result rd v named value says) = rules.result rd v named (again_result row.instr row s t rd v ls lt value (subst (λ (x : Conclusion). Agree s t (needs_of row.instr s x)) says.is h)) says
 again_by row s t d ls lt h (rules.load op rd rs1 imm b memory is base bytes says) =
     let g = agree_list row s t d _ (load_list row s d op rd rs1 b _ imm is base says.is) h in
     let a = agree_register s t Before rs1 ls lt (agree_left s t (register_need Before rs1) (byte_needs Before (plus b imm) (load_width op)) g) in

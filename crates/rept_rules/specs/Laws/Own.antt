@@ -15,9 +15,9 @@ use Rattle.rept_machine.specs.Arithmetic.{store_width}
 use Rattle.rept_reason.specs.declared.fact.Cell.{Cell}
 use Rattle.rept_reason.specs.declared.fact.Cell.TheVariants.{Register, Byte}
 use Rattle.rept_reason.specs.Facts.{IsCell}
-use Rattle.rept_view.specs.declared.drawn.When.{When}
-use Rattle.rept_view.specs.declared.drawn.When.TheVariants.{Before, After}
-use Rattle.rept_view.specs.declared.drawn.Drawn.{Drawn}
+use Rattle.rept_view.specs.declared.inferred.When.{When}
+use Rattle.rept_view.specs.declared.inferred.When.TheVariants.{Before, After}
+use Rattle.rept_view.specs.declared.inferred.Conclusion.{Conclusion}
 use Rattle.rept_view.specs.Seen.{Seen}
 use Rattle.rept_view.specs.Rules.{IsRowCell, IsRowByte, offset_of}
 use Rattle.rept_rules.specs.declared.operand.Side.{Side}
@@ -35,7 +35,7 @@ moment (Load op rd rs1 imm) = Before
 moment _ = After
 
 -- a conclusion on a byte
-record IsOnByte (row : StepRow) (s : Seen) (d : Drawn) : Type 0 where
+record IsOnByte (row : StepRow) (s : Seen) (d : Conclusion) : Type 0 where
   r : ℕ
   b : ℕ
   k : ℕ
@@ -59,7 +59,7 @@ few_store Sb k h = omega (arith, h)
 few_store Sh k h = omega (arith, h)
 few_store Sw k h = h
 
-store_byte : (row : StepRow) (s : Seen) (d : Drawn) (op : StoreOp) (rs1 rs2 : ℕ) (imm : ℤ) (b v k : ℕ) → row.instr ≡ Store op rs1 rs2 imm → s.register Before rs1 ≡ Some b → k < store_width op → d ≡ on_byte 9 After (plus b imm) v k → IsOnByte row s d
+store_byte : (row : StepRow) (s : Seen) (d : Conclusion) (op : StoreOp) (rs1 rs2 : ℕ) (imm : ℤ) (b v k : ℕ) → row.instr ≡ Store op rs1 rs2 imm → s.register Before rs1 ≡ Some b → k < store_width op → d ≡ on_byte 9 After (plus b imm) v k → IsOnByte row s d
 store_byte row s d op rs1 rs2 imm b v k is base below e = record {
   r = rs1;
   b = b;
@@ -68,12 +68,12 @@ store_byte row s d op rs1 rs2 imm b v k is base below e = record {
   base = base;
   below = subst (λ (i : Instr). k < places_of i) (sym is) below;
   four = few_store op k below;
-  when = ap (λ (x : Drawn). x.when) e ∙ ap moment (sym is);
-  cell = ap (λ (x : Drawn). x.cell) e ∙ ap (λ (i : Instr). Byte (beside (plus b (offset_of i)) k)) (sym is);
-  slot = ap (λ (x : Drawn). x.slot) e;
+  when = ap (λ (x : Conclusion). x.when) e ∙ ap moment (sym is);
+  cell = ap (λ (x : Conclusion). x.cell) e ∙ ap (λ (i : Instr). Byte (beside (plus b (offset_of i)) k)) (sym is);
+  slot = ap (λ (x : Conclusion). x.slot) e;
 }
 
-load_byte : (row : StepRow) (s : Seen) (d : Drawn) (op : LoadOp) (rd rs1 : ℕ) (imm : ℤ) (b v k : ℕ) → row.instr ≡ Load op rd rs1 imm → s.register Before rs1 ≡ Some b → k < load_width op → d ≡ on_byte 15 Before (plus b imm) v k → IsOnByte row s d
+load_byte : (row : StepRow) (s : Seen) (d : Conclusion) (op : LoadOp) (rd rs1 : ℕ) (imm : ℤ) (b v k : ℕ) → row.instr ≡ Load op rd rs1 imm → s.register Before rs1 ≡ Some b → k < load_width op → d ≡ on_byte 15 Before (plus b imm) v k → IsOnByte row s d
 load_byte row s d op rd rs1 imm b v k is base below e = record {
   r = rs1;
   b = b;
@@ -82,18 +82,18 @@ load_byte row s d op rd rs1 imm b v k is base below e = record {
   base = base;
   below = subst (λ (i : Instr). k < places_of i) (sym is) below;
   four = few_load op k below;
-  when = ap (λ (x : Drawn). x.when) e ∙ ap moment (sym is);
-  cell = ap (λ (x : Drawn). x.cell) e ∙ ap (λ (i : Instr). Byte (beside (plus b (offset_of i)) k)) (sym is);
-  slot = ap (λ (x : Drawn). x.slot) e;
+  when = ap (λ (x : Conclusion). x.when) e ∙ ap moment (sym is);
+  cell = ap (λ (x : Conclusion). x.cell) e ∙ ap (λ (i : Instr). Byte (beside (plus b (offset_of i)) k)) (sym is);
+  slot = ap (λ (x : Conclusion). x.slot) e;
 }
 
 register_byte : (r a : ℕ) → Register r ≡ Byte a → ⊥
 register_byte r a e = cc
 
-pub not_byte : (d : Drawn) (rule : ℕ) (when : When) (r v a : ℕ) → IsOnRegister d rule when r v → d.cell ≡ Byte a → ⊥
-not_byte d rule when r v a says e = register_byte r a (sym (ap (λ (x : Drawn). x.cell) says.is) ∙ e)
+pub not_byte : (d : Conclusion) (rule : ℕ) (when : When) (r v a : ℕ) → IsOnRegister d rule when r v → d.cell ≡ Byte a → ⊥
+not_byte d rule when r v a says e = register_byte r a (sym (ap (λ (x : Conclusion). x.cell) says.is) ∙ e)
 
-on_bytes : (row : StepRow) (s : Seen) (d : Drawn) (a : ℕ) → d.cell ≡ Byte a → ConcludesByRow row s d → IsOnByte row s d
+on_bytes : (row : StepRow) (s : Seen) (d : Conclusion) (a : ℕ) → d.cell ≡ Byte a → ConcludesByRow row s d → IsOnByte row s d
 on_bytes row s d a e (rules.result rd v named value says) = absurd (not_byte d 7 After rd v a says e)
 on_bytes row s d a e (rules.load op rd rs1 imm b memory is base bytes says) = absurd (not_byte d 8 After rd _ a says e)
 on_bytes row s d a e (rules.store op rs1 rs2 imm b v k is base value below f) = store_byte row s d op rs1 rs2 imm b v k is base below f
@@ -109,17 +109,17 @@ on_bytes row s d a e (rules.copy_back rd source v named from value says) = absur
 abbrev Own : StepRow → Seen → When → Cell → Type 0
 Own row s when cell = IsRowCell base_rules row s when cell × IsCell cell
 
-own_register : (row : StepRow) (s : Seen) (d : Drawn) (rule : ℕ) (when : When) (r v : ℕ) → IsOnRegister d rule when r v → IsRowCell base_rules row s when (Register r) → Own row s d.when d.cell
-own_register row s d rule when r v says h = subst (λ (x : Drawn). Own row s x.when x.cell) (sym says.is) (h, (says.named, says.in_file))
+own_register : (row : StepRow) (s : Seen) (d : Conclusion) (rule : ℕ) (when : When) (r v : ℕ) → IsOnRegister d rule when r v → IsRowCell base_rules row s when (Register r) → Own row s d.when d.cell
+own_register row s d rule when r v says h = subst (λ (x : Conclusion). Own row s x.when x.cell) (sym says.is) (h, (says.named, says.in_file))
 
-row_byte : (row : StepRow) (s : Seen) (d : Drawn) (h : IsOnByte row s d) → IsRowByte base_rules row s (beside (plus h.b (offset_of row.instr)) h.k)
+row_byte : (row : StepRow) (s : Seen) (d : Conclusion) (h : IsOnByte row s d) → IsRowByte base_rules row s (beside (plus h.b (offset_of row.instr)) h.k)
 row_byte row s d h = record { base_register = h.r; base = h.b; k = h.k; read = h.read; base_known = h.base; below_places = h.below; below_four = h.four; address = refl }
 
 row_byte_at : (row : StepRow) (s : Seen) (when : When) (a : ℕ) → IsRowByte base_rules row s a → IsRowCell base_rules row s when (Byte a)
 row_byte_at row s Before a h = h
 row_byte_at row s After a h = h
 
-own_byte : (row : StepRow) (s : Seen) (d : Drawn) → IsOnByte row s d → Own row s d.when d.cell
+own_byte : (row : StepRow) (s : Seen) (d : Conclusion) → IsOnByte row s d → Own row s d.when d.cell
 own_byte row s d h = subst (λ (c : Cell). Own row s d.when c) (sym h.cell) (row_byte_at row s d.when _ (row_byte row s d h), omega arith)
 
 destination_is : (r : ℕ) → 0 < r → unless_zero r ≡ Some r
@@ -156,7 +156,7 @@ pub read_on : (instr : Instr) (side : Side) (r : ℕ) → operand_of instr side 
 read_on instr First r e = inl e
 read_on instr Second r e = inr e
 
-pub own_by : (row : StepRow) (s : Seen) (d : Drawn) → ConcludesByRow row s d → Own row s d.when d.cell
+pub own_by : (row : StepRow) (s : Seen) (d : Conclusion) → ConcludesByRow row s d → Own row s d.when d.cell
 own_by row s d (rules.result rd v named value says) = own_register row s d 7 After rd v says named
 own_by row s d (rules.load op rd rs1 imm b memory is base bytes says) = own_register row s d 8 After rd _ says (ap written_by is ∙ destination_is rd says.named)
 own_by row s d (rules.store op rs1 rs2 imm b v k is base value below f) = own_byte row s d (store_byte row s d op rs1 rs2 imm b v k is base below f)
@@ -169,14 +169,14 @@ own_by row s d (rules.copy rd source v named from value says) = own_register row
 own_by row s d (rules.copy_back rd source v named from value says) = own_register row s d 18 Before source v says (copied_read row.instr source from)
 
 -- a slot is one of the row's places
-pub slot_inside_by : (row : StepRow) (s : Seen) (d : Drawn) (a : ℕ) → ConcludesByRow row s d → d.cell ≡ Byte a → d.slot < places_of row.instr
+pub slot_inside_by : (row : StepRow) (s : Seen) (d : Conclusion) (a : ℕ) → ConcludesByRow row s d → d.cell ≡ Byte a → d.slot < places_of row.instr
 slot_inside_by row s d a c e = let h = on_bytes row s d a e c in let below = h.below in let slot = h.slot in omega (arith, below, slot)
 
 same_byte : (a b : ℕ) → Byte a ≡ Byte b → a ≡ b
 same_byte a b e = cc
 
 -- and stands for one moment and address
-pub slot_once_by : (row : StepRow) (s t : Seen) (d e : Drawn) (a b r : ℕ) → ConcludesByRow row s d → ConcludesByRow row t e → d.cell ≡ Byte a → e.cell ≡ Byte b → first_read row.instr ≡ Some r → s.register Before r ≡ t.register Before r → d.slot ≡ e.slot → (d.when ≡ e.when) × (a ≡ b)
+pub slot_once_by : (row : StepRow) (s t : Seen) (d e : Conclusion) (a b r : ℕ) → ConcludesByRow row s d → ConcludesByRow row t e → d.cell ≡ Byte a → e.cell ≡ Byte b → first_read row.instr ≡ Some r → s.register Before r ≡ t.register Before r → d.slot ≡ e.slot → (d.when ≡ e.when) × (a ≡ b)
 slot_once_by row s t d e a b r c f on_a on_b read same slots =
     let h = on_bytes row s d a on_a c in
     let g = on_bytes row t e b on_b f in

@@ -21,9 +21,9 @@ use Rattle.rept_machine.specs.State.{State, IsState}
 use Rattle.rept_machine.specs.Step.{HasEffect, IsStep}
 use Rattle.rept_machine.specs.Ways.{TurnTells, way_tells}
 use Rattle.rept_reason.specs.Facts.{flat}
-use Rattle.rept_view.specs.declared.drawn.When.{When}
-use Rattle.rept_view.specs.declared.drawn.When.TheVariants.{Before, After}
-use Rattle.rept_view.specs.declared.drawn.Drawn.{Drawn}
+use Rattle.rept_view.specs.declared.inferred.When.{When}
+use Rattle.rept_view.specs.declared.inferred.When.TheVariants.{Before, After}
+use Rattle.rept_view.specs.declared.inferred.Conclusion.{Conclusion}
 use Rattle.rept_view.specs.Seen.{Seen, Meets, state_at, held}
 use Rattle.rept_view.specs.Rules.{IsSeenStep}
 use Rattle.rept_rules.specs.Results.{Admits, HoldsIn}
@@ -34,14 +34,14 @@ use Rattle.rept_rules.specs.Laws.ValueLemmas.{either_way, true≢false, same_som
 use Rattle.rept_rules.specs.Laws.SolveLemmas.{neutral_is, copied_is, solve_sound}
 
 -- the conclusion holds
-abbrev pub DrawnHolds : State → State → Drawn → Type 0
-DrawnHolds before after d = held (state_at before after d.when) d.cell ≡ d.value
+abbrev pub InferredHolds : State → State → Conclusion → Type 0
+InferredHolds before after d = held (state_at before after d.when) d.cell ≡ d.value
 
-pub says_holds : (before after : State) (d : Drawn) (rule : ℕ) (when : When) (r v : ℕ) → IsOnRegister d rule when r v → (state_at before after when).register r ≡ v → DrawnHolds before after d
-says_holds before after d rule when r v says h = subst (λ (x : Drawn). DrawnHolds before after x) (sym says.is) h
+pub says_holds : (before after : State) (d : Conclusion) (rule : ℕ) (when : When) (r v : ℕ) → IsOnRegister d rule when r v → (state_at before after when).register r ≡ v → InferredHolds before after d
+says_holds before after d rule when r v says h = subst (λ (x : Conclusion). InferredHolds before after x) (sym says.is) h
 
-byte_holds : (before after : State) (d : Drawn) (rule : ℕ) (when : When) (base v k : ℕ) → d ≡ on_byte rule when base v k → (state_at before after when).memory (beside base k) ≡ byte_of v k → DrawnHolds before after d
-byte_holds before after d rule when base v k is h = subst (λ (x : Drawn). DrawnHolds before after x) (sym is) h
+byte_holds : (before after : State) (d : Conclusion) (rule : ℕ) (when : When) (base v k : ℕ) → d ≡ on_byte rule when base v k → (state_at before after when).memory (beside base k) ≡ byte_of v k → InferredHolds before after d
+byte_holds before after d rule when base v k is h = subst (λ (x : Conclusion). InferredHolds before after x) (sym is) h
 
 admitted : (x : Option ℕ) (v : ℕ) → ((w : ℕ) → x ≡ Some w → v ≡ w) → Admits (flat x) v
 admitted None v h = tt
@@ -152,7 +152,7 @@ same_operands op rs1 rs2 imm image_end row s t is way step =
     let h = effect (Branch op rs1 rs2 imm) image_end row s t is step in
     went_equal op (from_of row) (plus row.at imm) row.next (s.register rs1) (s.register rs2) h.onward (sym (ap (λ (i : Instr). equates op (turn_by i (addresses_of row))) is) ∙ way)
 
-pub sound_by : (image_end : ℕ) (row : StepRow) (view : Seen) (before after : State) (d : Drawn) → IsSeenStep image_end row view before after → ConcludesByRow row view d → DrawnHolds before after d
+pub sound_by : (image_end : ℕ) (row : StepRow) (view : Seen) (before after : State) (d : Conclusion) → IsSeenStep image_end row view before after → ConcludesByRow row view d → InferredHolds before after d
 sound_by image_end row view before after d step (rules.result rd v named value says) =
     says_holds before after d 7 After rd v says (admits_known _ (after.register rd) v value (forward_sound row.instr image_end rd (addresses_of row) before after _ _ step.state_before step.step (seen_holds view before after (first_read row.instr) step.meets) (seen_holds view before after (second_read row.instr) step.meets) named))
 sound_by image_end row view before after d step (rules.load op rd rs1 imm b memory is base bytes says) =

@@ -6,9 +6,9 @@ use Rattle.rept_isa.specs.declared.instr.RegOp.{RegOp}
 use Rattle.rept_isa.specs.Operands.{first_read, second_read}
 use Rattle.rept_partial.specs.declared.flat.Flat.{Flat}
 use Rattle.rept_reason.specs.Facts.{flat}
-use Rattle.rept_view.specs.declared.drawn.When.TheVariants.{Before, After}
-use Rattle.rept_view.specs.declared.drawn.Drawn.{Drawn}
-use Rattle.rept_view.specs.declared.drawn.Need.{Need}
+use Rattle.rept_view.specs.declared.inferred.When.TheVariants.{Before, After}
+use Rattle.rept_view.specs.declared.inferred.Conclusion.{Conclusion}
+use Rattle.rept_view.specs.declared.inferred.Premise.{Premise}
 use Rattle.rept_view.specs.Seen.{Seen}
 use Rattle.rept_rules.specs.Results.{operand, cancels}
 use Rattle.rept_rules.specs.Operands.{copied_register}
@@ -21,14 +21,14 @@ abbrev HasSameOperands : Instr → Seen → Seen → Type 0
 HasSameOperands instr s t = (r : ℕ) → (first_read instr ≡ Some r) ⊎ (second_read instr ≡ Some r) → t.register Before r ≡ s.register Before r
 
 -- the needs of a result, from what is known of its two operands
-abbrev result_by : RegOp → ℕ → ℕ → Flat → Flat → List Need
+abbrev result_by : RegOp → ℕ → ℕ → Flat → Flat → List Premise
 result_by op rs1 rs2 x y =
     if cancels op rs1 rs2 then []
     else if decides op (operand rs1 x) then register_need Before rs1
     else if decides op (operand rs2 y) then register_need Before rs2
     else both_needs rs1 rs2
 
-pub needs_told_by : (instr : Instr) (s t : Seen) (d : Drawn) → HasSameOperands instr s t → needs_of instr t d ≡ needs_of instr s d
+pub needs_told_by : (instr : Instr) (s t : Seen) (d : Conclusion) → HasSameOperands instr s t → needs_of instr t d ≡ needs_of instr s d
 needs_told_by (Op op rd rs1 rs2) s t d same =
     let rest = if d.rule == 18 then copy_needs d.when rd (copied_register op rs1 rs2) else register_need After rd ++ register_need Before (other_register d.cell rs1 rs2) in
     let by = λ (x y : Flat). if d.rule == 7 then result_by op rs1 rs2 x y else rest in

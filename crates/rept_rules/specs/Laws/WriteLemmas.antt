@@ -21,9 +21,9 @@ use Rattle.rept_alias.specs.Accesses.{hits, call_hits, access_of}
 use Rattle.rept_alias.proofs.AccessLemmas as access
 use Rattle.rept_havoc.specs.Havoc.{changed, Lies, IsExact, NumberWithin, RangeWithin}
 use Rattle.rept_havoc.proofs.HavocLemmas.{changed_covers, changed_exact, changed_within}
-use Rattle.rept_view.specs.declared.drawn.When.{When}
-use Rattle.rept_view.specs.declared.drawn.When.TheVariants.{Before, After}
-use Rattle.rept_view.specs.declared.drawn.RegisterAt.{RegisterAt}
+use Rattle.rept_view.specs.declared.inferred.When.{When}
+use Rattle.rept_view.specs.declared.inferred.When.TheVariants.{Before, After}
+use Rattle.rept_view.specs.declared.inferred.RegisterAt.{RegisterAt}
 use Rattle.rept_view.specs.Seen.{Seen, IsLawful, KnowsMore, Meets, state_at}
 use Rattle.rept_view.specs.Written.{WritesBy}
 use Rattle.rept_machine.specs.Writes.{WritesAtomic, IsOneOfBytes}

@@ -5,7 +5,7 @@ use Rattle.rept_isa.specs.declared.row.StepRow.{StepRow}
 use Rattle.rept_steps.specs.declared.threads.ThreadRows.{ThreadRows}
 use Rattle.test_threads.specs.declared.turns.turn.Turn.{Turn}
 use Rattle.test_threads.specs.Turns.Turns.{rows_in}
-use Rattle.rept_weave.specs.declared.stretch.Stretch.{Stretch}
+use Rattle.rept_weave.specs.declared.stretch.HartStretch.{HartStretch}
 use Rattle.test_threads.specs.Maderuns.Harts.{steps_in, stretch_in, stretches_of, harts_of, HaveRows}
 use Rattle.test_threads.proofs.MaderunsLemmas.Turning.{rows_append, rows_within}
 
@@ -44,17 +44,17 @@ fits_after T turns i first d less have before = let fit = rows_fit T turns i d l
 
 -- a stretch of copied steps
 pub stretch_is : (T : List ThreadRows) (first : ℕ) (turn : Turn) (rows part steps : List StepRow) → rows ≡ steps_in T turn.thread → part ≡ take turn.count (drop first rows) → steps ≡ part
-    → ◌≡◌ {A = Stretch} (record { process = turn.thread + 1; begin = turn.begin; end = turn.end; steps = steps }) (stretch_in T first turn)
+    → ◌≡◌ {A = HartStretch} (record { process = turn.thread + 1; begin = turn.begin; end = turn.end; steps = steps }) (stretch_in T first turn)
 stretch_is T first turn rows part steps own some copied =
     let e : steps ≡ take turn.count (drop first (steps_in T turn.thread)) = copied ∙ some ∙ ap (λ (xs : List StepRow). take turn.count (drop first xs)) own in
     λ i. record { process = turn.thread + 1; begin = turn.begin; end = turn.end; steps = e i }
 
 -- one hart more
-pub harts_more : (T : List ThreadRows) (turns : List Turn) (s n : ℕ) (old new all : List (List Stretch)) (x : List Stretch) → ((m : ℕ) → s + m ≡ n → old ++ harts_of T turns m s ≡ all) → x ≡ stretches_of T s [] turns → new ≡ old ++ x ∷ [] → (m : ℕ) → s + 1 + m ≡ n → new ++ harts_of T turns m (s + 1) ≡ all
+pub harts_more : (T : List ThreadRows) (turns : List Turn) (s n : ℕ) (old new all : List (List HartStretch)) (x : List HartStretch) → ((m : ℕ) → s + m ≡ n → old ++ harts_of T turns m s ≡ all) → x ≡ stretches_of T s [] turns → new ≡ old ++ x ∷ [] → (m : ℕ) → s + 1 + m ≡ n → new ++ harts_of T turns m (s + 1) ≡ all
 harts_more T turns s n old new all x before is added m sum =
     let next : s + 1 ≡ suc s = omega arith in
-    ap (λ (hs : List (List Stretch)). hs ++ harts_of T turns m (s + 1)) added
+    ap (λ (hs : List (List HartStretch)). hs ++ harts_of T turns m (s + 1)) added
     ∙ append_assoc old (x ∷ []) (harts_of T turns m (s + 1))
     ∙ ap (λ (k : ℕ). old ++ x ∷ harts_of T turns m k) next
-    ∙ ap (λ (y : List Stretch). old ++ y ∷ harts_of T turns m (suc s)) is
+    ∙ ap (λ (y : List HartStretch). old ++ y ∷ harts_of T turns m (suc s)) is
     ∙ before (suc m) (omega arith)

@@ -12,7 +12,7 @@ use Rattle.test_threads.specs.declared.turns.turn.Turn.{Turn}
 use Rattle.test_threads.specs.Turns.Turns.{rows_in, slices_from, AreApartByStream, TakeTime, first_on, BeginTogether}
 use Rattle.test_threads.proofs.TurnsLemmas.Slices.{slices_keep}
 use Rattle.test_threads.specs.Play.Code.{address_in, row_in, IsPlayable}
-use Rattle.rept_weave.specs.declared.stretch.Stretch.{Stretch}
+use Rattle.rept_weave.specs.declared.stretch.HartStretch.{HartStretch}
 use Rattle.rept_slices.specs.Joins.{ThreadNote}
 use Rattle.rept_slices.specs.Order.{by_time}
 use Rattle.rept_slices.proofs.InTime.{Each}
@@ -49,15 +49,15 @@ four_are (a ∷ (b ∷ (c ∷ (d ∷ [])))) size = refl
 four_are (a ∷ (b ∷ (c ∷ (d ∷ (e ∷ T))))) size = absurd (omega arith)
 
 -- the first stretch of a hart begins at time 0
-abbrev BeginsFirst : List Stretch → Type 0
+abbrev BeginsFirst : List HartStretch → Type 0
 BeginsFirst [] = Unit {0}
 BeginsFirst (x ∷ xs) = x.begin ≡ 0
 
-begins_each : (hart : List Stretch) (harts : List (List Stretch)) → BeginsFirst hart → Each (λ (n : ℕ). n ≡ 0) (begins harts) → Each (λ (n : ℕ). n ≡ 0) (begins (hart ∷ harts))
+begins_each : (hart : List HartStretch) (harts : List (List HartStretch)) → BeginsFirst hart → Each (λ (n : ℕ). n ≡ 0) (begins harts) → Each (λ (n : ℕ). n ≡ 0) (begins (hart ∷ harts))
 begins_each [] harts first rest = rest
 begins_each (x ∷ xs) harts first rest = (first, rest)
 
-begins_some : (hart : List Stretch) (harts : List (List Stretch)) → 0 < length (begins harts) → 0 < length (begins (hart ∷ harts))
+begins_some : (hart : List HartStretch) (harts : List (List HartStretch)) → 0 < length (begins harts) → 0 < length (begins (hart ∷ harts))
 begins_some [] harts some = some
 begins_some (x ∷ xs) harts some = omega arith
 
@@ -95,7 +95,7 @@ module _ (T : List ThreadRows) where
   some_begin h turns zero s least less = absurd (omega arith)
   some_begin h turns (suc n) s least less =
       elim (cases_eq h.stream s) [
-        | inl same ↦ subst (λ (hart : List Stretch). 0 < length (begins (hart ∷ harts_of T (h ∷ turns) n (suc s)))) (sym (stretches_own T s [] h turns same)) (omega arith)
+        | inl same ↦ subst (λ (hart : List HartStretch). 0 < length (begins (hart ∷ harts_of T (h ∷ turns) n (suc s)))) (sym (stretches_own T s [] h turns same)) (omega arith)
         | inr other ↦ begins_some (stretches_of T s [] (h ∷ turns)) (harts_of T (h ∷ turns) n (suc s)) (some_begin h turns n (suc s) (omega arith) (omega arith))
       ]
 
@@ -104,7 +104,7 @@ module _ (T : List ThreadRows) where
   begin_some (h ∷ turns) n some streams = let own = All-head (λ (turn : Turn). turn.stream < n) h turns streams in some_begin h turns n 0 (omega arith) (omega arith)
 
 module _ (code : List Instr) (T : List ThreadRows) (turns : List Turn) (n : ℕ) (playable : IsPlayable code turns) (size : (t : ℕ) → length (steps_in T t) ≡ rows_in t turns) (streams : All (λ (turn : Turn). turn.stream < n) turns) (long : TakeTime turns) where
-  abbrev harts : List (List Stretch)
+  abbrev harts : List (List HartStretch)
   harts = harts_of T turns n 0
 
   pub pieces_are : pieces (harts_of T turns n 0) ≡ all_pieces T [] turns n 0

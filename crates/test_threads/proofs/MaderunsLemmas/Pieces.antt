@@ -1,4 +1,5 @@
--- The pieces of all harts: where one turn comes before others, its piece is put among theirs; and by their begins those of a thread are its turns.
+-- The pieces of all harts: where one turn comes before others, its piece is put among theirs; and
+-- by their begins those of a thread are its turns.
 use Rattle.std.proofs.Common.{◌≡◌, ℕ, zero, suc, ◌+◌, ◌<◌, ◌≤◌, ◌==◌, cond, Bool, List, [], ◌∷◌, ◌++◌, map, All, refl, sym, ◌∙◌, ap, subst, arith, inl, inr, append_assoc}
 use Rattle.std.specs.List.{filter}
 use Rattle.std.proofs.lemmas.Bool.{cases_eq, eq-eqb, ne_eqb, le-leb, lt-leb}
@@ -6,7 +7,7 @@ use Rattle.std.proofs.lemmas.List.Elements.{All-nil, All-cons, All-head, All-tai
 use Rattle.rept_steps.specs.declared.threads.ThreadRows.{ThreadRows}
 use Rattle.test_threads.specs.declared.turns.turn.Turn.{Turn}
 use Rattle.test_threads.specs.Turns.Turns.{rows_in, AreTurnsApart, TakeTime}
-use Rattle.rept_weave.specs.declared.stretch.Stretch.{Stretch}
+use Rattle.rept_weave.specs.declared.stretch.HartStretch.{HartStretch}
 use Rattle.rept_slices.specs.Order.{put, by_time}
 use Rattle.rept_slices.proofs.InTime.{Each, each_by_time}
 use Rattle.test_threads.specs.Woven.Ordered.{Piece, on_hart, pieces_from, begin_of}
@@ -83,13 +84,13 @@ module _ (T : List ThreadRows) where
   piece_of before turn = on_hart turn.stream (stretch_in T (rows_in turn.thread before) turn)
 
   -- the harts, with the turns after some others
-  abbrev pub harts_after : List Turn → List Turn → ℕ → ℕ → List (List Stretch)
+  abbrev pub harts_after : List Turn → List Turn → ℕ → ℕ → List (List HartStretch)
   harts_after before turns zero s = []
   harts_after before turns (suc n) s = stretches_of T s before turns ∷ harts_after before turns n (suc s)
 
   pub harts_are : (turns : List Turn) (n s : ℕ) → harts_of T turns n s ≡ harts_after [] turns n s
   harts_are turns zero s = refl
-  harts_are turns (suc n) s = ap (λ (hs : List (List Stretch)). stretches_of T s [] turns ∷ hs) (harts_are turns n (suc s))
+  harts_are turns (suc n) s = ap (λ (hs : List (List HartStretch)). stretches_of T s [] turns ∷ hs) (harts_are turns n (suc s))
 
   abbrev pub all_pieces : List Turn → List Turn → ℕ → ℕ → List Piece
   all_pieces before turns n s = pieces_from s (harts_after before turns n s)
@@ -98,8 +99,8 @@ module _ (T : List ThreadRows) where
   later_harts : (n s : ℕ) (before : List Turn) (h : Turn) (turns : List Turn) → h.stream < s → harts_after before (h ∷ turns) n s ≡ harts_after (before ++ h ∷ []) turns n s
   later_harts zero s before h turns less = refl
   later_harts (suc n) s before h turns less =
-      ap (λ (hart : List Stretch). hart ∷ harts_after before (h ∷ turns) n (suc s)) (stretches_other T s before h turns (λ same. omega arith))
-      ∙ ap (λ (hs : List (List Stretch)). stretches_of T s (before ++ h ∷ []) turns ∷ hs) (later_harts n (suc s) before h turns (omega arith))
+      ap (λ (hart : List HartStretch). hart ∷ harts_after before (h ∷ turns) n (suc s)) (stretches_other T s before h turns (λ same. omega arith))
+      ∙ ap (λ (hs : List (List HartStretch)). stretches_of T s (before ++ h ∷ []) turns ∷ hs) (later_harts n (suc s) before h turns (omega arith))
 
   inserted : (n s : ℕ) (before : List Turn) (h : Turn) (turns : List Turn) → s ≤ h.stream → h.stream < s + n → Inserted (piece_of before h) (all_pieces (before ++ h ∷ []) turns n s) (all_pieces before (h ∷ turns) n s)
   inserted zero s before h turns least less = absurd (omega arith)
@@ -110,8 +111,8 @@ module _ (T : List ThreadRows) where
           ys = all_pieces (before ++ h ∷ []) turns (suc n) s;
           is_old = refl;
           is_new =
-              ap (λ (hart : List Stretch). map (on_hart s) hart ++ pieces_from (suc s) (harts_after before (h ∷ turns) n (suc s))) (stretches_own T s before h turns same)
-              ∙ ap (λ (hs : List (List Stretch)). on_hart s (stretch_in T (rows_in h.thread before) h) ∷ (map (on_hart s) (stretches_of T s (before ++ h ∷ []) turns) ++ pieces_from (suc s) hs)) (later_harts n (suc s) before h turns (omega arith))
+              ap (λ (hart : List HartStretch). map (on_hart s) hart ++ pieces_from (suc s) (harts_after before (h ∷ turns) n (suc s))) (stretches_own T s before h turns same)
+              ∙ ap (λ (hs : List (List HartStretch)). on_hart s (stretch_in T (rows_in h.thread before) h) ∷ (map (on_hart s) (stretches_of T s (before ++ h ∷ []) turns) ++ pieces_from (suc s) hs)) (later_harts n (suc s) before h turns (omega arith))
               ∙ ap (λ (k : ℕ). on_hart k (stretch_in T (rows_in h.thread before) h) ∷ all_pieces (before ++ h ∷ []) turns (suc n) s) (sym same);
         }
         | inr other ↦
@@ -121,7 +122,7 @@ module _ (T : List ThreadRows) where
               ys = rest.ys;
               is_old = ap (λ (ps : List Piece). map (on_hart s) (stretches_of T s (before ++ h ∷ []) turns) ++ ps) rest.is_old ∙ sym (append_assoc (map (on_hart s) (stretches_of T s (before ++ h ∷ []) turns)) rest.xs rest.ys);
               is_new =
-                  ap (λ (hart : List Stretch). map (on_hart s) hart ++ pieces_from (suc s) (harts_after before (h ∷ turns) n (suc s))) (stretches_other T s before h turns other)
+                  ap (λ (hart : List HartStretch). map (on_hart s) hart ++ pieces_from (suc s) (harts_after before (h ∷ turns) n (suc s))) (stretches_other T s before h turns other)
                   ∙ ap (λ (ps : List Piece). map (on_hart s) (stretches_of T s (before ++ h ∷ []) turns) ++ ps) rest.is_new
                   ∙ sym (append_assoc (map (on_hart s) (stretches_of T s (before ++ h ∷ []) turns)) rest.xs (piece_of before h ∷ rest.ys));
             }
@@ -133,9 +134,9 @@ module _ (T : List ThreadRows) where
     each_hart s before [] all = tt
     each_hart s before (h ∷ turns) all =
         elim (cases_eq h.stream s) [
-          | inl same ↦ subst (λ (hart : List Stretch). Each Q (map (on_hart s) hart)) (sym (stretches_own T s before h turns same))
+          | inl same ↦ subst (λ (hart : List HartStretch). Each Q (map (on_hart s) hart)) (sym (stretches_own T s before h turns same))
               (subst (λ (k : ℕ). Q (on_hart k (stretch_in T (rows_in h.thread before) h))) same (w before h all.0), each_hart s (before ++ h ∷ []) turns all.1)
-          | inr other ↦ subst (λ (hart : List Stretch). Each Q (map (on_hart s) hart)) (sym (stretches_other T s before h turns other)) (each_hart s (before ++ h ∷ []) turns all.1)
+          | inr other ↦ subst (λ (hart : List HartStretch). Each Q (map (on_hart s) hart)) (sym (stretches_other T s before h turns other)) (each_hart s (before ++ h ∷ []) turns all.1)
         ]
 
     pub each_piece : (n s : ℕ) (before turns : List Turn) → AllAfter P before turns → Each Q (all_pieces before turns n s)

@@ -9,7 +9,7 @@ use Rattle.test_threads.specs.declared.play.made.Made.{Made}
 use Rattle.test_threads.specs.declared.play.score.Sizes.{Sizes}
 use Rattle.test_threads.specs.Play.Made.{IsPlayMade}
 use Rattle.test_threads.proofs.PlayLemmas.Turning.{rows_most}
-use Rattle.rept_weave.specs.declared.stretch.Stretch.{Stretch}
+use Rattle.rept_weave.specs.declared.stretch.HartStretch.{HartStretch}
 use Rattle.rept_weave.specs.Woven.{IsWoven}
 use Rattle.test_threads.specs.Maderuns.Words.{AreCode}
 use Rattle.rept_make.specs.Files.{executable}
@@ -34,19 +34,19 @@ module _ (seed : ℕ) (sizes : Sizes) (made : Made) (m : IsPlayMade seed sizes m
     few = few_rows;
   }
 
-  pub sendable : (n : ℕ) → All (All (λ (s : Stretch). IsSendable s.steps)) (harts_of made.played.run.threads made.turns.items n 0)
+  pub sendable : (n : ℕ) → All (All (λ (s : HartStretch). IsSendable s.steps)) (harts_of made.played.run.threads made.turns.items n 0)
   sendable n = all_sendable made.code.items made.played.run.threads made.turns.items m.playable m.is_played.played_turns.rows m.is_played.rows n
 
   -- what was written
-  module _ (T : List ThreadRows) (turns : List Turn) (harts : List (List Stretch)) (threads_are : T ≡ made.played.run.threads) (turns_are : turns ≡ made.turns.items) (are : harts ≡ harts_of T turns sizes.streams 0) where
+  module _ (T : List ThreadRows) (turns : List Turn) (harts : List (List HartStretch)) (threads_are : T ≡ made.played.run.threads) (turns_are : turns ≡ made.turns.items) (are : harts ≡ harts_of T turns sizes.streams 0) where
     harts_are : harts ≡ harts_of made.played.run.threads made.turns.items sizes.streams 0
     harts_are = are ∙ (λ i. harts_of (threads_are i) (turns_are i) sizes.streams 0)
 
     pub harts_count : length harts ≡ sizes.streams
-    harts_count = ap (length {A = List Stretch}) harts_are ∙ harts_size made.played.run.threads made.turns.items sizes.streams 0
+    harts_count = ap (length {A = List HartStretch}) harts_are ∙ harts_size made.played.run.threads made.turns.items sizes.streams 0
 
-    pub harts_sendable : All (All (λ (s : Stretch). IsSendable s.steps)) harts
-    harts_sendable = subst (All (All (λ (s : Stretch). IsSendable s.steps))) (sym harts_are) (sendable sizes.streams)
+    pub harts_sendable : All (All (λ (s : HartStretch). IsSendable s.steps)) harts
+    harts_sendable = subst (All (All (λ (s : HartStretch). IsSendable s.steps))) (sym harts_are) (sendable sizes.streams)
 
     pub made_run : (code : List Instr) (words words_now bytes exe core trace : List ℕ) → code ≡ made.code.items → AreCode code words → words_now ≡ words → exe ≡ executable 256 7 words_now → bytes ≡ made.played.bytes.items
         → core ≡ core_file turns made.played.registers bytes → IsWoven false harts trace → IsMadeRun seed sizes (record { made = made; exe = exe; core = core; trace = trace })
@@ -56,5 +56,5 @@ module _ (seed : ℕ) (sizes : Sizes) (made : Made) (m : IsPlayMade seed sizes m
       code = subst (λ (is : List Instr). AreCode is words) code_is spelled;
       exe = exe_is ∙ ap (executable 256 7) words_are;
       core = core_is ∙ (λ i. core_file (turns_are i) made.played.registers (bytes_are i));
-      woven = subst (λ (hs : List (List Stretch)). IsWoven false hs trace) harts_are woven;
+      woven = subst (λ (hs : List (List HartStretch)). IsWoven false hs trace) harts_are woven;
     }

@@ -1,4 +1,5 @@
--- Each turn can be sent as a stretch: its steps can be made, none is an uninferable jump, and only the last one may be a call.
+-- Each turn can be sent as a stretch: its steps can be made, none is an uninferable jump, and only
+-- the last one may be a call.
 use Rattle.std.proofs.Common.{◌≡◌, ℕ, zero, suc, negsuc, ◌+◌, ◌%◌, ◌<◌, ◌≤◌, true, false, List, [], ◌∷◌, ◌++◌, map, length, take, drop, get_or, slice_get, Some, None, All, refl, sym, ◌∙◌, ap, subst, arith, inl, inr}
 use Rattle.std.proofs.lemmas.Bool.{cases_eq}
 use Rattle.std.proofs.lemmas.List.Elements.{All-from_get_or}
@@ -17,7 +18,7 @@ use Rattle.test_threads.specs.Turns.Turns.{rows_in, slice_by, slices_from}
 use Rattle.test_threads.specs.Play.Shares.{UsesOwn}
 use Rattle.test_threads.specs.Play.Code.{drawn_in, instr_in, row_in, IsPlayCode, CallsLast, IsPlayable}
 use Rattle.test_threads.proofs.PlayLemmas.Finishing.{jump_in, other_in}
-use Rattle.rept_weave.specs.declared.stretch.Stretch.{Stretch}
+use Rattle.rept_weave.specs.declared.stretch.HartStretch.{HartStretch}
 use Rattle.rept_slices.proofs.InTime.{Each}
 use Rattle.test_threads.specs.Woven.Ordered.{Piece, on_hart, pieces_from}
 use Rattle.test_threads.specs.Maderuns.Harts.{steps_in, stretch_in, harts_of, IsSendable}
@@ -143,19 +144,19 @@ module _ (code : List Instr) (T : List ThreadRows) (turns : List Turn) (playable
             omega arith;
       }
 
-  unmapped : (Q : Stretch → Type 0) (h : ℕ) (hart : List Stretch) → Each (λ (p : Piece). Q p.stretch) (map (on_hart h) hart) → Each Q hart
+  unmapped : (Q : HartStretch → Type 0) (h : ℕ) (hart : List HartStretch) → Each (λ (p : Piece). Q p.stretch) (map (on_hart h) hart) → Each Q hart
   unmapped Q h [] each = tt
   unmapped Q h (x ∷ hart) each = (each.0, unmapped Q h hart each.1)
 
-  from_pieces : (Q : Stretch → Type 0) (h : ℕ) (harts : List (List Stretch)) → Each (λ (p : Piece). Q p.stretch) (pieces_from h harts) → Each (λ (hart : List Stretch). All Q hart) harts
+  from_pieces : (Q : HartStretch → Type 0) (h : ℕ) (harts : List (List HartStretch)) → Each (λ (p : Piece). Q p.stretch) (pieces_from h harts) → Each (λ (hart : List HartStretch). All Q hart) harts
   from_pieces Q h [] each = tt
   from_pieces Q h (hart ∷ harts) each = (
     all_of Q hart (unmapped Q h hart (each_before (λ (p : Piece). Q p.stretch) (map (on_hart h) hart) (pieces_from (suc h) harts) each)),
     from_pieces Q (suc h) harts (each_after (λ (p : Piece). Q p.stretch) (map (on_hart h) hart) (pieces_from (suc h) harts) each),
   )
 
-  pub all_sendable : (n : ℕ) → All (All (λ (s : Stretch). IsSendable s.steps)) (harts_of T turns n 0)
+  pub all_sendable : (n : ℕ) → All (All (λ (s : HartStretch). IsSendable s.steps)) (harts_of T turns n 0)
   all_sendable n =
       let each : Each (λ (p : Piece). IsSendable p.stretch.steps) (all_pieces T [] turns n 0) =
       each_piece T (λ b x. IsSendable (stretch_in T (rows_in x.thread b) x).steps) (λ (p : Piece). IsSendable p.stretch.steps) (λ b x h. h) n 0 [] turns (after_split (λ b x. IsSendable (stretch_in T (rows_in x.thread b) x).steps) turns [] turns refl sendable_at) in
-      subst (All (All (λ (s : Stretch). IsSendable s.steps))) (sym (harts_are T turns n 0)) (all_of (All (λ (s : Stretch). IsSendable s.steps)) (harts_after T [] turns n 0) (from_pieces (λ (s : Stretch). IsSendable s.steps) 0 (harts_after T [] turns n 0) each))
+      subst (All (All (λ (s : HartStretch). IsSendable s.steps))) (sym (harts_are T turns n 0)) (all_of (All (λ (s : HartStretch). IsSendable s.steps)) (harts_after T [] turns n 0) (from_pieces (λ (s : HartStretch). IsSendable s.steps) 0 (harts_after T [] turns n 0) each))

@@ -19,11 +19,11 @@ use Rattle.test_threads.specs.Play.Shares.{sees}
 use Rattle.test_threads.specs.Play.Code.{row_in}
 use Rattle.test_threads.specs.Play.Drawn.{next_turn, drawn_turns, start_registers}
 use Rattle.test_threads.specs.Play.Played.{IsPlayLeft, IsExecutedFrom}
-use Rattle.rept_weave.specs.declared.stretch.Stretch.{Stretch}
+use Rattle.rept_weave.specs.declared.stretch.HartStretch.{HartStretch}
 use Rattle.rept_weave.specs.Woven.{AreStreamsOf}
 use Rattle.rept_slices.specs.Joins.{ThreadNote}
 use Rattle.rept_slices.specs.Raw.{note_in, IsRunOfFiles}
-use Rattle.test_threads.specs.Woven.Ordered.{begins, dark_of, run_of_harts, thread_in, AreOrdered, HasStretches}
+use Rattle.test_threads.specs.Woven.Ordered.{begins, untraced_of, run_of_harts, thread_in, AreOrdered, HasStretches}
 use Rattle.test_threads.specs.declared.maderuns.made.MadeRun.{MadeRun}
 use Rattle.rept_make.specs.Files.{core_header, status_of, status_note}
 use Rattle.test_threads.specs.Maderuns.Files.{saved_of, pc_in}
@@ -65,7 +65,7 @@ module _ (a b c d : List ℕ) (P : ℕ → ℕ → Type 0) (s : ℕ)
   in_notes (suc (suc (suc (suc t)))) desc found = absurd (no_desc found)
 
 module _ (seed : ℕ) (sizes : Sizes) (made : MadeRun) (m : IsMadeRun seed sizes made) (some : 1 ≤ sizes.turns) (small : (i : ℕ) → get_or made.made.played.registers i 0 < 2 ^ 32)
-    (whole : (contents : Contents) (file : StreamFile) (notes : List ThreadNote) (harts : List (List Stretch)) → AreStreamsOf file.halves harts file.streams → HasStretches (coded file.halves contents) harts → AreOrdered harts notes → IsRunOfFiles (record { contents = contents; file = file; notes = notes; from = 0 }) (run_of_harts harts notes)) where
+    (whole : (contents : Contents) (file : StreamFile) (notes : List ThreadNote) (harts : List (List HartStretch)) → AreStreamsOf file.halves harts file.streams → HasStretches (coded file.halves contents) harts → AreOrdered harts notes → IsRunOfFiles (record { contents = contents; file = file; notes = notes; from = 0 }) (run_of_harts harts notes)) where
   abbrev T : List ThreadRows
   T = made.made.played.run.threads
 
@@ -84,7 +84,7 @@ module _ (seed : ℕ) (sizes : Sizes) (made : MadeRun) (m : IsMadeRun seed sizes
   abbrev saved : ℕ → List ℕ
   saved t = saved_of t (pc_in turns t) registers
 
-  abbrev harts : List (List Stretch)
+  abbrev harts : List (List HartStretch)
   harts = harts_of T turns sizes.streams 0
 
   size : (t : ℕ) → length (steps_in T t) ≡ rows_in t turns
@@ -179,5 +179,5 @@ module _ (seed : ℕ) (sizes : Sizes) (made : MadeRun) (m : IsMadeRun seed sizes
         (whole (of_executable made.exe) (record { halves = false; streams = m.woven.streams }) (notes_of turns) harts m.woven.each carried ordered);
     played = told_threads;
     none_skipped = refl;
-    execution = λ D ending. subst (λ (ts : List ThreadRows). IsExecutedFrom (start_registers seed) (record { threads = ts; dark = dark_of (begins harts) }) D) (sym told_threads) (m.play.is_played.execution (dark_of (begins harts)) D (left D ending));
+    execution = λ D ending. subst (λ (ts : List ThreadRows). IsExecutedFrom (start_registers seed) (record { threads = ts; untraced = untraced_of (begins harts) }) D) (sym told_threads) (m.play.is_played.execution (untraced_of (begins harts)) D (left D ending));
   }

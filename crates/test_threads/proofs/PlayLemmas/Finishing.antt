@@ -63,12 +63,12 @@ in_slice t first (h ∷ turns) i s P all least found =
           in_slice t first turns i s P (subst (λ (ss : List Slice). All P ss) not_own all) least (subst (λ (ss : List Slice). slice_of ss i ≡ Some s) not_own found)
     ]
 
-module _ (code : List Instr) (turns : List Turn) (played : Played) (playable : IsPlayable code turns) (are : AreThreads code turns played.run.threads) (dark : Option ℕ) where
+module _ (code : List Instr) (turns : List Turn) (played : Played) (playable : IsPlayable code turns) (are : AreThreads code turns played.run.threads) (untraced : Option ℕ) where
   abbrev threads : List ThreadRows
   threads = played.run.threads
 
   abbrev C : Course
-  C = course_until dark played.run
+  C = course_until untraced played.run
 
   record Has (t : ℕ) : Type 0 where
     pub thread : ThreadRows

@@ -1,4 +1,5 @@
--- A step of the machine with a thread's own registers is a step of that thread, and of no other one's registers.
+-- A step of the machine with a thread's own registers is a step of that thread, and of no other
+-- one's registers.
 use Rattle.std.proofs.Common.{◌≡◌, ℕ, zero, suc, pos, negsuc, ◌+◌, ◌*◌, ◌<◌, ◌^◌, nat_le, nat_lt, cond, Bool, true, false, refl, sym, ap, ◌∙◌, subst, arith, lit<, ◌==◌, ◌⊎◌, inl, inr, ◌≢◌}
 use Rattle.std.proofs.lemmas.Bool.{and_from, and_left, and_parts, eqb-true, le-leb, leb-true, lt-leb, lt-ltb, ltb-true, or_cases, or_from, or_left}
 use Rattle.rept_isa.specs.declared.instr.Instr.{Instr}

@@ -1,5 +1,5 @@
--- Turns of two threads, worked out by hand: thread 0 has two rows from time 1 to 3, thread 1 one from 2 to 4, thread 0 one from 5 to 6, and
--- thread 1 two from 6 to 9.
+-- Turns of two threads, worked out by hand: thread 0 has two rows from time 1 to 3, thread 1 one
+-- from 2 to 4, thread 0 one from 5 to 6, and thread 1 two from 6 to 9.
 use Rattle.std.proofs.Common.{◌≡◌, List, [], ◌∷◌, Some, None, refl}
 use Rattle.test_threads.specs.declared.turns.turn.Turn.{Turn}
 use Rattle.test_threads.specs.Turns.Turns.{all_rows, rows_in, steps_before, turn_at, slices_from}

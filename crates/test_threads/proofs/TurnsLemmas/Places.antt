@@ -1,4 +1,5 @@
--- The rows of turns: which row stands at a place among all, and at which place a row of a thread stands.
+-- The rows of turns: which row stands at a place among all, and at which place a row of a thread
+-- stands.
 use Rattle.std.proofs.Common.{◌≡◌, ℕ, suc, ◌+◌, ◌-◌, ◌<◌, ◌≤◌, min, eqb, cond, nat_lt, List, [], ◌∷◌, Some, None, inl, inr, refl, sym, ap, ◌∙◌, arith}
 use Rattle.std.proofs.lemmas.Bool.{cases_eq, cases_lt, eq-eqb, ne_eqb, lt-ltb, le-ltb}
 use Rattle.test_threads.specs.declared.turns.turn.Turn.{Turn}

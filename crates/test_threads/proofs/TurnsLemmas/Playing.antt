@@ -1,6 +1,8 @@
--- A play is an execution. Four ticks belong to each row: at the first the call returns that the thread's last row was, at the second the
--- row is executed or a call is entered, at the third a call changes memory, and at the fourth a call returns after which its thread has no
--- row. So a call that a row follows returns as that row's turn begins; until then its thread has the registers that it had at the call.
+-- A play is an execution. Four ticks belong to each row: at the first the call returns that the
+-- thread's last row was, at the second the row is executed or a call is entered, at the third a
+-- call changes memory, and at the fourth a call returns after which its thread has no row. So a
+-- call that a row follows returns as that row's turn begins; until then its thread has the
+-- registers that it had at the call.
 use Rattle.std.proofs.Common.{◌≡◌, ◌≢◌, ℕ, zero, suc, ◌+◌, ◌*◌, ◌/◌, ◌%◌, ◌^◌, ◌<◌, ◌≤◌, eqb, cond, nat_lt, Bool, true, false, not, ◌&&◌, List, Option, Some, None, inl, inr, refl, sym, ap, ◌∙◌, subst, arith}
 use Rattle.std.proofs.lemmas.Bool.{false≢true, cases_Bool, cases_eq, cases_lt, eq-eqb, ne_eqb, lt-ltb, le-ltb, and_parts, and_from, and_left, and_right, not_from_false}
 use mathlib.Core.Path.{fun_ext}

@@ -4,7 +4,7 @@ use Rattle.std.specs.List.{AllZip, list_any, prefix_len}
 use Rattle.rept_isa.specs.declared.row.StepRow.{StepRow}
 use Rattle.rept_trace.specs.declared.packet.Packet.{Packet}
 use Rattle.rept_encode.specs.Encoded.{AreReporting}
-use Rattle.rept_weave.specs.declared.stretch.Stretch.{Stretch}
+use Rattle.rept_weave.specs.declared.stretch.HartStretch.{HartStretch}
 use Rattle.rept_weave.specs.Woven.{start_of, ended, end_of, IsStretchSent, AreSent}
 use Rattle.rept_slices.specs.Stamps.{stamp_of, clock_of, context_of, is_past, closes}
 use Rattle.rept_slices.specs.Parts.{ToldSlice, thread_of, begin_of, beyond, first_time, told_from, slices_told}
@@ -35,7 +35,7 @@ pub record IsPieceOf (halves : Bool) (p : Piece) (t : ToldSlice) : Type 0 where
   pub fits : p.stretch.end < 2 ^ 64
 
 module _ (halves : Bool) where
-  pub slices_in : (xs : List Stretch) (packets : List Packet) (s k : ℕ) → AreSent halves xs packets → Each Fits packets → AllZip (IsPieceOf halves) (map (on_hart s) xs) (told_from s k None packets)
+  pub slices_in : (xs : List HartStretch) (packets : List Packet) (s k : ℕ) → AreSent halves xs packets → Each Fits packets → AllZip (IsPieceOf halves) (map (on_hart s) xs) (told_from s k None packets)
   slices_in [] packets s k h fits = subst (λ (ps : List Packet). AllZip (IsPieceOf halves) [] (told_from s k None ps)) (sym h) tt
   slices_in (x ∷ xs) packets s k (front, later, cut, i, others) fits =
       let rest : List Packet = i.reports ++ (ended ∷ end_of x ∷ later) in
@@ -62,7 +62,7 @@ module _ (halves : Bool) where
       } in
       subst (λ (ts : List ToldSlice). AllZip (IsPieceOf halves) (map (on_hart s) (x ∷ xs)) ts) (sym all) (first, slices_in xs later s (suc (suc (suc k + length i.reports))) others tail.1.1)
 
-  pub all_slices : (harts : List (List Stretch)) (lists : List (List Packet)) (s k : ℕ) → AllZip (AreSent halves) harts lists → Each (Each Fits) lists → AllZip (IsPieceOf halves) (pieces_from s harts) (slices_told (numbered s k lists))
+  pub all_slices : (harts : List (List HartStretch)) (lists : List (List Packet)) (s k : ℕ) → AllZip (AreSent halves) harts lists → Each (Each Fits) lists → AllZip (IsPieceOf halves) (pieces_from s harts) (slices_told (numbered s k lists))
   all_slices [] [] s k h fits = tt
   all_slices [] (packets ∷ lists) s k h fits = absurd h
   all_slices (hart ∷ harts) [] s k h fits = absurd h

@@ -5,7 +5,7 @@ use Rattle.std.proofs.lemmas.Bool.{le-ltb}
 use Rattle.rept_trace.specs.declared.packet.Packet.{Packet}
 use Rattle.rept_trace.specs.declared.packet.Packet.TheVariants.{Start, Context, Support, Address, Map, MapAddress}
 use Rattle.rept_encode.specs.Encoded.{IsReporting, AreReporting}
-use Rattle.rept_weave.specs.declared.stretch.Stretch.{Stretch}
+use Rattle.rept_weave.specs.declared.stretch.HartStretch.{HartStretch}
 use Rattle.rept_weave.specs.Woven.{start_of, ended, end_of, IsStretchSent, AreSent}
 use Rattle.rept_path.specs.Trace.{loses}
 use Rattle.rept_path.specs.declared.fault.PathFault.TheVariants.{TimeBack}
@@ -56,17 +56,17 @@ stretch_past (r ∷ rs) rest h =
 
 module _ (halves : Bool) where
   -- the packets of a stretch, and those after it
-  pub layout : (x : Stretch) (front later : List Packet) (i : IsStretchSent halves x front) → front ++ later ≡ start_of x i.first ∷ (i.reports ++ (ended ∷ end_of x ∷ later))
+  pub layout : (x : HartStretch) (front later : List Packet) (i : IsStretchSent halves x front) → front ++ later ≡ start_of x i.first ∷ (i.reports ++ (ended ∷ end_of x ∷ later))
   layout x front later i =
       ap (λ (ps : List Packet). ps ++ later) i.order
       ∙ ap (λ (ps : List Packet). start_of x i.first ∷ ps) (append_assoc i.reports (ended ∷ end_of x ∷ []) later)
 
   -- Where the trace waits, the next stretch begins a walk of its own.
-  pub new_stretch : (xs : List Stretch) (packets : List Packet) → AreSent halves xs packets → same_stretch true packets ≡ []
+  pub new_stretch : (xs : List HartStretch) (packets : List Packet) → AreSent halves xs packets → same_stretch true packets ≡ []
   new_stretch [] packets h = ap (same_stretch true) h
   new_stretch (x ∷ xs) packets (front, later, cut, i, others) = ap (same_stretch true) (cut ∙ layout x front later i)
 
-  pub slices_are : (xs : List Stretch) (packets : List Packet) (s k : ℕ) → AreSent halves xs packets → AreSlicesOf halves s xs (told_from s k None packets)
+  pub slices_are : (xs : List HartStretch) (packets : List Packet) (s k : ℕ) → AreSent halves xs packets → AreSlicesOf halves s xs (told_from s k None packets)
   slices_are [] packets s k h = ap (λ (ps : List Packet). told_from s k None ps) h
   slices_are (x ∷ xs) packets s k (front, later, cut, i, others) =
       let rest : List Packet = ended ∷ end_of x ∷ later in
@@ -101,12 +101,12 @@ lost_past : (rs rest : List Packet) → AreReporting rs → list_any loses (rs +
 lost_past [] rest h = refl
 lost_past (r ∷ rs) rest h = ap (λ (b : Bool). b || list_any loses (rs ++ rest)) (report_keeps r h.0) ∙ lost_past rs rest h.1
 
-none_lost : (halves : Bool) (xs : List Stretch) (packets : List Packet) → AreSent halves xs packets → list_any loses packets ≡ false
+none_lost : (halves : Bool) (xs : List HartStretch) (packets : List Packet) → AreSent halves xs packets → list_any loses packets ≡ false
 none_lost halves [] packets h = ap (list_any loses) h
 none_lost halves (x ∷ xs) packets (front, later, cut, i, others) =
     ap (list_any loses) (cut ∙ layout halves x front later i) ∙ lost_past i.reports (ended ∷ end_of x ∷ later) i.told ∙ none_lost halves xs later others
 
-pub whole_window : (halves : Bool) (x : Stretch) (xs : List Stretch) (packets : List Packet) → AreSent halves (x ∷ xs) packets → window_of 0 packets ≡ Some 0
+pub whole_window : (halves : Bool) (x : HartStretch) (xs : List HartStretch) (packets : List Packet) → AreSent halves (x ∷ xs) packets → window_of 0 packets ≡ Some 0
 whole_window halves x xs packets (front, later, cut, i, others) =
     let rest : List Packet = i.reports ++ (ended ∷ end_of x ∷ later) in
     let same = cut ∙ layout halves x front later i in
@@ -165,7 +165,7 @@ back_past k time earlier (r ∷ rs) rest h calm =
     let p = back_past (suc k) time (r ∷ earlier) rs rest h.1 (calm_on time earlier r none calm) in
     record { number = p.number; before = p.before; calm = p.calm; same = back_on k earlier (rs ++ rest) r none ∙ p.same }
 
-times_on : (halves : Bool) (xs : List Stretch) (packets : List Packet) (k time : ℕ) (earlier : List Packet) → AreSent halves xs packets → AreInTime time xs → Calm time earlier → back_from k earlier packets ≡ None
+times_on : (halves : Bool) (xs : List HartStretch) (packets : List Packet) (k time : ℕ) (earlier : List Packet) → AreSent halves xs packets → AreInTime time xs → Calm time earlier → back_from k earlier packets ≡ None
 times_on halves [] packets k time earlier h ordered calm = ap (back_from k earlier) h
 times_on halves (x ∷ xs) packets k time earlier (front, later, cut, i, others) (first, own, after) calm =
     let s : Packet = start_of x i.first in
@@ -180,5 +180,5 @@ times_on halves (x ∷ xs) packets k time earlier (front, later, cut, i, others)
     ∙ back_at (suc p.number) x.begin x.end (ended ∷ p.before) later (end_of x) refl own d
     ∙ times_on halves xs later (suc (suc p.number)) x.end (end_of x ∷ ended ∷ p.before) others after e
 
-pub times_rise : (halves : Bool) (xs : List Stretch) (packets : List Packet) (k : ℕ) → AreSent halves xs packets → AreInTime 0 xs → back_from k [] packets ≡ None
+pub times_rise : (halves : Bool) (xs : List HartStretch) (packets : List Packet) (k : ℕ) → AreSent halves xs packets → AreInTime 0 xs → back_from k [] packets ≡ None
 times_rise halves xs packets k h ordered = times_on halves xs packets k 0 [] h ordered (λ u le. refl)

@@ -7,12 +7,12 @@ use Rattle.std.proofs.lemmas.List.Sums.{sum_by-cons}
 use Rattle.rept_trace.specs.declared.packet.Packet.{Packet}
 use Rattle.rept_path.specs.declared.fault.PathFault.{PathFault}
 use Rattle.rept_path.specs.declared.fault.PathFault.TheVariants.{SliceOverlap, UnknownThread}
-use Rattle.rept_weave.specs.declared.stretch.Stretch.{Stretch}
+use Rattle.rept_weave.specs.declared.stretch.HartStretch.{HartStretch}
 use Rattle.rept_weave.specs.Woven.{start_of, ended, end_of, AreSent}
 use Rattle.rept_slices.specs.Stamps.{clock_of, is_start}
 use Rattle.rept_slices.specs.Parts.{LeftPackets, ToldSlice, thread_of, begin_of, slices_told}
 use Rattle.rept_slices.specs.Order.{meets, least, lasts_past}
-use Rattle.rept_slices.specs.Skipping.{numbered, whole, skip, window_of, windows, opening, greatest, full_from, from_time, kept, skipped, end_skipped, ends_of, dark}
+use Rattle.rept_slices.specs.Skipping.{numbered, whole, skip, window_of, windows, opening, greatest, full_from, from_time, kept, skipped, end_skipped, ends_of, untraced}
 use Rattle.rept_slices.specs.Checks.{first_fault, time_back, startless, all_idle, stranger, while_other, check}
 use Rattle.rept_slices.specs.Joins.{ThreadNote}
 use Rattle.rept_slices.specs.Many.{overlap_fault}
@@ -20,7 +20,7 @@ use Rattle.rept_slices.proofs.InTime.{Each}
 use Rattle.rept_slices.proofs.Calm.{each_append}
 use Rattle.rept_slices.proofs.Checking.{fault_on}
 use Rattle.test_threads.specs.Woven.Told.{AreInTime}
-use Rattle.test_threads.specs.Woven.Ordered.{Piece, on_hart, pieces_from, begins, dark_of, IsNoted, AreApart}
+use Rattle.test_threads.specs.Woven.Ordered.{Piece, on_hart, pieces_from, begins, untraced_of, IsNoted, AreApart}
 use Rattle.test_threads.proofs.WovenLemmas.Telling.{layout, whole_window, times_rise}
 use Rattle.test_threads.proofs.WovenLemmas.Zipped.{each_weaker}
 use Rattle.test_threads.proofs.WovenLemmas.Sliced.{IsPieceOf, thread_is, begin_is, lasts_not}
@@ -58,26 +58,26 @@ none_early time (t ∷ ts) h = elim (leb_tells (suc (begin_of t)) time) [
 ]
 
 -- a hart's stretches begin no earlier than its first one
-on_from : (time : ℕ) (xs : List Stretch) → AreInTime time xs → Each (λ (x : Stretch). time ≤ x.begin) xs
+on_from : (time : ℕ) (xs : List HartStretch) → AreInTime time xs → Each (λ (x : HartStretch). time ≤ x.begin) xs
 on_from time [] h = tt
-on_from time (x ∷ xs) (first, own, after) = (first, each_weaker (λ (y : Stretch). x.end ≤ y.begin) (λ (y : Stretch). time ≤ y.begin) (λ y le. omega (arith, le, first, own)) xs (on_from x.end xs after))
+on_from time (x ∷ xs) (first, own, after) = (first, each_weaker (λ (y : HartStretch). x.end ≤ y.begin) (λ (y : HartStretch). time ≤ y.begin) (λ y le. omega (arith, le, first, own)) xs (on_from x.end xs after))
 
 module _ (halves : Bool) (time : ℕ) where
-  abbrev Starts : List (List Stretch) → Type 0
+  abbrev Starts : List (List HartStretch) → Type 0
   Starts harts = Each (λ n. n ≡ time) (begins harts)
 
   -- one stream
-  first_window : (hart : List Stretch) (packets : List Packet) → AreSent halves hart packets → unwrap_or (window_of 0 packets) 0 ≡ 0
+  first_window : (hart : List HartStretch) (packets : List Packet) → AreSent halves hart packets → unwrap_or (window_of 0 packets) 0 ≡ 0
   first_window [] packets h = ap (λ (ps : List Packet). unwrap_or (window_of 0 ps) 0) h
   first_window (x ∷ xs) packets h = ap (λ (o : Option ℕ). unwrap_or o 0) (whole_window halves x xs packets h)
 
-  starts_at : (x : Stretch) (xs : List Stretch) (packets : List Packet) → AreSent halves (x ∷ xs) packets → (p : Packet) × (later : List Packet) × (packets ≡ p ∷ later) × (is_start p ≡ true) × (clock_of p ≡ x.begin)
+  starts_at : (x : HartStretch) (xs : List HartStretch) (packets : List Packet) → AreSent halves (x ∷ xs) packets → (p : Packet) × (later : List Packet) × (packets ≡ p ∷ later) × (is_start p ≡ true) × (clock_of p ≡ x.begin)
   starts_at x xs packets (front, later, cut, i, others) = (start_of x i.first, i.reports ++ (ended ∷ end_of x ∷ later), cut ∙ layout halves x front later i, refl, refl)
 
   abbrev before : List Packet → ℕ
   before packets = prefix_len (λ p. not (is_start p && nat_le time (clock_of p))) packets
 
-  none_before : (x : Stretch) (xs : List Stretch) (packets : List Packet) → AreSent halves (x ∷ xs) packets → x.begin ≡ time → before packets ≡ 0
+  none_before : (x : HartStretch) (xs : List HartStretch) (packets : List Packet) → AreSent halves (x ∷ xs) packets → x.begin ≡ time → before packets ≡ 0
   none_before x xs packets h is =
       let s = starts_at x xs packets h in
       let at : nat_le time (clock_of s.0) ≡ true = elim (leb_tells time (clock_of s.0)) [ inl t ↦ t.0 | inr t ↦ absurd (let lt = t.1 in let e = s.4 in omega (arith, lt, e, is)) ] in
@@ -86,7 +86,7 @@ module _ (halves : Bool) (time : ℕ) where
       ∙ ap (λ (b : Bool). cond (not b) (1 + before s.1) 0) at
 
   -- all streams
-  windows_from : (harts : List (List Stretch)) (lists : List (List Packet)) (s k : ℕ) → AllZip (AreSent halves) harts lists → map (λ left. skip (unwrap_or (window_of 0 left.packets) 0) left) (numbered s k lists) ≡ numbered s k lists
+  windows_from : (harts : List (List HartStretch)) (lists : List (List Packet)) (s k : ℕ) → AllZip (AreSent halves) harts lists → map (λ left. skip (unwrap_or (window_of 0 left.packets) 0) left) (numbered s k lists) ≡ numbered s k lists
   windows_from [] [] s k h = refl
   windows_from [] (ps ∷ lists) s k h = absurd h
   windows_from (hart ∷ harts) [] s k h = absurd h
@@ -96,7 +96,7 @@ module _ (halves : Bool) (time : ℕ) where
       let b = windows_from harts lists (suc s) (k + length ps) h.1 in
       λ i. a i ∷ b i
 
-  opens : (harts : List (List Stretch)) (lists : List (List Packet)) (s k : ℕ) → AllZip (AreSent halves) harts lists → filter_map opening (numbered s k lists) ≡ begins harts
+  opens : (harts : List (List HartStretch)) (lists : List (List Packet)) (s k : ℕ) → AllZip (AreSent halves) harts lists → filter_map opening (numbered s k lists) ≡ begins harts
   opens [] [] s k h = refl
   opens [] (ps ∷ lists) s k h = absurd h
   opens (hart ∷ harts) [] s k h = absurd h
@@ -109,7 +109,7 @@ module _ (halves : Bool) (time : ℕ) where
       ∙ ap (λ (n : ℕ). n ∷ filter_map opening (numbered (suc s) (k + length ps) lists)) a.4
       ∙ ap (λ (ns : List ℕ). x.begin ∷ ns) (opens harts lists (suc s) (k + length ps) h.1)
 
-  kept_from : (harts : List (List Stretch)) (lists : List (List Packet)) (s k : ℕ) → AllZip (AreSent halves) harts lists → Starts harts → map (from_time time) (numbered s k lists) ≡ numbered s k lists
+  kept_from : (harts : List (List HartStretch)) (lists : List (List Packet)) (s k : ℕ) → AllZip (AreSent halves) harts lists → Starts harts → map (from_time time) (numbered s k lists) ≡ numbered s k lists
   kept_from [] [] s k h st = refl
   kept_from [] (ps ∷ lists) s k h st = absurd h
   kept_from (hart ∷ harts) [] s k h st = absurd h
@@ -126,13 +126,13 @@ module _ (halves : Bool) (time : ℕ) where
       λ i. a i ∷ b i
 
   -- the checks of each stream
-  times_pass : (harts : List (List Stretch)) (lists : List (List Packet)) (s k : ℕ) → AllZip (AreSent halves) harts lists → Each (AreInTime 0) harts → Each (λ l. time_back l ≡ None) (numbered s k lists)
+  times_pass : (harts : List (List HartStretch)) (lists : List (List Packet)) (s k : ℕ) → AllZip (AreSent halves) harts lists → Each (AreInTime 0) harts → Each (λ l. time_back l ≡ None) (numbered s k lists)
   times_pass [] [] s k h t = tt
   times_pass [] (ps ∷ lists) s k h t = absurd h
   times_pass (hart ∷ harts) [] s k h t = absurd h
   times_pass (hart ∷ harts) (ps ∷ lists) s k h t = (times_rise halves hart ps k h.0 t.0, times_pass harts lists (suc s) (k + length ps) h.1 t.1)
 
-  one_starts : (hart : List Stretch) (packets : List Packet) (s k : ℕ) → AreSent halves hart packets → startless 0 (record { stream = s; number = k; packets = packets }) ≡ None
+  one_starts : (hart : List HartStretch) (packets : List Packet) (s k : ℕ) → AreSent halves hart packets → startless 0 (record { stream = s; number = k; packets = packets }) ≡ None
   one_starts [] packets s k h = ap (λ (qs : List Packet). startless 0 (record { stream = s; number = k; packets = qs })) h
   one_starts (x ∷ xs) packets s k h =
       let a = starts_at x xs packets h in
@@ -141,13 +141,13 @@ module _ (halves : Bool) (time : ℕ) where
       there : (p : Packet) (later : List Packet) → window_of 0 (p ∷ later) ≡ Some 0 → startless 0 (record { stream = s; number = k; packets = p ∷ later }) ≡ None
       there p later u = rw u refl
 
-  all_start : (harts : List (List Stretch)) (lists : List (List Packet)) (s k : ℕ) → AllZip (AreSent halves) harts lists → Each (λ l. startless 0 l ≡ None) (numbered s k lists)
+  all_start : (harts : List (List HartStretch)) (lists : List (List Packet)) (s k : ℕ) → AllZip (AreSent halves) harts lists → Each (λ l. startless 0 l ≡ None) (numbered s k lists)
   all_start [] [] s k h = tt
   all_start [] (ps ∷ lists) s k h = absurd h
   all_start (hart ∷ harts) [] s k h = absurd h
   all_start (hart ∷ harts) (ps ∷ lists) s k h = (one_starts hart ps s k h.0, all_start harts lists (suc s) (k + length ps) h.1)
 
-  some_stream : (harts : List (List Stretch)) (lists : List (List Packet)) → AllZip (AreSent halves) harts lists → 0 < length (begins harts) → all_idle lists ≡ None
+  some_stream : (harts : List (List HartStretch)) (lists : List (List Packet)) → AllZip (AreSent halves) harts lists → 0 < length (begins harts) → all_idle lists ≡ None
   some_stream [] [] h some = absurd (omega (arith, some))
   some_stream [] (ps ∷ lists) h some = absurd h
   some_stream (hart ∷ harts) [] h some = absurd h
@@ -232,10 +232,10 @@ module _ (halves : Bool) (time : ℕ) where
       each (n ∷ ns) = (ap (λ (us : List ToldSlice). option_map (λ time. SliceOverlap n time) (least (map begin_of us))) (none_met n all told_all zip a), each ns)
 
   -- where anything may have happened
-  told_dark : (ns : List ℕ) → Each (λ n. n ≡ time) ns → cond (nat_lt 1 (length ns)) (Some (greatest (time ∷ []))) None ≡ dark_of ns
-  told_dark [] h = refl
-  told_dark (n ∷ []) h = refl
-  told_dark (n ∷ (m ∷ ns)) h = elim (leb_tells 2 (length (n ∷ (m ∷ ns)))) [
+  told_untraced : (ns : List ℕ) → Each (λ n. n ≡ time) ns → cond (nat_lt 1 (length ns)) (Some (greatest (time ∷ []))) None ≡ untraced_of ns
+  told_untraced [] h = refl
+  told_untraced (n ∷ []) h = refl
+  told_untraced (n ∷ (m ∷ ns)) h = elim (leb_tells 2 (length (n ∷ (m ∷ ns)))) [
     | inl x ↦ (ap (λ (b : Bool). cond b (Some (greatest (time ∷ []))) None) x.0 ∙ ap (λ (k : ℕ). Some k) (greatest_one time (time ∷ []) (refl, tt) (omega arith) ∙ sym h.0))
     | inr x ↦ absurd (let lt = x.1 in omega (arith, lt))
   ]
@@ -249,7 +249,7 @@ module _ (halves : Bool) (time : ℕ) where
       let b = sum_by-cons (λ (qs : List Packet). length qs) ps lists in
       a ∙ ap (λ (n : ℕ). length ps + n) r ∙ sym b
 
-  module _ (harts : List (List Stretch)) (lists : List (List Packet)) (sent : AllZip (AreSent halves) harts lists) (starts : Starts harts) (some : 0 < length (begins harts)) where
+  module _ (harts : List (List HartStretch)) (lists : List (List Packet)) (sent : AllZip (AreSent halves) harts lists) (starts : Starts harts) (some : 0 < length (begins harts)) where
     windows_are : windows 0 lists ≡ numbered 0 0 lists
     windows_are = windows_from harts lists 0 0 sent
 
@@ -269,16 +269,16 @@ module _ (halves : Bool) (time : ℕ) where
         ∙ ap (λ (m : ℕ). sum_by (λ (ps : List Packet). length ps) lists - m) (sizes lists 0 0)
         ∙ (let z : sum_by (λ (ps : List Packet). length ps) lists - sum_by (λ (ps : List Packet). length ps) lists ≡ 0 = omega arith in z)
 
-    pub dark_is : Each (λ (p : Piece). time ≤ p.stretch.begin) (pieces_from 0 harts) → AllZip (IsPieceOf halves) (pieces_from 0 harts) (slices_told (numbered 0 0 lists)) → dark 0 lists ≡ dark_of (begins harts)
-    dark_is late zip =
+    pub untraced_is : Each (λ (p : Piece). time ≤ p.stretch.begin) (pieces_from 0 harts) → AllZip (IsPieceOf halves) (pieces_from 0 harts) (slices_told (numbered 0 0 lists)) → untraced 0 lists ≡ untraced_of (begins harts)
+    untraced_is late zip =
         let ts : List ToldSlice = slices_told (numbered 0 0 lists) in
         let none : ends_of time (slices_told (numbered 0 0 lists)) ≡ [] = ap (map (end_skipped (slices_told (numbered 0 0 lists)))) (none_early time (slices_told (numbered 0 0 lists)) (told_late (pieces_from 0 harts) (slices_told (numbered 0 0 lists)) zip late)) in
         let opened = opens harts lists 0 0 sent in
-        let a : dark 0 lists ≡ cond (nat_lt 1 (length (filter_map opening (numbered 0 0 lists)))) (Some (greatest (full_from (numbered 0 0 lists) ∷ ends_of (full_from (numbered 0 0 lists)) (slices_told (numbered 0 0 lists))))) None =
+        let a : untraced 0 lists ≡ cond (nat_lt 1 (length (filter_map opening (numbered 0 0 lists)))) (Some (greatest (full_from (numbered 0 0 lists) ∷ ends_of (full_from (numbered 0 0 lists)) (slices_told (numbered 0 0 lists))))) None =
         ap (λ (ws : List LeftPackets). cond (nat_lt 1 (length (filter_map opening ws))) (Some (greatest (full_from ws ∷ ends_of (full_from ws) (slices_told ws)))) None) windows_are in
         let b : cond (nat_lt 1 (length (filter_map opening (numbered 0 0 lists)))) (Some (greatest (full_from (numbered 0 0 lists) ∷ ends_of (full_from (numbered 0 0 lists)) (slices_told (numbered 0 0 lists))))) None ≡ cond (nat_lt 1 (length (begins harts))) (Some (greatest (time ∷ ends_of time (slices_told (numbered 0 0 lists))))) None =
         λ n. cond (nat_lt 1 (length (opened n))) (Some (greatest (full_is n ∷ ends_of (full_is n) (slices_told (numbered 0 0 lists))))) None in
-        a ∙ b ∙ ap (λ (ns : List ℕ). cond (nat_lt 1 (length (begins harts))) (Some (greatest (time ∷ ns))) None) none ∙ told_dark (begins harts) starts
+        a ∙ b ∙ ap (λ (ns : List ℕ). cond (nat_lt 1 (length (begins harts))) (Some (greatest (time ∷ ns))) None) none ∙ told_untraced (begins harts) starts
 
     pub passes : (notes : List ThreadNote) → Each (AreInTime 0) harts → Each (IsNoted notes) (pieces_from 0 harts) → AllZip (IsPieceOf halves) (pieces_from 0 harts) (slices_told (numbered 0 0 lists)) → check 0 (map (λ (n : ThreadNote). n.process) notes) lists ≡ None
     passes notes times noted zip =
@@ -291,18 +291,18 @@ module _ (halves : Bool) (time : ℕ) where
         λ i. first_fault (λ found. found) (a i ∷ b i ∷ c i ∷ d i ∷ [])
 
 -- No stretch begins before the time.
-late_from : (time s : ℕ) (harts : List (List Stretch)) → Each (AreInTime 0) harts → Each (λ n. n ≡ time) (begins harts) → Each (λ (p : Piece). time ≤ p.stretch.begin) (pieces_from s harts)
+late_from : (time s : ℕ) (harts : List (List HartStretch)) → Each (AreInTime 0) harts → Each (λ n. n ≡ time) (begins harts) → Each (λ (p : Piece). time ≤ p.stretch.begin) (pieces_from s harts)
 late_from time s [] h st = tt
 late_from time s ([] ∷ harts) h st = late_from time (suc s) harts h.1 st
 late_from time s ((x ∷ xs) ∷ harts) h st =
     let e = st.0 in
     let own = h.0.1 in
-    let rest = each_weaker (λ (y : Stretch). x.end ≤ y.begin) (λ (y : Stretch). time ≤ y.begin) (λ y le. omega (arith, le, e, own)) xs (on_from x.end xs h.0.2) in
+    let rest = each_weaker (λ (y : HartStretch). x.end ≤ y.begin) (λ (y : HartStretch). time ≤ y.begin) (λ y le. omega (arith, le, e, own)) xs (on_from x.end xs h.0.2) in
     (omega (arith, e), each_append (λ (p : Piece). time ≤ p.stretch.begin) (map (on_hart s) xs) (pieces_from (suc s) harts) (each_map xs rest) (late_from time (suc s) harts h.1 st.1))
   where
-    each_map : (ys : List Stretch) → Each (λ (y : Stretch). time ≤ y.begin) ys → Each (λ (p : Piece). time ≤ p.stretch.begin) (map (on_hart s) ys)
+    each_map : (ys : List HartStretch) → Each (λ (y : HartStretch). time ≤ y.begin) ys → Each (λ (p : Piece). time ≤ p.stretch.begin) (map (on_hart s) ys)
     each_map [] k = tt
     each_map (y ∷ ys) k = (k.0, each_map ys k.1)
 
-pub late : (time : ℕ) (harts : List (List Stretch)) → Each (AreInTime 0) harts → Each (λ n. n ≡ time) (begins harts) → Each (λ (p : Piece). time ≤ p.stretch.begin) (pieces_from 0 harts)
+pub late : (time : ℕ) (harts : List (List HartStretch)) → Each (AreInTime 0) harts → Each (λ n. n ≡ time) (begins harts) → Each (λ (p : Piece). time ≤ p.stretch.begin) (pieces_from 0 harts)
 late time harts h st = late_from time 0 harts h st

@@ -43,7 +43,8 @@ pub record IsWay (halves : Bool) (contents : Contents) (p : Piece) (w : StretchL
   pub leads : LeadsOver (coded halves contents) (reverse (stretch w.head)) p.stretch.steps
   pub legs : w.legs ≡ leads.legs
 
--- The slice that was walked is that of a stretch: its rows are all but the last one, and from where it ended a gap leads over that one.
+-- The slice that was walked is that of a stretch: its rows are all but the last one, and from where
+-- it ended a gap leads over that one.
 pub record IsRanOf (code : Code) (p : Piece) (r : RanSlice) : Type 0 where
   pub stream : r.told.stream ≡ p.hart
   pub thread : thread_of r.told ≡ p.stretch.process

@@ -23,7 +23,7 @@ use Rattle.rept_path.specs.declared.fault.PathFault.{PathFault}
 use Rattle.rept_path.specs.Moves.{◌>>=◌}
 use Rattle.rept_path.specs.Rows.{CarryCode}
 use Rattle.rept_encode.specs.Encoded.{coded}
-use Rattle.rept_weave.specs.declared.stretch.Stretch.{Stretch}
+use Rattle.rept_weave.specs.declared.stretch.HartStretch.{HartStretch}
 use Rattle.rept_weave.specs.Woven.{AreSent, AreStreamsOf, IsWoven}
 use Rattle.rept_slices.specs.Parts.{LeftPackets, ToldSlice, slices_told}
 use Rattle.rept_slices.specs.Skipping.{numbered, kept}
@@ -40,7 +40,7 @@ use Rattle.test_threads.specs.Woven.Ordered.{Piece, pieces, begins, thread_in, r
 use Rattle.test_threads.proofs.WovenLemmas.Zipped.{each_of, zip_each}
 use Rattle.test_threads.proofs.WovenLemmas.Sliced.{Fits, IsPieceOf, all_slices}
 use Rattle.test_threads.proofs.WovenLemmas.Ways.{IsRanOf, rows_before, ways, all_heads, all_ran}
-use Rattle.test_threads.proofs.WovenLemmas.Unskipped.{kept_is, none_skipped, dark_is, passes, none_overlap, late}
+use Rattle.test_threads.proofs.WovenLemmas.Unskipped.{kept_is, none_skipped, untraced_is, passes, none_overlap, late}
 use Rattle.test_threads.proofs.WovenLemmas.Threaded.{HasSteps, counted, ran_are, all_threads, rooms}
 
 -- times have 64 bits
@@ -60,13 +60,13 @@ clocks_fit halves stream (p ∷ packets) w h =
     (clock_fits halves p (fits (timed halves) b.0 p spelt), clocks_fit halves h.0 packets (b.3 ∙ w) h.2)
 
 -- The packets of all streams.
-pub record AreHeld (halves : Bool) (harts : List (List Stretch)) (streams : List (List ℕ)) : Type 0 where
+pub record AreHeld (halves : Bool) (harts : List (List HartStretch)) (streams : List (List ℕ)) : Type 0 where
   pub lists : List (List Packet)
   pub hold : HoldEach (map (λ bytes. record { widths = timed halves; bytes = bytes }) streams) lists
   pub sent : AllZip (AreSent halves) harts lists
   pub fit : Each (Each Fits) lists
 
-held : (halves : Bool) (harts : List (List Stretch)) (streams : List (List ℕ)) → AreStreamsOf halves harts streams → AreHeld halves harts streams
+held : (halves : Bool) (harts : List (List HartStretch)) (streams : List (List ℕ)) → AreStreamsOf halves harts streams → AreHeld halves harts streams
 held halves [] streams h = record {
   lists = [];
   hold = subst (λ (ss : List (List ℕ)). HoldEach (map (λ bytes. record { widths = timed halves; bytes = bytes }) ss) []) (sym h) refl;
@@ -95,7 +95,7 @@ each_all R ps (q ∷ qs) h = (each_of (R q) ps (All-head (λ (x : Piece). All (R
 abbrev pub files : Contents → StreamFile → List ThreadNote → RawFiles
 files program file notes = record { contents = program; file = file; notes = notes; from = 0 }
 
-module _ (program : Contents) (file : StreamFile) (notes : List ThreadNote) (harts : List (List Stretch)) (carries : HasStretches (coded file.halves program) harts) (o : AreOrdered harts notes) where
+module _ (program : Contents) (file : StreamFile) (notes : List ThreadNote) (harts : List (List HartStretch)) (carries : HasStretches (coded file.halves program) harts) (o : AreOrdered harts notes) where
   module _ (lists : List (List Packet)) (sent : AllZip (AreSent file.halves) harts lists) (fit : Each (Each Fits) lists) where
     starts : Each (λ n. n ≡ o.time) (begins harts)
     starts = each_of (λ n. n ≡ o.time) (begins harts) o.together
@@ -150,9 +150,9 @@ module _ (program : Contents) (file : StreamFile) (notes : List ThreadNote) (har
 
     run_is : run_by own (map (thread_in harts) notes) ≡ run_of_harts harts notes
     run_is =
-        let d = dark_is file.halves o.time harts lists sent starts o.some (late o.time harts times starts) zip_whole in
+        let d = untraced_is file.halves o.time harts lists sent starts o.some (late o.time harts times starts) zip_whole in
         let k = none_skipped file.halves o.time harts lists sent starts o.some in
-        λ i. record { threads = map (thread_in harts) notes; dark = d i; skipped = k i }
+        λ i. record { threads = map (thread_in harts) notes; untraced = d i; skipped = k i }
 
     is_run : IsRunOfStreams own (run_of_harts harts notes)
     is_run = record {
@@ -169,7 +169,7 @@ module _ (program : Contents) (file : StreamFile) (notes : List ThreadNote) (har
   whole_run streams = let all = held file.halves harts file.streams streams in (all.lists, all.hold, is_run all.lists all.sent all.fit)
 
 -- the files of a dump
-pub rebuilt : (dump : Dump) (file : StreamFile) (descs : List (List ℕ)) (halves : Bool) (harts : List (List Stretch)) (trace : List ℕ) (w : IsWoven halves harts trace) → ◌≡◌ {A = Result StreamFile TraceFault} (Ok file) (Ok (record { halves = halves; streams = w.streams })) → HasStretches (coded halves (contents (exe_of dump))) harts → AreOrdered harts (map note_in descs)
+pub rebuilt : (dump : Dump) (file : StreamFile) (descs : List (List ℕ)) (halves : Bool) (harts : List (List HartStretch)) (trace : List ℕ) (w : IsWoven halves harts trace) → ◌≡◌ {A = Result StreamFile TraceFault} (Ok file) (Ok (record { halves = halves; streams = w.streams })) → HasStretches (coded halves (contents (exe_of dump))) harts → AreOrdered harts (map note_in descs)
     → IsRunOfFiles (files_of dump file descs 0) (run_of_harts harts (map note_in descs))
 rebuilt dump file descs halves harts trace w same carries o =
     let all : StreamFile = record { halves = halves; streams = w.streams } in

@@ -1,4 +1,5 @@
--- The core file of a made run of several threads: a register note for each of four threads, and one segment of data.
+-- The core file of a made run of several threads: a register note for each of four threads, and one
+-- segment of data.
 use Rattle.std.specs.Prelude.{ℕ, zero, suc, ◌+◌, ◌%◌, List, [], ◌∷◌, ◌++◌, slice_index, if◌then◌else◌}
 use Rattle.test_threads.specs.declared.turns.turn.Turn.{Turn}
 use Rattle.test_threads.specs.Turns.Turns.{rows_in}
@@ -19,7 +20,8 @@ saved_of t pc registers = pc ∷ shares_of t registers 31
 abbrev pub pc_in : List Turn → ℕ → ℕ
 pc_in turns t = address_in t (rows_in t turns % 16)
 
--- the note of a thread after these turns, of these registers of the machine; processes are counted from 1
+-- the note of a thread after these turns, of these registers of the machine; processes are counted
+-- from 1
 abbrev pub thread_note : List Turn → List ℕ → ℕ → List ℕ
 thread_note turns registers t = status_note (t + 1) (saved_of t (pc_in turns t) registers)
 

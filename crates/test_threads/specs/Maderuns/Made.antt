@@ -9,7 +9,9 @@ use Rattle.rept_make.specs.Files.{executable}
 use Rattle.test_threads.specs.Maderuns.Files.{core_file}
 use Rattle.test_threads.specs.Maderuns.Harts.{harts_of}
 
--- the play of the seed; the executable of its code, 256 bytes to read, to write and to run, so that it doesn't say what its bytes were at the end; the core file of what it left; and the trace of its turns, stream by stream
+-- the play of the seed; the executable of its code, 256 bytes to read, to write and to run, so that
+-- it doesn't say what its bytes were at the end; the core file of what it left; and the trace of
+-- its turns, stream by stream
 pub record IsMadeRun (seed : ℕ) (sizes : Sizes) (made : MadeRun) : Type 0 where
   pub play : IsPlayMade seed sizes made.made
   pub words : List ℕ

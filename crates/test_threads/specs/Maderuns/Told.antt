@@ -15,13 +15,16 @@ use Rattle.test_threads.specs.Play.Drawn.{start_registers}
 use Rattle.test_threads.specs.Play.Played.{IsExecutedFrom}
 use Rattle.test_threads.specs.declared.maderuns.made.MadeRun.{MadeRun}
 
--- an ending of which all that is said is what a core file and an executable say: the registers of each thread by its note, and the bytes
+-- an ending of which all that is said is what a core file and an executable say: the registers of
+-- each thread by its note, and the bytes
 pub record IsEndingOf (exe core : List ℕ) (descs : List (List ℕ)) (D : Ending) : Type 0 where
   pub registers : (t s v : ℕ) → 0 < s → slice_get (D.registers t) s ≡ Some v → (desc : List ℕ) × (slice_get descs t ≡ Some desc) × (s < 32) × (word_at desc (72 + 4 * s) ≡ v)
   pub bytes : (a v : ℕ) → D.dump a ≡ Some v → crash_byte (of_executable exe) (segments core) a ≡ Some v
 
--- The executable and the core file pass their checks, and the core file has the notes of its threads. The run that the streams tell of this program and these
--- threads is the one that was played, and there is an execution of it that begins with the start registers and ends in the core file.
+-- The executable and the core file pass their checks, and the core file has the notes of its
+-- threads. The run that the streams tell of this program and these threads is the one that was
+-- played, and there is an execution of it that begins with the start registers and ends in the core
+-- file.
 pub record IsToldByFiles (seed : ℕ) (made : MadeRun) : Type 0 where
   pub exe_read : first_failure (checks Exec made.exe) ≡ None
   pub core_read : first_failure (checks Core made.core) ≡ None

@@ -1,4 +1,5 @@
--- The words of the code of four threads: the 15 instructions of each, and its jump. This project's own.
+-- The words of the code of four threads: the 15 instructions of each, and its jump. This project's
+-- own.
 use Rattle.std.specs.Prelude.{◌≡◌, ℕ, ◌+◌, ◌*◌, ◌^◌, ◌<◌, List, length, slice_index}
 use Rattle.rept_isa.specs.declared.instr.Instr.{Instr}
 use Rattle.rept_isa.specs.Words.{IsWord}

@@ -1,4 +1,5 @@
--- The code of four threads, and their rows in a play: each has 15 instructions and a jump back to the first. This project's own.
+-- The code of four threads, and their rows in a play: each has 15 instructions and a jump back to
+-- the first. This project's own.
 use Rattle.std.specs.Prelude.{◌≡◌, ℕ, ◌+◌, ◌*◌, ◌%◌, ◌<◌, ◌≤◌, ◌==◌, pos, negsuc, suc, true, false, if◌then◌else◌, List, length, Some, slice_get, slice_index, slice_index_or, All}
 use Rattle.rept_isa.specs.declared.instr.Instr.{Instr}
 use Rattle.rept_isa.specs.declared.instr.Instr.TheVariants.{Jal, Imm, Fence}
@@ -28,7 +29,8 @@ instr_in code t s = if s == 15 then Jal 0 (negsuc 59) else drawn_in code t s
 abbrev pub row_in : List Instr → ℕ → ℕ → StepRow
 row_in code t i = record { at = address_in t (i % 16); instr = instr_in code t (i % 16); next = address_in t ((i + 1) % 16); call = is_call (instr_in code t (i % 16)); short = false }
 
--- each of the 15 instructions of the four threads can be spelled and uses the thread's own registers
+-- each of the 15 instructions of the four threads can be spelled and uses the thread's own
+-- registers
 pub record IsPlayCode (code : List Instr) : Type 0 where
   pub size : length code ≡ 60
   pub uses : (t s : ℕ) → t < 4 → s < 15 → UsesOwn t (drawn_in code t s)
@@ -48,8 +50,8 @@ pub record IsPlayable (code : List Instr) (turns : List Turn) : Type 0 where
   pub calls : (t : ℕ) → All (CallsLast code t) (slices_from t 0 turns)
   pub few : all_rows turns ≤ 65536
 
--- What the machine runs for a slot: the machine's code has all rows one after the other, so it doesn't jump, and for the jump it runs ADDI x0, x0, 0,
--- which does nothing.
+-- What the machine runs for a slot: the machine's code has all rows one after the other, so it
+-- doesn't jump, and for the jump it runs ADDI x0, x0, 0, which does nothing.
 abbrev pub played_in : List Instr → ℕ → ℕ → Instr
 played_in code t s = if s == 15 then Imm Addi 0 0 (pos 0) else drawn_in code t s
 

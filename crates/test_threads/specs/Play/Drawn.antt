@@ -1,5 +1,6 @@
--- What is drawn of a play from a seed: the code of the threads, and their turns. This project's own; the numbers are those of a linear
--- congruence modulo 2^32 (D. E. Knuth and H. W. Lewis, as Numerical Recipes gives it), begun at a place of its own for each.
+-- What is drawn of a play from a seed: the code of the threads, and their turns. This project's
+-- own; the numbers are those of a linear congruence modulo 2^32 (D. E. Knuth and H. W. Lewis, as
+-- Numerical Recipes gives it), begun at a place of its own for each.
 use Rattle.std.specs.Prelude.{ℕ, zero, suc, ◌+◌, ◌-◌, ◌*◌, ◌/◌, ◌%◌, ◌^◌, ◌==◌, nat_le, nat_lt, min, max, pos, ◌-ℤ◌, if◌then◌else◌, List, [], ◌∷◌, ◌++◌}
 use Rattle.rept_isa.specs.declared.instr.Instr.{Instr}
 use Rattle.rept_isa.specs.declared.instr.Instr.TheVariants.{Load, Store, Imm, Op, Ecall}
@@ -60,15 +61,17 @@ last_begin (turn ∷ turns) = max turn.begin (last_begin turns)
 abbrev pub to_call : ℕ → ℕ
 to_call place = if nat_le place 7 then 8 - place else 24 - place
 
--- A turn begins after what its thread and its stream did before, takes some time, and doesn't end before an earlier one begins.
+-- A turn begins after what its thread and its stream did before, takes some time, and doesn't end
+-- before an earlier one begins.
 abbrev pub begin_of : ℕ → ℕ → ℕ → List Turn → ℕ
 begin_of early t s turns = max early (max (thread_end t turns) (stream_end s turns))
 
 abbrev pub end_of : ℕ → ℕ → List Turn → ℕ
 end_of late begin turns = max late (max (begin + 1) (last_begin turns))
 
--- The turn of this number, after these. Its thread and its stream are drawn; it has up to eight rows, the last of which may be a call, at a time
--- around eight times its number. But the first turn of each stream is of the thread of the stream's number, and may begin at time 0.
+-- The turn of this number, after these. Its thread and its stream are drawn; it has up to eight
+-- rows, the last of which may be a call, at a time around eight times its number. But the first
+-- turn of each stream is of the thread of the stream's number, and may begin at time 0.
 abbrev pub drawn_thread : Sizes → ℕ → ℕ → ℕ
 drawn_thread sizes seed n = if nat_lt n sizes.streams then n else draw seed (240 + 5 * n) sizes.threads
 
@@ -94,8 +97,8 @@ abbrev pub drawn_turns : Sizes → ℕ → ℕ → List Turn
 drawn_turns sizes seed zero = []
 drawn_turns sizes seed (suc n) = drawn_turns sizes seed n ++ next_turn sizes seed n (drawn_turns sizes seed n) ∷ []
 
--- The registers at the start: the number of getpid (172) in x17, which all threads see, 131072 in the first register of each thread, and a drawn number in
--- its second.
+-- The registers at the start: the number of getpid (172) in x17, which all threads see, 131072 in
+-- the first register of each thread, and a drawn number in its second.
 abbrev pub start_registers : ℕ → List ℕ
 start_registers seed =
     0 ∷ 0 ∷ 0 ∷ 0 ∷ 0 ∷ 0 ∷ 0 ∷ 0 ∷ 0 ∷ 0 ∷ 0 ∷ 0 ∷ 0 ∷ 0 ∷ 0 ∷ 0 ∷ 0 ∷ 172

@@ -11,7 +11,8 @@ use Rattle.test_threads.specs.declared.play.playing.Played.{Played}
 use Rattle.test_threads.specs.Play.Shares.{sees}
 use Rattle.test_threads.specs.Play.Code.{row_in}
 
--- an ending of which all that was saved is what the play left: registers of the four threads, and bytes
+-- an ending of which all that was saved is what the play left: registers of the four threads, and
+-- bytes
 pub record IsPlayLeft (D : Ending) (played : Played) : Type 0 where
   pub registers : (t s v : ℕ) → 0 < s → slice_get (D.registers t) s ≡ Some v → (t < 4) × ((if sees t s then slice_index played.registers s else 0) ≡ v)
   pub inside : (a v : ℕ) → D.dump a ≡ Some v → (131072 ≤ a) × (a < 131104)
@@ -30,16 +31,17 @@ pub record IsExecutedFrom (from : List ℕ) (C : Course) (D : Ending) : Type 0 w
 
 -- the course of a run of whose begin something may not be told
 abbrev pub course_until : Option ℕ → Run → Course
-course_until dark run = record { threads = run.threads; dark = dark }
+course_until untraced run = record { threads = run.threads; untraced = untraced }
 
--- The run is of four threads, has these turns and rows, all of it is told, and it is sound; 32 registers and 32 bytes are left; and of each ending that
--- the play left there is an execution, which begins with the registers `from`, also where less of the run is told.
+-- The run is of four threads, has these turns and rows, all of it is told, and it is sound; 32
+-- registers and 32 bytes are left; and of each ending that the play left there is an execution,
+-- which begins with the registers `from`, also where less of the run is told.
 pub record IsPlayed (code : List Instr) (turns : List Turn) (from : List ℕ) (played : Played) : Type 0 where
   pub four : length played.run.threads ≡ 4
   pub played_turns : HasTurns (course_of played.run) turns
   pub rows : (t i : ℕ) → i < rows_in t turns → row_at (course_of played.run) (row_of t i) ≡ Some (row_in code t i)
-  pub told : played.run.dark ≡ None
+  pub told : played.run.untraced ≡ None
   pub none_skipped : played.run.skipped ≡ 0
   pub sound : IsSoundCourse (course_of played.run)
   pub left : (length played.registers ≡ 32) × (length played.bytes.items ≡ 32)
-  pub execution : (dark : Option ℕ) (D : Ending) → IsPlayLeft D played → IsExecutedFrom from (course_until dark played.run) D
+  pub execution : (untraced : Option ℕ) (D : Ending) → IsPlayLeft D played → IsExecutedFrom from (course_until untraced played.run) D

@@ -11,7 +11,8 @@ use Rattle.test_threads.specs.declared.turns.turn.Turn.{Turn}
 use Rattle.test_threads.specs.Turns.Turns.{turn_at}
 use Rattle.test_threads.specs.Play.Code.{AreWords, played_at}
 
--- from one state to the other by an instruction of four bytes, wherever it stands and leads, as the machine picks
+-- from one state to the other by an instruction of four bytes, wherever it stands and leads, as the
+-- machine picks
 pub record GoesBy (instr : Instr) (s t : State) : Type 0 where
   pub at : ℕ
   pub next : ℕ

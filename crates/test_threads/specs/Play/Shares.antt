@@ -1,5 +1,6 @@
--- The registers of one machine shared out among four threads: thread t has x18 + 3t to x20 + 3t, all see x17 (a7), the number of a call, and a
--- thread's others are 0. All see the same memory. This project's own.
+-- The registers of one machine shared out among four threads: thread t has x18 + 3t to x20 + 3t,
+-- all see x17 (a7), the number of a call, and a thread's others are 0. All see the same memory.
+-- This project's own.
 use Rattle.std.specs.Prelude.{ℕ, ◌+◌, ◌*◌, ◌<◌, ◌≤◌, nat_le, nat_lt, ◌&&◌, ◌||◌, ◌==◌, Bool, if◌then◌else◌}
 use Rattle.rept_isa.specs.declared.instr.Instr.{Instr}
 use Rattle.rept_isa.specs.declared.instr.Instr.TheVariants.{Load, Store, Imm, Op, Ecall}

@@ -1,5 +1,6 @@
--- A play: turns as they happened one after the other, each row a step of the machine by its thread's registers and the one memory
--- (RISC-V unprivileged manual 20191213, chapters 1.2 and 1.4). This project's own.
+-- A play: turns as they happened one after the other, each row a step of the machine by its
+-- thread's registers and the one memory (RISC-V unprivileged manual 20191213, chapters 1.2 and
+-- 1.4). This project's own.
 use Rattle.std.specs.Prelude.{◌≡◌, ℕ, suc, ◌<◌, ◌≤◌, List, Some, slice_get}
 use Rattle.rept_machine.specs.State.{IsState}
 use Rattle.rept_steps.specs.Course.{Course, Row, row_of}
@@ -7,7 +8,8 @@ use Rattle.rept_order.specs.History.{World, seen_by, Stays, ExecutesRow, Ending,
 use Rattle.test_threads.specs.declared.turns.turn.Turn.{Turn}
 use Rattle.test_threads.specs.Turns.Turns.{all_rows, steps_before, turn_at}
 
--- the turns, and the worlds between their rows: world k is before row k of all, world k + 1 after it
+-- the turns, and the worlds between their rows: world k is before row k of all, world k + 1 after
+-- it
 pub record Playing : Type 0 where
   pub turns : List Turn
   pub world : ℕ → World
@@ -29,7 +31,8 @@ pub record IsPlay (C : Course) (D : Ending) (x : Playing) : Type 0 where
   pub registers_end : (t s v : ℕ) → 0 < s → slice_get (D.registers t) s ≡ Some v → (last_world x).register t s ≡ v
   pub bytes_end : (a v : ℕ) → D.dump a ≡ Some v → (last_world x).memory a ≡ v
 
--- there is an execution of the course that begins in the play's first world and ends in its last one
+-- there is an execution of the course that begins in the play's first world and ends in its last
+-- one
 pub record IsPlayExecuted (C : Course) (D : Ending) (x : Playing) : Type 0 where
   pub history : History
   pub execution : IsExecution C D history

@@ -42,8 +42,8 @@ pub record HasTurns (C : Course) (turns : List Turn) : Type 0 where
 abbrev pub AreSome : List Turn → Type 0
 AreSome turns = All (λ turn. 0 < turn.count) turns
 
--- The turns keep the order of time: none ends before it begins, and none that stands later in the list ends before an earlier one
--- begins. They may overlap.
+-- The turns keep the order of time: none ends before it begins, and none that stands later in the
+-- list ends before an earlier one begins. They may overlap.
 abbrev pub AreInOrder : List Turn → Type 0
 AreInOrder [] = Unit {0}
 AreInOrder (turn ∷ turns) = (turn.begin ≤ turn.end) × All (λ later. turn.begin ≤ later.end) turns × AreInOrder turns

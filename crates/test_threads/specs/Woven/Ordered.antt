@@ -1,4 +1,5 @@
--- The run of what harts did, and of which runs a written trace tells all. Nothing is said here of packets or bytes. This project's own.
+-- The run of what harts did, and of which runs a written trace tells all. Nothing is said here of
+-- packets or bytes. This project's own.
 use Rattle.std.specs.Prelude.{◌≡◌, ℕ, suc, ◌+◌, ◌==◌, ◌<◌, ◌≤◌, true, List, [], ◌∷◌, ◌++◌, map, length, Option, Some, None}
 use Rattle.std.specs.List.{All, filter, flat_map, list_any, sum_by}
 use Rattle.rept_steps.specs.declared.run.Run.{Run}
@@ -10,29 +11,30 @@ use Rattle.rept_path.specs.Code.{Code}
 use Rattle.rept_path.specs.Rows.{CarryCode}
 use Rattle.rept_slices.specs.Joins.{ThreadNote}
 use Rattle.rept_slices.specs.Order.{by_time}
-use Rattle.rept_weave.specs.declared.stretch.Stretch.{Stretch}
+use Rattle.rept_weave.specs.declared.stretch.HartStretch.{HartStretch}
 use Rattle.test_threads.specs.Woven.Told.{AreInTime}
 
 -- a stretch, and the number of the hart that ran it
 pub record Piece : Type 0 where
   pub hart : ℕ
-  pub stretch : Stretch
+  pub stretch : HartStretch
 
-abbrev pub on_hart : ℕ → Stretch → Piece
+abbrev pub on_hart : ℕ → HartStretch → Piece
 on_hart h s = record { hart = h; stretch = s }
 
 -- all stretches, hart by hart, from the hart of this number on
-abbrev pub pieces_from : ℕ → List (List Stretch) → List Piece
+abbrev pub pieces_from : ℕ → List (List HartStretch) → List Piece
 pieces_from h [] = []
 pieces_from h (hart ∷ harts) = map (on_hart h) hart ++ pieces_from (suc h) harts
 
-abbrev pub pieces : List (List Stretch) → List Piece
+abbrev pub pieces : List (List HartStretch) → List Piece
 pieces harts = pieces_from 0 harts
 
 abbrev pub begin_of : Piece → ℕ
 begin_of p = p.stretch.begin
 
--- A thread's stretches in order: by their begins; of one begin, that of the lower hart first, and as the hart ran them.
+-- A thread's stretches in order: by their begins; of one begin, that of the lower hart first, and
+-- as the hart ran them.
 abbrev pub of_thread : ℕ → List Piece → List Piece
 of_thread process ps = by_time begin_of (filter (λ p. p.stretch.process == process) ps)
 
@@ -48,24 +50,24 @@ slices_from first (p ∷ ps) = slice_of first p ∷ slices_from (first + length 
 abbrev pub thread_of : List Piece → ThreadRows
 thread_of ps = record { steps = flat_map (λ (p : Piece). p.stretch.steps) ps; slices = slices_from 0 ps }
 
-abbrev pub thread_in : List (List Stretch) → ThreadNote → ThreadRows
+abbrev pub thread_in : List (List HartStretch) → ThreadNote → ThreadRows
 thread_in harts note = thread_of (of_thread note.process (pieces harts))
 
 -- when the harts began that did something
-abbrev pub begins : List (List Stretch) → List ℕ
+abbrev pub begins : List (List HartStretch) → List ℕ
 begins [] = []
 begins ([] ∷ harts) = begins harts
 begins ((s ∷ hart) ∷ harts) = s.begin ∷ begins harts
 
 -- what happened before two harts or more began isn't told
-abbrev pub dark_of : List ℕ → Option ℕ
-dark_of [] = None
-dark_of (time ∷ []) = None
-dark_of (time ∷ (other ∷ times)) = Some time
+abbrev pub untraced_of : List ℕ → Option ℕ
+untraced_of [] = None
+untraced_of (time ∷ []) = None
+untraced_of (time ∷ (other ∷ times)) = Some time
 
 -- The run of the harts: the threads of the notes, in their order. No packet is skipped.
-abbrev pub run_of_harts : List (List Stretch) → List ThreadNote → Run
-run_of_harts harts notes = record { threads = map (thread_in harts) notes; dark = dark_of (begins harts); skipped = 0 }
+abbrev pub run_of_harts : List (List HartStretch) → List ThreadNote → Run
+run_of_harts harts notes = record { threads = map (thread_in harts) notes; untraced = untraced_of (begins harts); skipped = 0 }
 
 -- A thread's steps follow one another up to where it stopped, and so do its slices in time.
 pub record IsThreadJoined (t : ThreadRows) (pc : ℕ) : Type 0 where
@@ -82,7 +84,7 @@ abbrev pub AreApart : Piece → Piece → Type 0
 AreApart p q = p.stretch.process ≡ q.stretch.process → p.stretch.begin ≡ q.stretch.begin → p.hart ≡ q.hart
 
 -- What is asked of harts and the notes of threads, so that a trace tells all of the run.
-pub record AreOrdered (harts : List (List Stretch)) (notes : List ThreadNote) : Type 0 where
+pub record AreOrdered (harts : List (List HartStretch)) (notes : List ThreadNote) : Type 0 where
   -- The stretches of each hart follow one another in time.
   pub in_time : All (AreInTime 0) harts
   -- Some hart did something, and all that did began at one time.
@@ -98,5 +100,5 @@ pub record AreOrdered (harts : List (List Stretch)) (notes : List ThreadNote) : 
   pub few : sum_by (λ (n : ThreadNote). length (thread_in harts n).steps) notes ≤ 65536
 
 -- The code has the instructions of all stretches.
-abbrev pub HasStretches : Code → List (List Stretch) → Type 0
+abbrev pub HasStretches : Code → List (List HartStretch) → Type 0
 HasStretches code harts = All (λ (p : Piece). CarryCode code p.stretch.steps) (pieces harts)

@@ -11,7 +11,7 @@ use crate::play::rows_in;
 use crate::turns::Turn;
 use rept_isa::StepRow;
 use rept_steps::{PushFault, Steps, ThreadRows};
-use rept_weave::{Hart, Harts, Stretch};
+use rept_weave::{Hart, HartStretch, Harts};
 use std::alloc::{AllocError as OutOfMemory, Global};
 
 /// These rows as steps.
@@ -51,13 +51,14 @@ fn part(rows: &[StepRow], first: usize, count: usize) -> &[StepRow]
     &rest[..count]
 }
 
-/// A turn as a stretch. The first row of it has this number in its thread. Processes are counted from 1.
+/// A turn as a stretch. The first row of it has this number in its thread. Processes are counted
+/// from 1.
 fn stretch_of(
     alloc: Global,
     threads: &[ThreadRows],
     first: u32,
     turn: &Turn,
-) -> Result<Stretch, OutOfMemory>
+) -> Result<HartStretch, OutOfMemory>
     requires threads { length threads.now ≤ 4 }
     requires thread { turn.now.thread < length threads.now }
     requires rows { first + turn.now.count ≤ length (steps_in threads.now turn.now.thread) }
@@ -67,7 +68,7 @@ fn stretch_of(
     let rows = rows_of(threads, turn.thread);
     let own = part(rows, first as usize, turn.count as usize);
     let steps = steps_of(alloc, own)?;
-    Ok(Stretch {
+    Ok(HartStretch {
         process: turn.thread + 1,
         begin: turn.begin,
         end: turn.end,

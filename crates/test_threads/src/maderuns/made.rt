@@ -65,9 +65,11 @@ fn save(alloc: Global, seed: u32, sizes: Sizes, made: Made) -> Result<MadeRun, O
     })
 }
 
-/// The made run of a seed as files: an executable of the code of four threads, a core file with a register note for each of them and the data, and a trace of
-/// as many streams as were asked for, all of which begin at time 0. The files are read as that run, and there is an execution of it, from the start registers of the seed and a memory of
-/// zeros, that ends in the core file. An `Err` is a want of memory; a stream of 2^32 bytes or more is one too.
+/// The made run of a seed as files: an executable of the code of four threads, a core file with a
+/// register note for each of them and the data, and a trace of as many streams as were asked for,
+/// all of which begin at time 0. The files are read as that run, and there is an execution of it,
+/// from the start registers of the seed and a memory of zeros, that ends in the core file. An `Err`
+/// is a want of memory; a stream of 2^32 bytes or more is one too.
 pub fn make_run(alloc: Global, seed: u32, sizes: Sizes) -> Result<MadeRun, OutOfMemory>
     requires some { 1 ≤ sizes.threads }
     requires threads { sizes.threads ≤ 4 }

@@ -19,7 +19,8 @@ fn zero() -> Reg
     }
 }
 
-/// The word that the machine runs in the place of a thread's slot: that of its instruction, and for the jump one that does nothing.
+/// The word that the machine runs in the place of a thread's slot: that of its instruction, and for
+/// the jump one that does nothing.
 pub fn word_in(code: &[Instr], thread: u32, slot: u32) -> u32
     requires code { IsPlayCode code.now }
     requires thread { thread < 4 }

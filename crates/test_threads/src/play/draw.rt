@@ -19,7 +19,8 @@ pub fn draw(seed: u32, number: u32, below: u32) -> u32
     state / 0x1_0000 % below
 }
 
-/// What is drawn for one slot of a thread: which instruction it is, three of the thread's registers, and a number below 2,048.
+/// What is drawn for one slot of a thread: which instruction it is, three of the thread's
+/// registers, and a number below 2,048.
 #[derive(Clone, Copy)]
 pub struct Slot {
     pub kind: u32,

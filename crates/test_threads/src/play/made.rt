@@ -22,7 +22,8 @@ pub struct Made {
     pub played: Played,
 }
 
-/// The registers at the start: the number of getpid (172) in x17, 0x20000 in the first register of each thread, and drawn numbers in the others.
+/// The registers at the start: the number of getpid (172) in x17, 0x20000 in the first register of
+/// each thread, and drawn numbers in the others.
 fn start_registers(seed: u32) -> [u32; 32]
     ensures { result ≡ start_registers seed }
 {
@@ -36,8 +37,9 @@ fn start_registers(seed: u32) -> [u32; 32]
     ]
 }
 
-/// The made run of a seed: code and turns that are drawn from it, and their play. There is an execution of the run, which is sound. No turn of a stream overlaps
-/// another one of it, and all streams begin at time 0. An `Err` is a want of memory alone.
+/// The made run of a seed: code and turns that are drawn from it, and their play. There is an
+/// execution of the run, which is sound. No turn of a stream overlaps another one of it, and all
+/// streams begin at time 0. An `Err` is a want of memory alone.
 pub fn make_play(alloc: Global, seed: u32, sizes: Sizes) -> Result<Made, OutOfMemory>
     requires some { 1 ≤ sizes.threads }
     requires threads { sizes.threads ≤ 4 }

@@ -17,15 +17,17 @@ use std::alloc::{AllocError as OutOfMemory, Global};
 pub struct Played {
     /// What each of the four threads executed, and in which slices. All of it is told.
     pub run: Run,
-    /// The registers of the machine at the end. Thread t has x18 + 3t to x20 + 3t of them, all have x17, and a thread's others are 0.
+    /// The registers of the machine at the end. Thread t has x18 + 3t to x20 + 3t of them, all have
+    /// x17, and a thread's others are 0.
     pub registers: [u32; 32],
     /// The bytes from 0x20000 to 0x2001f at the end.
     pub bytes: Vec<u8>,
 }
 
-/// Plays turns of four threads on one machine that begins with these registers and a memory of zeros. Each thread has 15 instructions, those of thread t from
-/// number 15t on, at 0x10000 + 64t and after it, and then a jump back to the first. A call changes nothing of theirs. There is an execution of the run that ends in what is
-/// left. An `Err` is a want of memory alone.
+/// Plays turns of four threads on one machine that begins with these registers and a memory of
+/// zeros. Each thread has 15 instructions, those of thread t from number 15t on, at 0x10000 + 64t
+/// and after it, and then a jump back to the first. A call changes nothing of theirs. There is an
+/// execution of the run that ends in what is left. An `Err` is a want of memory alone.
 pub fn play(
     alloc: Global,
     code: &[Instr],
@@ -42,7 +44,7 @@ pub fn play(
     Ok(Played {
         run: Run {
             threads,
-            dark: None,
+            untraced: None,
             skipped: 0,
         },
         registers: registers_of(&machine),

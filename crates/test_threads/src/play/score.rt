@@ -68,7 +68,8 @@ fn to_call(place: u32) -> u32
     if place <= 7 { 8 - place } else { 24 - place }
 }
 
-/// The thread or the stream of the turn of this number: what is drawn, but for the first turn of each stream the stream's number.
+/// The thread or the stream of the turn of this number: what is drawn, but for the first turn of
+/// each stream the stream's number.
 fn own_or(sizes: Sizes, number: u32, drawn: u32) -> u32
     ensures { result ≡ (if nat_lt number sizes.streams then number else drawn) }
 {

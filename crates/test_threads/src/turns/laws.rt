@@ -7,13 +7,14 @@ ghost use Rattle.test_threads.specs.declared.turns.turn.Turn.{Turn};
 ghost use Rattle.test_threads.specs.Turns.Turns.{rows_in, HasTurns, AreSome, AreInOrder, AreTurnsApart, AreWider};
 ghost use Rattle.test_threads.specs.Turns.Play.{Playing, with_turns, IsPlay, IsPlayExecuted};
 
-/// A course whose slices are turns of which none overlaps another one of its thread is sound, if each call is the last row of its slice.
+/// A course whose slices are turns of which none overlaps another one of its thread is sound, if
+/// each call is the last row of its slice.
 pub fn turns_are_sound()
     ensures { (C : Course) (turns : List Turn) → HasTurns C turns → AreInOrder turns → AreTurnsApart turns → CallsEnd C → IsSoundCourse C }
 {}
 
-/// A play whose turns have rows and keep the order of time is an execution of its course, if each call is the last row of its slice.
-/// It begins in the play's first world and ends in its last one.
+/// A play whose turns have rows and keep the order of time is an execution of its course, if each
+/// call is the last row of its slice. It begins in the play's first world and ends in its last one.
 pub fn plays_are_executions()
     ensures { (C : Course) (D : Ending) (x : Playing) → HasTurns C x.turns → IsPlay C D x → AreSome x.turns → AreInOrder x.turns → CallsEnd C → IsPlayExecuted C D x }
 {}

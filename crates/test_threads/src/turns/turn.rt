@@ -1,7 +1,8 @@
 //! Turns in which threads run.
 
-/// Steps of one thread that one hart runs one after the other, and the times between which they happen. All times of a run are of one clock. In a list of turns
-/// each happens before the next one.
+/// Steps of one thread that one hart runs one after the other, and the times between which they
+/// happen. All times of a run are of one clock. In a list of turns each happens before the next
+/// one.
 #[derive(Clone, Copy)]
 pub struct Turn {
     /// The thread.

@@ -6,7 +6,7 @@ use Rattle.rept_runs.specs.Kind.{is_several}
 use Rattle.rept_opening.specs.Loading.{crash_bytes}
 use Rattle.rept_opening.specs.Reading.{HasNotes, HasNoDump, IsDumpOf}
 use Rattle.rept_opening.specs.Opened.{crash_trace}
-use Rattle.rept_opening.specs.declared.status.Status.TheVariants as ends
+use Rattle.rept_opening.specs.declared.status.ExitStatus.TheVariants as ends
 use Rattle.rept_opening.proofs.DeliveredLemmas.{delivers_as}
 use Rattle.rept_app.proofs.DeliveredLemmas.{ends_told, not_yielded, told_ports}
 use Rattle.rept_opening.proofs.ToldLemmas.{where_told, at_some}

@@ -6,7 +6,7 @@ use Rattle.rept_serve.specs.declared.serving.Served.TheVariants as served
 use Rattle.rept_opening.specs.Delivered.{Delivers}
 use Rattle.rept_app.specs.Held.{IsHeldSession}
 use Rattle.rept_opening.specs.declared.refusal.Refusal.TheVariants as refusal
-use Rattle.rept_opening.specs.declared.status.Status.TheVariants as ends
+use Rattle.rept_opening.specs.declared.status.ExitStatus.TheVariants as ends
 use Rattle.rept_opening.proofs.ToldLemmas.{over}
 use Rattle.rept_app.proofs.HeldLemmas.{reading_here, calm_out, calm_in, fault_out, ended, failed, cut_off, overran, ran_out, ended_causes, failed_causes, read_causes, other_causes}
 use Rattle.rept_app.proofs.hold.hold.Goals as goal

@@ -6,7 +6,7 @@ use Rattle.rept_found.specs.Crash.{path_of}
 use Rattle.rept_words.specs.declared.request.Domain.TheVariants as domain
 use Rattle.rept_opening.specs.Delivered.{Delivers}
 use Rattle.rept_opening.specs.Domains.{means_of}
-use Rattle.rept_opening.specs.declared.load.Manner.{Manner}
+use Rattle.rept_opening.specs.declared.load.OpenOptions.{OpenOptions}
 use Rattle.rept_app.specs.Ends.{EndsSession}
 use Rattle.rept_app.specs.Examine.{Examines, FilesEnd}
 use Rattle.rept_opening.specs.Loading.{crash_bytes}
@@ -18,7 +18,7 @@ use Rattle.rept_app.proofs.ToldLemmas.{reading_of}
 use Rattle.rept_app.proofs.made_run.answer_summary.Goals as goal
 
 -- from the first packet on, with values followed as ranges
-abbrev ranges_manner : Manner
+abbrev ranges_manner : OpenOptions
 ranges_manner = record { from = 0; domain = domain.Ranges }
 
 pub returns-clause-text : goal.returns-clause-text

@@ -9,7 +9,7 @@ use Rattle.rept_opening.specs.Loading.{core_bytes, parts_bytes}
 use Rattle.rept_opening.specs.Reading.{HasNotes}
 use Rattle.rept_opening.specs.Opened.{CrashTrace}
 use Rattle.rept_opening.specs.declared.refusal.Refusal.TheVariants as refusal
-use Rattle.rept_opening.specs.declared.status.Status.TheVariants as ends
+use Rattle.rept_opening.specs.declared.status.ExitStatus.TheVariants as ends
 use Rattle.rept_opening.proofs.DeliveredLemmas.{delivers_as}
 use Rattle.rept_app.proofs.DeliveredLemmas.{ends_told, not_yielded, told_ports}
 use Rattle.rept_opening.proofs.ToldLemmas.{where_told, at_some}

@@ -8,7 +8,7 @@ use Rattle.rept_opening.specs.Forms.{core_image_fault}
 use Rattle.rept_opening.specs.Listed.{AreLoaded, HasNoFiles}
 use Rattle.rept_opening.specs.Loading.{core_bytes, parts_bytes}
 use Rattle.rept_opening.specs.declared.listed.ListStop.TheVariants as stops
-use Rattle.rept_opening.specs.declared.status.Status.TheVariants as ends
+use Rattle.rept_opening.specs.declared.status.ExitStatus.TheVariants as ends
 use Rattle.rept_opening.proofs.MappedLemmas.{err_at}
 use Rattle.rept_app.proofs.MappedExits.{files_causes, files_impossible, files_lines, files_stay, loaded_all, memory_causes, memory_impossible, memory_written, name_causes, name_impossible, name_lines, refused_causes, refused_impossible, refused_lines}
 use Rattle.rept_app.proofs.ToldLemmas.{reading_of}
@@ -19,8 +19,8 @@ pub returns-in-Err-Refused-clause-text : goal.returns-in-Err-Refused-clause-text
 returns-in-Err-Refused-clause-text g c =
     let f = c.args.files.now in
     let b = core_bytes f.core.items f.trace.items f.manner in
-    let old = g.H.Shelf.port c.args.shelf.now in
-    let new = g.H.Shelf.port c.load_listed.new.shelf in
+    let old = g.H.FileStore.port c.args.file_store.now in
+    let new = g.H.FileStore.port c.load_listed.new.file_store in
     let source = g.S.Source.port c.args.input.now in
     let out = move (g.K.Sink.port c.args.out.now) (g.K.Sink.port c.tell.new.out) in
     let stopped = subst (λ (core : List ℕ). IfErr c.load_listed.result (HasNoFiles core (move old new))) c.as_slice.ensures.value c.load_listed.ensures.stopped in
@@ -31,8 +31,8 @@ pub returns-in-Err-Refused-clause-causes : goal.returns-in-Err-Refused-clause-ca
 returns-in-Err-Refused-clause-causes g c =
     let f = c.args.files.now in
     let b = core_bytes f.core.items f.trace.items f.manner in
-    let old = g.H.Shelf.port c.args.shelf.now in
-    let new = g.H.Shelf.port c.load_listed.new.shelf in
+    let old = g.H.FileStore.port c.args.file_store.now in
+    let new = g.H.FileStore.port c.load_listed.new.file_store in
     let source = g.S.Source.port c.args.input.now in
     let out = move (g.K.Sink.port c.args.out.now) (g.K.Sink.port c.tell.new.out) in
     let stopped = subst (λ (core : List ℕ). IfErr c.load_listed.result (HasNoFiles core (move old new))) c.as_slice.ensures.value c.load_listed.ensures.stopped in
@@ -43,8 +43,8 @@ pub returns-in-Err-Refused-clause-impossible : goal.returns-in-Err-Refused-claus
 returns-in-Err-Refused-clause-impossible g c e =
     let f = c.args.files.now in
     let b = core_bytes f.core.items f.trace.items f.manner in
-    let old = g.H.Shelf.port c.args.shelf.now in
-    let new = g.H.Shelf.port c.load_listed.new.shelf in
+    let old = g.H.FileStore.port c.args.file_store.now in
+    let new = g.H.FileStore.port c.load_listed.new.file_store in
     let source = g.S.Source.port c.args.input.now in
     let out = move (g.K.Sink.port c.args.out.now) (g.K.Sink.port c.tell.new.out) in
     let stopped = subst (λ (core : List ℕ). IfErr c.load_listed.result (HasNoFiles core (move old new))) c.as_slice.ensures.value c.load_listed.ensures.stopped in
@@ -56,8 +56,8 @@ pub returns-in-Err-LoadFault-clause-text : goal.returns-in-Err-LoadFault-clause-
 returns-in-Err-LoadFault-clause-text g c =
     let f = c.args.files.now in
     let b = core_bytes f.core.items f.trace.items f.manner in
-    let old = g.H.Shelf.port c.args.shelf.now in
-    let new = g.H.Shelf.port c.load_listed.new.shelf in
+    let old = g.H.FileStore.port c.args.file_store.now in
+    let new = g.H.FileStore.port c.load_listed.new.file_store in
     let source = g.S.Source.port c.args.input.now in
     let out = move (g.K.Sink.port c.args.out.now) (g.K.Sink.port c.tell_failed.new.out) in
     let stopped = subst (λ (core : List ℕ). IfErr c.load_listed.result (HasNoFiles core (move old new))) c.as_slice.ensures.value c.load_listed.ensures.stopped in
@@ -68,8 +68,8 @@ pub returns-in-Err-LoadFault-clause-causes : goal.returns-in-Err-LoadFault-claus
 returns-in-Err-LoadFault-clause-causes g c =
     let f = c.args.files.now in
     let b = core_bytes f.core.items f.trace.items f.manner in
-    let old = g.H.Shelf.port c.args.shelf.now in
-    let new = g.H.Shelf.port c.load_listed.new.shelf in
+    let old = g.H.FileStore.port c.args.file_store.now in
+    let new = g.H.FileStore.port c.load_listed.new.file_store in
     let source = g.S.Source.port c.args.input.now in
     let out = move (g.K.Sink.port c.args.out.now) (g.K.Sink.port c.tell_failed.new.out) in
     let stopped = subst (λ (core : List ℕ). IfErr c.load_listed.result (HasNoFiles core (move old new))) c.as_slice.ensures.value c.load_listed.ensures.stopped in
@@ -80,8 +80,8 @@ pub returns-in-Err-LoadFault-clause-impossible : goal.returns-in-Err-LoadFault-c
 returns-in-Err-LoadFault-clause-impossible g c e =
     let f = c.args.files.now in
     let b = core_bytes f.core.items f.trace.items f.manner in
-    let old = g.H.Shelf.port c.args.shelf.now in
-    let new = g.H.Shelf.port c.load_listed.new.shelf in
+    let old = g.H.FileStore.port c.args.file_store.now in
+    let new = g.H.FileStore.port c.load_listed.new.file_store in
     let source = g.S.Source.port c.args.input.now in
     let out = move (g.K.Sink.port c.args.out.now) (g.K.Sink.port c.tell_failed.new.out) in
     absurd (name_impossible b old new source out c.tell_failed.result c.in-Err-LoadFault.name.now c.tell_failed.ensures e)
@@ -91,8 +91,8 @@ pub returns-in-Err-clause-text : goal.returns-in-Err-clause-text
 returns-in-Err-clause-text g c =
     let f = c.args.files.now in
     let b = core_bytes f.core.items f.trace.items f.manner in
-    let old = g.H.Shelf.port c.args.shelf.now in
-    let new = g.H.Shelf.port c.load_listed.new.shelf in
+    let old = g.H.FileStore.port c.args.file_store.now in
+    let new = g.H.FileStore.port c.load_listed.new.file_store in
     let source = g.S.Source.port c.args.input.now in
     let out = move (g.K.Sink.port c.args.out.now) (g.K.Sink.port c.tell_no_memory.new.out) in
     memory_written b old new source out c.tell_no_memory.result c.tell_no_memory.ensures source.bytes
@@ -101,8 +101,8 @@ pub returns-in-Err-clause-causes : goal.returns-in-Err-clause-causes
 returns-in-Err-clause-causes g c =
     let f = c.args.files.now in
     let b = core_bytes f.core.items f.trace.items f.manner in
-    let old = g.H.Shelf.port c.args.shelf.now in
-    let new = g.H.Shelf.port c.load_listed.new.shelf in
+    let old = g.H.FileStore.port c.args.file_store.now in
+    let new = g.H.FileStore.port c.load_listed.new.file_store in
     let source = g.S.Source.port c.args.input.now in
     let out = move (g.K.Sink.port c.args.out.now) (g.K.Sink.port c.tell_no_memory.new.out) in
     let loaded = subst (λ (core : List ℕ). AreLoaded core (move old new) c.in-Ok.listed) c.as_slice.ensures.value c.in-Ok.ensures.loaded in
@@ -112,8 +112,8 @@ pub returns-in-Err-clause-impossible : goal.returns-in-Err-clause-impossible
 returns-in-Err-clause-impossible g c e =
     let f = c.args.files.now in
     let b = core_bytes f.core.items f.trace.items f.manner in
-    let old = g.H.Shelf.port c.args.shelf.now in
-    let new = g.H.Shelf.port c.load_listed.new.shelf in
+    let old = g.H.FileStore.port c.args.file_store.now in
+    let new = g.H.FileStore.port c.load_listed.new.file_store in
     let source = g.S.Source.port c.args.input.now in
     let out = move (g.K.Sink.port c.args.out.now) (g.K.Sink.port c.tell_no_memory.new.out) in
     absurd (memory_impossible b old new source out c.tell_no_memory.result c.tell_no_memory.ensures e)
@@ -128,8 +128,8 @@ returns-clause-text g c =
     let b = core_bytes f.core.items f.trace.items f.manner in
     let l = c.in-Ok.listed in
     let ms = mappings (desc_of l.maps) c.in-Ok-images_in.images in
-    let old = g.H.Shelf.port c.args.shelf.now in
-    let new = g.H.Shelf.port c.load_listed.new.shelf in
+    let old = g.H.FileStore.port c.args.file_store.now in
+    let new = g.H.FileStore.port c.load_listed.new.file_store in
     let source = move (g.S.Source.port c.args.input.now) (g.S.Source.port c.examine_images.new.input) in
     let out = move (g.K.Sink.port c.args.out.now) (g.K.Sink.port c.examine_images.new.out) in
     let loaded = subst (λ (core : List ℕ). AreLoaded core (move old new) l) c.as_slice.ensures.value c.in-Ok.ensures.loaded in
@@ -142,8 +142,8 @@ returns-clause-causes g c =
     let b = core_bytes f.core.items f.trace.items f.manner in
     let l = c.in-Ok.listed in
     let ms = mappings (desc_of l.maps) c.in-Ok-images_in.images in
-    let old = g.H.Shelf.port c.args.shelf.now in
-    let new = g.H.Shelf.port c.load_listed.new.shelf in
+    let old = g.H.FileStore.port c.args.file_store.now in
+    let new = g.H.FileStore.port c.load_listed.new.file_store in
     let source = move (g.S.Source.port c.args.input.now) (g.S.Source.port c.examine_images.new.input) in
     let out = move (g.K.Sink.port c.args.out.now) (g.K.Sink.port c.examine_images.new.out) in
     let loaded = subst (λ (core : List ℕ). AreLoaded core (move old new) l) c.as_slice.ensures.value c.in-Ok.ensures.loaded in
@@ -157,8 +157,8 @@ returns-clause-stays g c =
     let b = core_bytes f.core.items f.trace.items f.manner in
     let l = c.in-Ok.listed in
     let ms = mappings (desc_of l.maps) c.in-Ok-images_in.images in
-    let old = g.H.Shelf.port c.args.shelf.now in
-    let new = g.H.Shelf.port c.load_listed.new.shelf in
+    let old = g.H.FileStore.port c.args.file_store.now in
+    let new = g.H.FileStore.port c.load_listed.new.file_store in
     let source = move (g.S.Source.port c.args.input.now) (g.S.Source.port c.examine_images.new.input) in
     let out = move (g.K.Sink.port c.args.out.now) (g.K.Sink.port c.examine_images.new.out) in
     let loaded = subst (λ (core : List ℕ). AreLoaded core (move old new) l) c.as_slice.ensures.value c.in-Ok.ensures.loaded in
@@ -171,8 +171,8 @@ returns-clause-impossible g c e =
     let b = core_bytes f.core.items f.trace.items f.manner in
     let l = c.in-Ok.listed in
     let ms = mappings (desc_of l.maps) c.in-Ok-images_in.images in
-    let old = g.H.Shelf.port c.args.shelf.now in
-    let new = g.H.Shelf.port c.load_listed.new.shelf in
+    let old = g.H.FileStore.port c.args.file_store.now in
+    let new = g.H.FileStore.port c.load_listed.new.file_store in
     let source = move (g.S.Source.port c.args.input.now) (g.S.Source.port c.examine_images.new.input) in
     let out = move (g.K.Sink.port c.args.out.now) (g.K.Sink.port c.examine_images.new.out) in
     let loaded = subst (λ (core : List ℕ). AreLoaded core (move old new) l) c.as_slice.ensures.value c.in-Ok.ensures.loaded in

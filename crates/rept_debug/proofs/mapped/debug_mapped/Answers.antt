@@ -10,7 +10,7 @@ use Rattle.rept_opening.specs.declared.listed.ListStop.TheVariants as stops
 use Rattle.rept_opening.specs.declared.refusal.Refusal.TheVariants as refusal
 use Rattle.rept_opening.proofs.MappedLemmas.{err_at}
 use Rattle.rept_debug.specs.Debugged.{IsHeld, IsRefusedCrash, IsUnheld, streams}
-use Rattle.rept_debug.specs.declared.no_talk.NoTalk.TheVariants as no_talk
+use Rattle.rept_debug.specs.declared.no_talk.GdbError.TheVariants as no_talk
 use Rattle.rept_debug.proofs.ListedLemmas.{held_listed, name_unheld, refused_unheld, unheld_listed, where_any}
 use Rattle.rept_debug.proofs.mapped.debug_mapped.Goals as goal
 
@@ -19,8 +19,8 @@ pub returns-in-Err-Refused-clause-unheld : goal.returns-in-Err-Refused-clause-un
 returns-in-Err-Refused-clause-unheld g c =
     let f = c.args.files.now in
     let b = core_bytes f.core.items f.trace.items f.manner in
-    let old = g.H.Shelf.port c.args.shelf.now in
-    let new = g.H.Shelf.port c.load_listed.new.shelf in
+    let old = g.H.FileStore.port c.args.file_store.now in
+    let new = g.H.FileStore.port c.load_listed.new.file_store in
     let r = c.in-Err-Refused.refusal in
     let stopped = subst (λ (core : List ℕ). IfErr c.load_listed.result (HasNoFiles core (move old new))) c.as_slice.ensures.value c.load_listed.ensures.stopped in
     let why = err_at c.load_listed.result c.in-Err-Refused.field-0 (stops.Refused r) (HasNoFiles b.core (move old new)) c.in-Err-Refused.is c.in-Err-Refused.field-0-is stopped in
@@ -31,8 +31,8 @@ pub returns-in-Err-LoadFault-clause-unheld : goal.returns-in-Err-LoadFault-claus
 returns-in-Err-LoadFault-clause-unheld g c =
     let f = c.args.files.now in
     let b = core_bytes f.core.items f.trace.items f.manner in
-    let old = g.H.Shelf.port c.args.shelf.now in
-    let new = g.H.Shelf.port c.load_listed.new.shelf in
+    let old = g.H.FileStore.port c.args.file_store.now in
+    let new = g.H.FileStore.port c.load_listed.new.file_store in
     let name = c.in-Err-LoadFault.name in
     let stopped = subst (λ (core : List ℕ). IfErr c.load_listed.result (HasNoFiles core (move old new))) c.as_slice.ensures.value c.load_listed.ensures.stopped in
     let stop = err_at c.load_listed.result c.in-Err-LoadFault.field-0 (stops.LoadFault name) (HasNoFiles b.core (move old new)) c.in-Err-LoadFault.is c.in-Err-LoadFault.field-0-is stopped in
@@ -43,8 +43,8 @@ pub returns-in-Err-clause-unheld : goal.returns-in-Err-clause-unheld
 returns-in-Err-clause-unheld g c =
     let f = c.args.files.now in
     let b = core_bytes f.core.items f.trace.items f.manner in
-    let old = g.H.Shelf.port c.args.shelf.now in
-    let new = g.H.Shelf.port c.load_listed.new.shelf in
+    let old = g.H.FileStore.port c.args.file_store.now in
+    let new = g.H.FileStore.port c.load_listed.new.file_store in
     where_any old.files (λ told. IsUnheld (mapped_crash told b) (move old.loads new.loads) (no_talk.Refused refusal.OutOfMemory)) (λ told. inr refl)
 
 -- the files are read
@@ -57,8 +57,8 @@ returns-in-Ok-debug_images-clause-held g c =
     let b = core_bytes f.core.items f.trace.items f.manner in
     let l = c.in-Ok.listed in
     let ms = mappings (desc_of l.maps) c.in-Ok-images_in.images in
-    let old = g.H.Shelf.port c.args.shelf.now in
-    let new = g.H.Shelf.port c.load_listed.new.shelf in
+    let old = g.H.FileStore.port c.args.file_store.now in
+    let new = g.H.FileStore.port c.load_listed.new.file_store in
     let loaded = subst (λ (core : List ℕ). AreLoaded core (move old new) l) c.as_slice.ensures.value c.in-Ok.ensures.loaded in
     let io = streams (move (g.S.Source.port c.args.input.now) (g.S.Source.port c.debug_images.new.input)) (move (g.K.Sink.port c.args.out.now) (g.K.Sink.port c.debug_images.new.out)) (move (g.E.Sink.port c.args.errors.now) (g.E.Sink.port c.debug_images.new.errors)) in
     held_listed old.files ms b (desc_of l.maps) loaded.accepted loaded.listed (c.in-Ok-images_in.ensures.mapped b.core (move old new) loaded) io c.in-Ok-debug_images.talk
@@ -70,8 +70,8 @@ returns-clause-unheld g c =
     let b = core_bytes f.core.items f.trace.items f.manner in
     let l = c.in-Ok.listed in
     let ms = mappings (desc_of l.maps) c.in-Ok-images_in.images in
-    let old = g.H.Shelf.port c.args.shelf.now in
-    let new = g.H.Shelf.port c.load_listed.new.shelf in
+    let old = g.H.FileStore.port c.args.file_store.now in
+    let new = g.H.FileStore.port c.load_listed.new.file_store in
     let loaded = subst (λ (core : List ℕ). AreLoaded core (move old new) l) c.as_slice.ensures.value c.in-Ok.ensures.loaded in
     let r = c.in-Err-debug_images.refusal in
     unheld_listed old.files ms b (desc_of l.maps) loaded.accepted loaded.listed (c.in-Ok-images_in.ensures.mapped b.core (move old new) loaded) (move old.loads new.loads) r

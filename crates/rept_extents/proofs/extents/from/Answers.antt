@@ -2,7 +2,7 @@ use Rattle.std.proofs.Common.{◌<◌, suc, arith}
 use Rattle.rept_order.specs.Ordered.{course_in}
 use Rattle.rept_moments.specs.Points.{points_in}
 use Rattle.rept_moments.proofs.Places.{leg_below}
-use Rattle.rept_extents.proofs.Falling.{ahead_all}
+use Rattle.rept_extents.proofs.Acting.{ahead_all}
 use Rattle.rept_extents.proofs.extents.from.Goals as goal
 
 pub place-thread-requires : goal.place-thread-requires

@@ -3,7 +3,7 @@ use Rattle.rept_steps.specs.Course.{Course, IsSoundCourse}
 use Rattle.rept_order.specs.Ordered.{course_in}
 use Rattle.rept_moments.specs.Points.{points_in}
 use Rattle.rept_moments.proofs.Places.{leg_below}
-use Rattle.rept_extents.proofs.Falling.{past_all}
+use Rattle.rept_extents.proofs.Acting.{past_all}
 use Rattle.rept_extents.proofs.extents.to.Goals as goal
 
 pub place-thread-requires : goal.place-thread-requires

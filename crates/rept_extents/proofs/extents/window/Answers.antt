@@ -1,6 +1,6 @@
 use Rattle.std.proofs.Common.{sym, subst}
 use Rattle.rept_steps.specs.Course.{Course, IsSoundCourse}
-use Rattle.rept_extents.proofs.Falling.{extent_is}
+use Rattle.rept_extents.proofs.Acting.{extent_is}
 use Rattle.rept_extents.proofs.extents.window.Goals as goal
 
 pub returns-then-stores : goal.returns-then-stores

@@ -3,7 +3,7 @@ use Rattle.std.proofs.lemmas.Result.{IfErr-weaker}
 use Rattle.rept_path.specs.Code.{Code}
 use Rattle.rept_simlog.specs.Lines.{last_entries}
 use Rattle.rept_simlog.specs.Program.{program_of, built}
-use Rattle.rept_hartlog.specs.declared.log.Entry.{Entry}
+use Rattle.rept_hartlog.specs.declared.log.HartLogLine.{HartLogLine}
 use Rattle.rept_hartlog.specs.Log.{AreLines}
 use Rattle.rept_hartlog.specs.Recorded.{IsNotRecorded}
 use Rattle.rept_hartlog.proofs.Lines.{last_lines}
@@ -15,11 +15,11 @@ returns-in-Err-clause-err c = c.refusal_of.ensures c.args.exe.now c.args.log.now
 
 pub record_entries-requires-clause-lines : goal.record_entries-requires-clause-lines
 record_entries-requires-clause-lines c =
-    let last : c.last_entries.result.now ≡ last_entries c.in-Ok.log.entries.items = c.last_entries.ensures.last ∙ ap (last_entries {E = Entry}) c.as_slice.ensures.value in
+    let last : c.last_entries.result.now ≡ last_entries c.in-Ok.log.entries.items = c.last_entries.ensures.last ∙ ap (last_entries {E = HartLogLine}) c.as_slice.ensures.value in
     subst AreLines (sym last) (last_lines c.args.log.now c.in-Ok.log.entries.items c.requires c.in-Ok.ensures.entries)
 
 pub returns-clause-err : goal.returns-clause-err
 returns-clause-err c =
     let code : program_of c.in-Ok.log.program ≡ built c.args.exe.now = c.in-Ok.ensures.code in
-    let last : c.last_entries.result.now ≡ last_entries c.in-Ok.log.entries.items = c.last_entries.ensures.last ∙ ap (last_entries {E = Entry}) c.as_slice.ensures.value in
-    IfErr-weaker c.record_entries.result _ _ (λ refusal h. stopped c.args.exe.now c.args.log.now c.in-Ok.log.entries.items refusal c.in-Ok.ensures.entries (subst (λ (es : List Entry). IsNotRecorded (built c.args.exe.now) es refusal) last (subst (λ (code : Code). IsNotRecorded code c.last_entries.result.now refusal) code h))) c.record_entries.ensures.err
+    let last : c.last_entries.result.now ≡ last_entries c.in-Ok.log.entries.items = c.last_entries.ensures.last ∙ ap (last_entries {E = HartLogLine}) c.as_slice.ensures.value in
+    IfErr-weaker c.record_entries.result _ _ (λ refusal h. stopped c.args.exe.now c.args.log.now c.in-Ok.log.entries.items refusal c.in-Ok.ensures.entries (subst (λ (es : List HartLogLine). IsNotRecorded (built c.args.exe.now) es refusal) last (subst (λ (code : Code). IsNotRecorded code c.last_entries.result.now refusal) code h))) c.record_entries.ensures.err

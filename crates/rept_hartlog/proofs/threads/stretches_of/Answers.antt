@@ -2,10 +2,10 @@ use Rattle.std.proofs.Common.{◌+◌, ◌<◌, ◌^◌, ◌≤◌, List, length
 use Rattle.std.specs.List.{All}
 use Rattle.std.proofs.lemmas.Option.{slice_get-get_or}
 use Rattle.std.proofs.lemmas.List.Elements.{All-push}
-use Rattle.rept_weave.specs.declared.stretch.Stretch.{Stretch}
+use Rattle.rept_weave.specs.declared.stretch.HartStretch.{HartStretch}
 use Rattle.rept_encode.specs.Walkable.{IsWalkable}
 use Rattle.rept_simlog.specs.Program.{program_of}
-use Rattle.rept_hartlog.specs.declared.log.Entry.{Entry}
+use Rattle.rept_hartlog.specs.declared.log.HartLogLine.{HartLogLine}
 use Rattle.rept_hartlog.proofs.Lines.{rest_whole, are_lines_rest}
 use Rattle.rept_hartlog.proofs.Pieces.{no_entry, Progress, progress_skip, progress_push, few_left, short_piece, fault_on}
 use Rattle.rept_hartlog.proofs.threads.stretches_of.Goals as goal
@@ -21,7 +21,7 @@ loop-rest-preserved-then-len-eq0 c =
     let size = c.len.ensures.value in
     let none = c.if-len-eq0.true in
     record {
-      progress = subst (λ (es : List Entry). Progress (program_of c.args.program.now) c.args.entries.now es c.loop-rest.stretches) (sym (rest_whole c.loop-rest.rest.now c.in-Ok.piece.1)) (progress_skip (program_of c.args.program.now) c.args.entries.now c.loop-rest.rest.now c.loop-rest.stretches c.in-Ok.piece.0 c.in-Ok.piece.1 i.progress piece (omega arith));
+      progress = subst (λ (es : List HartLogLine). Progress (program_of c.args.program.now) c.args.entries.now es c.loop-rest.stretches) (sym (rest_whole c.loop-rest.rest.now c.in-Ok.piece.1)) (progress_skip (program_of c.args.program.now) c.args.entries.now c.loop-rest.rest.now c.loop-rest.stretches c.in-Ok.piece.0 c.in-Ok.piece.1 i.progress piece (omega arith));
       lines = are_lines_rest c.loop-rest.rest.now c.in-Ok.piece.1 within i.lines;
       few = few_left c.loop-rest.rest.now c.in-Ok.piece.1 i.few;
       walkable = i.walkable;
@@ -44,9 +44,9 @@ loop-rest-preserved c =
     let short : c.stretch_of.result.begin + length c.stretch_of.result.steps ≤ 2 ^ 32 = short_piece (program_of c.args.program.now) c.loop-rest.rest.now c.in-Ok.piece.0 c.in-Ok.piece.1 (get_or c.loop-rest.rest.now 0 no_entry) c.stretch_of.result piece i.lines begins told.steps told.begin in
     let walkable : IsWalkable c.args.program.now.halves c.stretch_of.result.steps = subst (IsWalkable c.args.program.now.halves) (sym told.steps) (record { some = some; steps = c.in-Ok.ensures.steps }) in
     record {
-      progress = subst (λ (es : List Entry). Progress (program_of c.args.program.now) c.args.entries.now es c.push.new.self) (sym (rest_whole c.loop-rest.rest.now c.in-Ok.piece.1)) (subst (Progress (program_of c.args.program.now) c.args.entries.now _) (sym pushed) more);
+      progress = subst (λ (es : List HartLogLine). Progress (program_of c.args.program.now) c.args.entries.now es c.push.new.self) (sym (rest_whole c.loop-rest.rest.now c.in-Ok.piece.1)) (subst (Progress (program_of c.args.program.now) c.args.entries.now _) (sym pushed) more);
       lines = are_lines_rest c.loop-rest.rest.now c.in-Ok.piece.1 within i.lines;
       few = few_left c.loop-rest.rest.now c.in-Ok.piece.1 i.few;
-      walkable = subst (λ (ss : List Stretch). All (λ (s : Stretch). IsWalkable c.args.program.now.halves s.steps) ss) (sym pushed) (All-push (λ (s : Stretch). IsWalkable c.args.program.now.halves s.steps) c.loop-rest.stretches c.stretch_of.result i.walkable walkable);
-      short = subst (λ (ss : List Stretch). All (λ (s : Stretch). s.begin + length s.steps ≤ 2 ^ 32) ss) (sym pushed) (All-push (λ (s : Stretch). s.begin + length s.steps ≤ 2 ^ 32) c.loop-rest.stretches c.stretch_of.result i.short short);
+      walkable = subst (λ (ss : List HartStretch). All (λ (s : HartStretch). IsWalkable c.args.program.now.halves s.steps) ss) (sym pushed) (All-push (λ (s : HartStretch). IsWalkable c.args.program.now.halves s.steps) c.loop-rest.stretches c.stretch_of.result i.walkable walkable);
+      short = subst (λ (ss : List HartStretch). All (λ (s : HartStretch). s.begin + length s.steps ≤ 2 ^ 32) ss) (sym pushed) (All-push (λ (s : HartStretch). s.begin + length s.steps ≤ 2 ^ 32) c.loop-rest.stretches c.stretch_of.result i.short short);
     }

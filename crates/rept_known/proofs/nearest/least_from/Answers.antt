@@ -1,4 +1,5 @@
--- The upper open bits of the bound, or the next ones, with the known bits below: each is the least word where it is answered.
+-- The upper open bits of the bound, or the next ones, with the known bits below: each is the least
+-- word where it is answered.
 use Rattle.std.proofs.Common.{arith}
 use Rattle.rept_known.specs.Least.{least_is, no_least}
 use Rattle.rept_known.proofs.NextWord.{least_low, least_none_left, least_high}

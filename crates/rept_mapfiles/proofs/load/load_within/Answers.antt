@@ -11,9 +11,9 @@ returns-in-Err-OutOfMemory-clause-failed g c = (suc c.loop-place.place, omega (a
 
 pub loop-place-preserved : goal.loop-place-preserved
 loop-place-preserved g c =
-    let old = g.H.Shelf.port c.args.shelf.now in
-    let mid = g.H.Shelf.port c.loop-place.shelf in
-    let new = g.H.Shelf.port c.load_next.new.shelf in
+    let old = g.H.FileStore.port c.args.file_store.now in
+    let mid = g.H.FileStore.port c.loop-place.file_store in
+    let new = g.H.FileStore.port c.load_next.new.file_store in
     let names = map (λ n. n.now) c.args.names.now in
     let k = c.in-Ok.ensures.kept in
     let at = drop_get (λ n. n.now) c.args.names.now c.loop-place.place c.in-Some.name.now (sym (slice_get_read c.args.names.now (length c.args.names.now) c.loop-place.place c.in-Some.name.now refl c.in-Some.ensures.lookup.3.0 c.in-Some.ensures.lookup.1)) in (

@@ -5,7 +5,7 @@ use Rattle.rept_elf.specs.Image.{file_of}
 use Rattle.rept_elf.specs.Symbols.{symbol_at, symbol_of}
 use Rattle.rept_mapped.specs.Naming.{own_of}
 use Rattle.rept_mapped.specs.Views.{asked_of}
-use Rattle.rept_mapped.specs.declared.naming.Sought.{Sought}
+use Rattle.rept_mapped.specs.declared.naming.FunctionSearch.{FunctionSearch}
 use Rattle.rept_mapped.proofs.NamingLemmas.{as_many, one_asked}
 use Rattle.rept_mapped.proofs.naming.ask.Goals as goal
 
@@ -20,6 +20,6 @@ loop-i-preserved c =
     let long = as_many file asked named are in
     let within : i < length named = omega (arith, long, c.loop-i-test.true) in
     let there : slice_get named i ≡ Some c.index.result.now = slice_get_read named (length named) i c.index.result.now refl within c.index.ensures in
-    let d : Sought = record { home = None; found = None } in
+    let d : FunctionSearch = record { home = None; found = None } in
     let at : slice_get asked i ≡ Some (get_or asked i d) = slice_get-get_or asked i d c.loop-i-test.true in
     ap (map asked_of) c.in_ok-push.ensures.items ∙ one_asked file c.args.mapping i asked c.loop-i.more.items named (get_or asked i d) c.or_named.result c.index.result.now are at there c.or_named.ensures c.loop-i.invariant

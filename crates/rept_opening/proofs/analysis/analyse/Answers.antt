@@ -1,7 +1,7 @@
 use Rattle.std.proofs.Common.{◌≡◌, Err, inl, inr, refl, ap, subst, sym, ◌∙◌}
 use Rattle.rept_amo.specs.Atomic.{atomic_rules}
 use Rattle.rept_moments.specs.Courses.{IsCourseOf}
-use Rattle.rept_moments.specs.declared.course.Course as courses
+use Rattle.rept_moments.specs.declared.course.NumberedRun as courses
 use Rattle.rept_steps.specs.Runs.{course_of}
 use Rattle.rept_found.specs.Contradictions.{contradiction_on}
 use Rattle.rept_found.specs.Crash.{means}

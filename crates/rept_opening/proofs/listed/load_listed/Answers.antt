@@ -13,7 +13,7 @@ pub returns-in-Err-clause-stopped : goal.returns-in-Err-clause-stopped
 returns-in-Err-clause-stopped g c = inl (inl (c.in-Err.fault, sym c.in-Err.ensures.fault, refl), refl)
 
 pub returns-in-Err-clause-once : goal.returns-in-Err-clause-once
-returns-in-Err-clause-once g c = same_count (g.H.Shelf.port c.args.shelf.now).files (g.H.Shelf.port c.args.shelf.now).faults
+returns-in-Err-clause-once g c = same_count (g.H.FileStore.port c.args.file_store.now).files (g.H.FileStore.port c.args.file_store.now).faults
 
 -- its list is refused
 pub returns-in-Err-read-clause-stopped : goal.returns-in-Err-read-clause-stopped
@@ -23,7 +23,7 @@ returns-in-Err-read-clause-stopped g c =
     inl (inr (fault, sym c.in-Ok.ensures.fault, list_at (file_of c.in-Ok.image) c.args.core.now (Err fault) is c.in-Err-read.ensures.said, list_only_at (file_of c.in-Ok.image) c.args.core.now (Err fault) is c.in-Err-read.ensures.only, refl), refl)
 
 pub returns-in-Err-read-clause-once : goal.returns-in-Err-read-clause-once
-returns-in-Err-read-clause-once g c = same_count (g.H.Shelf.port c.args.shelf.now).files (g.H.Shelf.port c.args.shelf.now).faults
+returns-in-Err-read-clause-once g c = same_count (g.H.FileStore.port c.args.file_store.now).files (g.H.FileStore.port c.args.file_store.now).faults
 
 -- no memory for the names
 pub returns-in-Err-asked_names-clause-stopped : goal.returns-in-Err-asked_names-clause-stopped
@@ -32,13 +32,13 @@ returns-in-Err-asked_names-clause-stopped g c =
     inr (refl, record { desc = desc; listed = list_at (file_of c.in-Ok.image) c.args.core.now (Ok desc) c.in-Ok.ensures.image c.in-Ok-read.ensures.said; count = 0; within = omega arith; loads = refl })
 
 pub returns-in-Err-asked_names-clause-once : goal.returns-in-Err-asked_names-clause-once
-returns-in-Err-asked_names-clause-once g c = same_count (g.H.Shelf.port c.args.shelf.now).files (g.H.Shelf.port c.args.shelf.now).faults
+returns-in-Err-asked_names-clause-once g c = same_count (g.H.FileStore.port c.args.file_store.now).files (g.H.FileStore.port c.args.file_store.now).faults
 
 -- no memory for a file
 pub returns-in-Err-OutOfMemory-clause-stopped : goal.returns-in-Err-OutOfMemory-clause-stopped
 returns-in-Err-OutOfMemory-clause-stopped g c =
-    let old = g.H.Shelf.port c.args.shelf.now in
-    let new = g.H.Shelf.port c.load_names.new.shelf in
+    let old = g.H.FileStore.port c.args.file_store.now in
+    let new = g.H.FileStore.port c.load_names.new.file_store in
     let desc = desc_of c.in-Ok-read.maps in
     let count = count_is (λ n. n.now) c.in-Ok-asked_names.names.items (asked_names desc) c.in-Ok-asked_names.ensures in
     let stop = err_at c.load_names.result c.in-Err-OutOfMemory.field-0 stops.OutOfMemory (λ w. StopsAtFile (length c.as_slice.result.now) w (move old new)) c.in-Err-OutOfMemory.is c.in-Err-OutOfMemory.field-0-is c.load_names.ensures.failed in
@@ -56,15 +56,15 @@ returns-in-Err-OutOfMemory-clause-stopped g c =
 -- the load of a name failed
 pub index-requires : goal.index-requires
 index-requires g c =
-    let old = g.H.Shelf.port c.args.shelf.now in
-    let new = g.H.Shelf.port c.load_names.new.shelf in
+    let old = g.H.FileStore.port c.args.file_store.now in
+    let new = g.H.FileStore.port c.load_names.new.file_store in
     let stop = err_at c.load_names.result c.in-Err-Failed.field-0 (stops.Failed c.in-Err-Failed.place) (λ w. StopsAtFile (length c.as_slice.result.now) w (move old new)) c.in-Err-Failed.is c.in-Err-Failed.field-0-is c.load_names.ensures.failed in
     omega (arith, stop.0, ap length c.as_slice.ensures.value)
 
 pub returns-in-Err-Failed-clause-stopped : goal.returns-in-Err-Failed-clause-stopped
 returns-in-Err-Failed-clause-stopped g c =
-    let old = g.H.Shelf.port c.args.shelf.now in
-    let new = g.H.Shelf.port c.load_names.new.shelf in
+    let old = g.H.FileStore.port c.args.file_store.now in
+    let new = g.H.FileStore.port c.load_names.new.file_store in
     let desc = desc_of c.in-Ok-read.maps in
     let place = c.in-Err-Failed.place in
     let names = c.in-Ok-asked_names.names in
@@ -85,7 +85,7 @@ returns-in-Err-Failed-clause-stopped g c =
 -- all were loaded
 pub returns-clause-loaded : goal.returns-clause-loaded
 returns-clause-loaded g c =
-    let old = g.H.Shelf.port c.args.shelf.now in
+    let old = g.H.FileStore.port c.args.file_store.now in
     let desc = desc_of c.in-Ok-read.maps in
     let names = c.in-Ok-asked_names.names in
     let kept = c.in-Ok-load_names.kept in

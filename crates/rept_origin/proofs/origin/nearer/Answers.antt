@@ -1,6 +1,6 @@
 use Rattle.std.proofs.Common.{◌≡◌, true, Option, None, Some, ℕ, subst, sym, ◌∙◌}
-use Rattle.rept_origin.specs.declared.step.Way.{Way}
-use Rattle.rept_origin.specs.declared.step.Way.TheVariants.{Onward, Back}
+use Rattle.rept_origin.specs.declared.step.Direction.{Direction}
+use Rattle.rept_origin.specs.declared.step.Direction.TheVariants.{Onward, Back}
 use Rattle.rept_origin.specs.Bridges.{links_over, carries_by, IsNearerAmong}
 use Rattle.rept_origin.proofs.Links.{step_is_beside, one_onward}
 use Rattle.rept_origin.proofs.origin.nearer.Goals as goal

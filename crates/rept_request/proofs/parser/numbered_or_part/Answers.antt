@@ -2,7 +2,7 @@ use Rattle.std.proofs.Common.{◌≡◌, true, ap, sym, ◌∙◌}
 use Rattle.std.proofs.lemmas.List.{take_rest}
 use Rattle.rept_request.specs.Numbers.{pair_of}
 use Rattle.rept_request.specs.Requests.{is_part, with_pair}
-use Rattle.rept_request.specs.declared.request.Request.TheVariants as request
+use Rattle.rept_request.specs.declared.request.GdbRequest.TheVariants as request
 use Rattle.rept_request.proofs.parser.numbered_or_part.Goals as goal
 
 pub returns-then-is_part : goal.returns-then-is_part

@@ -1,7 +1,7 @@
 use Rattle.std.proofs.Common.{ap, sym, ◌∙◌}
 use Rattle.std.specs.Prelude.{Some}
 use Rattle.rept_request.specs.Requests.{request_at}
-use Rattle.rept_request.specs.declared.request.Request.TheVariants as request
+use Rattle.rept_request.specs.declared.request.GdbRequest.TheVariants as request
 use Rattle.rept_request.proofs.parser.spot_set.Goals as goal
 
 pub returns-in-Some-Code : goal.returns-in-Some-Code

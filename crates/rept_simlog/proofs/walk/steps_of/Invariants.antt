@@ -3,7 +3,7 @@ use Rattle.std.specs.List.{All}
 use Rattle.rept_simlog.specs.Program.{program_of}
 use Rattle.rept_steps.specs.Linked.{EndBefore}
 use Rattle.rept_encode.specs.Walkable.{IsStepped}
-use Rattle.rept_simlog.specs.declared.entry.Entry.{Entry}
+use Rattle.rept_simlog.specs.declared.entry.LogLine.{LogLine}
 use Rattle.rept_simlog.specs.Walk.{Along, MayGo}
 use Rattle.rept_simlog.proofs.walk.steps_of.Given as goal
 
@@ -14,5 +14,5 @@ invariant-loop-i l = record {
   along : Along (program_of l.initial.program) l.entries l.steps;
   steps : All (IsStepped l.program.halves) l.steps;
   leads : MayGo (program_of l.initial.program) l.entries l.i;
-  ends : (last : Entry) → slice_get l.entries l.i ≡ Some last → EndBefore l.steps last.address;
+  ends : (last : LogLine) → slice_get l.entries l.i ≡ Some last → EndBefore l.steps last.address;
 }

@@ -1,10 +1,10 @@
 use Rattle.std.proofs.Common.{refl}
-use Rattle.rept_slices.specs.declared.reading.Window.{Window}
+use Rattle.rept_slices.specs.declared.reading.StreamWindow.{StreamWindow}
 use Rattle.rept_slices.proofs.KeepLemmas.{is_kept}
 use Rattle.rept_slices.proofs.keeping.kept.Goals as goal
 
 pub returns-clause-left : goal.returns-clause-left
 returns-clause-left c = λ l is.
     let w = c.args.window.now in
-    let new : Window = record { stream = w.stream; number = w.number; packets = w.packets; count = w.count; begin = c.kept_begin-begin.result } in
+    let new : StreamWindow = record { stream = w.stream; number = w.number; packets = w.packets; count = w.count; begin = c.kept_begin-begin.result } in
     is_kept c.args.time w l is new refl refl refl (c.kept_begin-begin.ensures l is)

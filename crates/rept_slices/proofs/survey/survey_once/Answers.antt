@@ -6,7 +6,7 @@ use Rattle.rept_slices.specs.Parts.{slices_told}
 use Rattle.rept_slices.specs.Raw.{streams_of}
 use Rattle.rept_slices.specs.Skipping.{windows, kept}
 use Rattle.rept_slices.specs.Windows.{AreAll}
-use Rattle.rept_slices.specs.declared.reading.Window.{Window}
+use Rattle.rept_slices.specs.declared.reading.StreamWindow.{StreamWindow}
 use Rattle.rept_slices.proofs.WindowLemmas.{all_counted, skipped_is}
 use Rattle.rept_slices.proofs.SurveyLemmas.{hold_each, are_all, checks_found, checks_last}
 use Rattle.rept_slices.proofs.survey.survey_once.Goals as goal
@@ -35,7 +35,7 @@ tell_slices-requires-clause-few c =
     let w = c.in_ok-windows.ensures.ok in
     let counted = all_counted 0 0 c.args.from (streams_of c.args.streams.now) w.0 c.in_ok-windows.windows.items w.1 in
     let few = (are_all c.args.from c.args.streams.now w.0 c.in_ok-windows.windows.items w.1 c.requires).few in
-    let seen = ap (λ (ws : List Window). sum_by (λ (v : Window). v.count) ws) c.deref-2.ensures.value in
+    let seen = ap (λ (ws : List StreamWindow). sum_by (λ (v : StreamWindow). v.count) ws) c.deref-2.ensures.value in
     omega (arith, counted, few, seen)
 
 pub returns-in-Some-refused_by_threads-clause-err : goal.returns-in-Some-refused_by_threads-clause-err
@@ -61,7 +61,7 @@ returns-clause-ok c =
     let t = c.in_ok-told.ensures.ok (windows c.args.from w.0) seen in
     let slices : AreEntriesOf c.deref-3.result.now (slices_told (kept c.args.from w.0)) = rw c.deref-3.ensures.value t.3 in
     let counted = all_counted 0 0 c.args.from (streams_of c.args.streams.now) w.0 c.in_ok-windows.windows.items w.1 in
-    let seen_all = ap (λ (ws : List Window). sum_by (λ (v : Window). v.count) ws) c.deref-2.ensures.value in
+    let seen_all = ap (λ (ws : List StreamWindow). sum_by (λ (v : StreamWindow). v.count) ws) c.deref-2.ensures.value in
     let packets = c.in_ok-told.ensures.packets in
     let skips = c.in_ok-told.ensures.skipped (windows c.args.from w.0) seen in (
       w.0,
@@ -72,6 +72,6 @@ returns-clause-ok c =
         several = t.2;
         slices = t.3;
         packets = packets ∙ seen_all ∙ counted;
-        skipped = skipped_is c.args.from w.0 c.in_ok-told.told.skipped (sum_by (λ (v : Window). v.count) c.deref-2.result.now) skips (seen_all ∙ counted);
+        skipped = skipped_is c.args.from w.0 c.in_ok-told.told.skipped (sum_by (λ (v : StreamWindow). v.count) c.deref-2.result.now) skips (seen_all ∙ counted);
       },
     )

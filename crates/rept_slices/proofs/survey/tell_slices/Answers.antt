@@ -3,7 +3,7 @@ use Rattle.std.specs.List.{sum_by}
 use Rattle.rept_slices.specs.Lefts.{AreLeft}
 use Rattle.rept_slices.specs.Skipping.{full_from, from_time}
 use Rattle.rept_slices.specs.Windows.{skipped_of}
-use Rattle.rept_slices.specs.declared.reading.Window.{Window}
+use Rattle.rept_slices.specs.declared.reading.StreamWindow.{StreamWindow}
 use Rattle.rept_slices.proofs.WindowLemmas.{all_skipped}
 use Rattle.rept_slices.proofs.survey.tell_slices.Goals as goal
 
@@ -14,7 +14,7 @@ skipped-requires c =
     let counts = c.in_ok-left.ensures.counts in
     let few = c.requires.few in
     let all = all_skipped c.in_ok-left.left.items (map (from_time (full_from q.0)) q.0) kept in
-    let seen = ap (λ (ws : List Window). sum_by skipped_of ws) c.deref.ensures.value in
+    let seen = ap (λ (ws : List StreamWindow). sum_by skipped_of ws) c.deref.ensures.value in
     omega (arith, counts, few, all, seen)
 
 pub returns-clause-skipped : goal.returns-clause-skipped
@@ -22,6 +22,6 @@ returns-clause-skipped c = λ lefts a.
     let kept = subst (λ (t : ℕ). AreLeft c.in_ok-left.left.items (map (from_time t) lefts)) (c.full_from-time.ensures lefts a) (c.in_ok-left.ensures.ok lefts a) in
     let counts = c.in_ok-left.ensures.counts in
     let all = all_skipped c.in_ok-left.left.items (map (from_time (full_from lefts)) lefts) kept in
-    let seen = ap (λ (ws : List Window). sum_by skipped_of ws) c.deref.ensures.value in
+    let seen = ap (λ (ws : List StreamWindow). sum_by skipped_of ws) c.deref.ensures.value in
     let is = c.skipped.ensures in
     omega (arith, counts, all, seen, is)

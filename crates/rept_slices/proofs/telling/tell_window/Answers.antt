@@ -3,7 +3,7 @@ use Rattle.std.specs.Prelude.{OnOk}
 use Rattle.std.proofs.lemmas.List.{append-nil}
 use Rattle.rept_slices.specs.Parts.{ToldSlice}
 use Rattle.rept_slices.specs.Entries.{AreEntriesOf}
-use Rattle.rept_slices.specs.declared.telling.Entry.{Entry}
+use Rattle.rept_slices.specs.declared.telling.StreamSlice.{StreamSlice}
 use Rattle.rept_slices.proofs.WindowLemmas.{there, window_room, window_told, nothing_told}
 use Rattle.rept_slices.proofs.telling.tell_window.Goals as goal
 
@@ -27,4 +27,4 @@ pub returns-in-Some-clause-ok : goal.returns-in-Some-clause-ok
 returns-in-Some-clause-ok c = λ l is.
     let t = there c.args.window.now l is c.in-Some.begin c.in-Some.is in
     let told = c.tell.ensures.ok t.later t.hold in
-    subst (λ (ts : List ToldSlice). OnOk c.tell.result ((more : List Entry) × (c.tell.new.entries.items ≡ c.args.entries.now.items ++ more) × AreEntriesOf more ts)) (sym (window_told c.args.window.now l is c.in-Some.begin c.in-Some.is)) told
+    subst (λ (ts : List ToldSlice). OnOk c.tell.result ((more : List StreamSlice) × (c.tell.new.entries.items ≡ c.args.entries.now.items ++ more) × AreEntriesOf more ts)) (sym (window_told c.args.window.now l is c.in-Some.begin c.in-Some.is)) told

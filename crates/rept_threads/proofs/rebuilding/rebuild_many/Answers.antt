@@ -18,4 +18,4 @@ returns-clause-only_refusal c = λ descs fault h e x.
 pub returns-clause-sound : goal.returns-clause-sound
 returns-clause-sound c = λ descs h e.
     let f : RawFiles = files_of c.args.dump.now c.args.streams descs c.args.from in
-    IfOk-weaker c.rebuild_once.result (IsRunOfFiles f) (λ (run : Run). IsSoundCourse (record { threads = run.threads; dark = run.dark })) (λ run p. file_sound f run p) (c.rebuild_once.ensures.ok descs h e)
+    IfOk-weaker c.rebuild_once.result (IsRunOfFiles f) (λ (run : Run). IsSoundCourse (record { threads = run.threads; untraced = run.untraced })) (λ run p. file_sound f run p) (c.rebuild_once.ensures.ok descs h e)

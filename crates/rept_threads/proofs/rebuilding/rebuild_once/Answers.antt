@@ -17,14 +17,14 @@ use Rattle.rept_slices.specs.Parts.{slices_told}
 use Rattle.rept_slices.specs.Raw.{code_in, files_of}
 use Rattle.rept_slices.specs.Skipping.{kept}
 use Rattle.rept_slices.specs.Stretches.{ran}
-use Rattle.rept_threads.specs.declared.notes.Note.{Note as KeptNote}
+use Rattle.rept_threads.specs.declared.notes.KeptNote.{KeptNote}
 use Rattle.rept_threads.specs.declared.walks.Walked.{Walked}
 use Rattle.rept_threads.proofs.Turning.{keeps_turn}
 use Rattle.rept_threads.proofs.Apting.{apt_of}
 use Rattle.rept_threads.proofs.Chaining.{thread_chained, all_chained}
 use Rattle.rept_threads.proofs.Walking.{all_gathered}
 use Rattle.rept_threads.proofs.Joinery.{ran_in_order, told_in_order, told_again}
-use Rattle.rept_threads.proofs.Wholes.{Parts, some_stream, dark_is, no_walk, no_turn, no_join, has_run, refused_before}
+use Rattle.rept_threads.proofs.Wholes.{Parts, some_stream, untraced_is, no_walk, no_turn, no_join, has_run, refused_before}
 use Rattle.rept_threads.proofs.rebuilding.rebuild_once.Goals as goal
 
 pub returns-in-Err-clause-err : goal.returns-in-Err-clause-err
@@ -137,8 +137,8 @@ returns-in-Ok-threads-clause-ok c = λ descs h e.
     let found = c.overlap_fault.ensures ts seen (keeps_turn c.args.from processes lists s.1.1) ∙ ap (first_fault (overlap_fault ts)) same_processes in
     let joins = c.in-Ok-threads.ensures.ok rs (subst (λ (ws : List Walked). AreRanInOrder all ws rs) (sym c.deref-6.ensures.value) (ran_in_order all old new rs w.2.slices c.in_ok-put_in_order.ensures.times)) in
     let joined = subst (λ (ns : List KeptNote). threads (record { code = code_of c.new-program.result; packets = c.in-Ok.survey.packets }) c.in-Ok-walk_all.walks.rows (map known_by ns) rs ≡ Ok c.in-Ok-threads.threads) c.deref-7.ensures.value joins in
-    has_run c.args.dump.now c.args.streams descs c.args.from processes notes lists parts (code_of c.new-program.result) code_is w.0 w.1 c.in-Ok.survey.packets c.in-Ok-walk_all.walks.rows c.in-Ok-threads.threads c.in_ok-dark.dark c.in-Ok.survey.skipped
-    (sym c.in_default.is ∙ found) s.2.packets w.2.rows joined (dark_is c.args.from lists c.in-Ok.survey c.in_ok-dark.dark s.2 (c.in_ok-dark.ensures.ok c.args.from lists s.2.windows)) s.2.skipped
+    has_run c.args.dump.now c.args.streams descs c.args.from processes notes lists parts (code_of c.new-program.result) code_is w.0 w.1 c.in-Ok.survey.packets c.in-Ok-walk_all.walks.rows c.in-Ok-threads.threads c.in_ok-untraced.untraced c.in-Ok.survey.skipped
+    (sym c.in_default.is ∙ found) s.2.packets w.2.rows joined (untraced_is c.args.from lists c.in-Ok.survey c.in_ok-untraced.untraced s.2 (c.in_ok-untraced.ensures.ok c.args.from lists s.2.windows)) s.2.skipped
 
 pub returns-clause-err : goal.returns-clause-err
 returns-clause-err c = λ descs h e.

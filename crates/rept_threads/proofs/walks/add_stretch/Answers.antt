@@ -1,5 +1,5 @@
 use Rattle.std.proofs.Common.{◌∙◌, ap, length, refl, sym}
-use Rattle.rept_threads.specs.declared.walks.Kept.{Kept}
+use Rattle.rept_threads.specs.declared.walks.FinishedWalk.{FinishedWalk}
 use Rattle.rept_path.specs.Program.{code_of}
 use Rattle.rept_threads.proofs.Walking.{first_entry, held_at, stopped_or, stretch_on_from}
 use Rattle.rept_threads.proofs.walks.add_stretch.Goals as goal
@@ -17,4 +17,4 @@ returns-clause-ok c = λ from lists before later t ws whole a walks keeps.
     let f = first_entry c.args.slices.now e t later a c.in-Some.ensures.value in
     let h = c.in-Ok.ensures.ok t.later (held_at e t c.head.result f.1.0 c.head.ensures) in
     stretch_on_from (code_of c.args.program.now) from lists before later t ws c.args.walks.now _ e c.args.slices.now f.0 c.saturating_sub-room.result c.head.result c.in-Ok.stretch.walk c.in-Ok.stretch.marks.items c.keep-kept.result whole walks keeps f.1 f.2 (sym c.is_some.ensures ∙ c.if-is_some.false) c.saturating_sub-room.ensures c.head.ensures h
-    c.keep-kept.ensures.rows c.keep-kept.ensures.walk (length c.as_slice-number.result.now) (ap (length {A = Kept}) c.as_slice-number.ensures.value) c.in_ok-add_slices.ensures.ok c.in_default-push.ensures.items c.len.result c.len.ensures.value refl
+    c.keep-kept.ensures.rows c.keep-kept.ensures.walk (length c.as_slice-number.result.now) (ap (length {A = FinishedWalk}) c.as_slice-number.ensures.value) c.in_ok-add_slices.ensures.ok c.in_default-push.ensures.items c.len.result c.len.ensures.value refl

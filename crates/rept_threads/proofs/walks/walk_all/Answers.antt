@@ -3,7 +3,7 @@ use Rattle.rept_path.specs.Program.{code_of}
 use Rattle.rept_slices.specs.Parts.{slices_told}
 use Rattle.rept_slices.specs.Skipping.{kept}
 use Rattle.rept_slices.specs.Entries.{AreEntriesOf}
-use Rattle.rept_slices.specs.declared.telling.Entry.{Entry}
+use Rattle.rept_slices.specs.declared.telling.StreamSlice.{StreamSlice}
 use Rattle.rept_slices.proofs.Lasting.{rest_whole}
 use Rattle.rept_threads.proofs.Walking.{none_walked, first_left, one_walked, all_walked, may_walk}
 use Rattle.rept_threads.proofs.walks.walk_all.Goals as goal
@@ -18,14 +18,14 @@ add_stretch-requires-clause-told c =
     let i = c.loop-i.i in
     let f = first_left (code_of c.args.program.now) (slices_told (kept q.0 q.1)) es i c.loop-i.walks c.loop-i-test.true (c.loop-i.invariant q.0 q.1 q.2) in
     let m = may_walk (code_of c.args.program.now) q.0 q.1 (drop i es) (drop (i + 1) es) c.loop-i.walks q.3 f in
-    (f.t, f.later, subst (λ (xs : List Entry). AreEntriesOf xs (f.t ∷ f.later)) (sym (rest_whole es i)) f.are, m.0, m.1)
+    (f.t, f.later, subst (λ (xs : List StreamSlice). AreEntriesOf xs (f.t ∷ f.later)) (sym (rest_whole es i)) f.are, m.0, m.1)
 
 pub returns-in-Err-clause-err : goal.returns-in-Err-clause-err
 returns-in-Err-clause-err c = λ from lists a.
     let es = c.args.slices.now in
     let i = c.loop-i.i in
     let f = first_left (code_of c.args.program.now) (slices_told (kept from lists)) es i c.loop-i.walks c.loop-i-test.true (c.loop-i.invariant from lists a) in
-    c.in-Err.ensures.err from lists f.before f.later f.t f.ws f.same (subst (λ (xs : List Entry). AreEntriesOf xs (f.t ∷ f.later)) (sym (rest_whole es i)) f.are) f.walked f.keeps
+    c.in-Err.ensures.err from lists f.before f.later f.t f.ws f.same (subst (λ (xs : List StreamSlice). AreEntriesOf xs (f.t ∷ f.later)) (sym (rest_whole es i)) f.are) f.walked f.keeps
 
 pub loop-i-preserved : goal.loop-i-preserved
 loop-i-preserved c = λ from lists a.
@@ -33,7 +33,7 @@ loop-i-preserved c = λ from lists a.
     let i = c.loop-i.i in
     let f = first_left (code_of c.args.program.now) (slices_told (kept from lists)) es i c.loop-i.walks c.loop-i-test.true (c.loop-i.invariant from lists a) in
     one_walked (code_of c.args.program.now) (slices_told (kept from lists)) (drop i es) (drop (i + 1) es) c.loop-i.walks c.add_stretch.new.walks f
-    (c.in_default.ensures.ok from lists f.before f.later f.t f.ws f.same (subst (λ (xs : List Entry). AreEntriesOf xs (f.t ∷ f.later)) (sym (rest_whole es i)) f.are) f.walked f.keeps)
+    (c.in_default.ensures.ok from lists f.before f.later f.t f.ws f.same (subst (λ (xs : List StreamSlice). AreEntriesOf xs (f.t ∷ f.later)) (sym (rest_whole es i)) f.are) f.walked f.keeps)
 
 pub returns-clause-ok : goal.returns-clause-ok
 returns-clause-ok c = λ from lists a. all_walked (code_of c.args.program.now) (slices_told (kept from lists)) c.args.slices.now c.loop-i.i c.loop-i.walks c.loop-i-test.false (c.loop-i.invariant from lists a)

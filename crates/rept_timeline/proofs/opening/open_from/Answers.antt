@@ -1,7 +1,7 @@
 use Rattle.std.proofs.Common.{sym, ◌∙◌, arith}
 use Rattle.rept_timeline.proofs.Fronts.{stores_row}
 use Rattle.rept_timeline.proofs.Lists.{listed_stores}
-use Rattle.rept_timeline.proofs.Falling.{open_none, open_some, past_more}
+use Rattle.rept_timeline.proofs.Acting.{open_none, open_some, past_more}
 use Rattle.rept_timeline.proofs.opening.open_from.Goals as goal
 
 pub returns-in-None : goal.returns-in-None

@@ -5,7 +5,7 @@ use Rattle.rept_timeline.proofs.opening.rest_from.Given as goal
 abbrev pub invariant-loop-row : goal.invariant-loop-row
 invariant-loop-row l = record {
   up : l.least ≤ l.from;
-  clear : (i : ℕ) → l.least ≤ i → i < l.from → (seen_of l.many).moments.falls i l.m l.w ≡ false;
+  clear : (i : ℕ) → l.least ≤ i → i < l.from → (seen_of l.many).moments.may_act i l.m l.w ≡ false;
 }
 
 abbrev pub decreases-loop-row : goal.decreases-loop-row

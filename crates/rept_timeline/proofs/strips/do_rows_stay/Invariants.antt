@@ -4,7 +4,7 @@ use Rattle.rept_timeline.proofs.strips.do_rows_stay.Given as goal
 
 abbrev pub invariant-loop-row : goal.invariant-loop-row
 invariant-loop-row l = record {
-  clear : (i : ℕ) → i < l.from → (seen_of l.many).moments.falls i l.pause (l.pause + 1) ≡ true → (seen_of l.many).moments.past i l.number ≡ false;
+  clear : (i : ℕ) → i < l.from → (seen_of l.many).moments.may_act i l.pause (l.pause + 1) ≡ true → (seen_of l.many).moments.past i l.number ≡ false;
 }
 
 abbrev pub decreases-loop-row : goal.decreases-loop-row

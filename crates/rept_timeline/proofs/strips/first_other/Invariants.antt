@@ -4,7 +4,7 @@ use Rattle.rept_timeline.proofs.strips.first_other.Given as goal
 
 abbrev pub invariant-loop-row : goal.invariant-loop-row
 invariant-loop-row l = record {
-  own : (i : ℕ) → i < l.from → (seen_of l.many).moments.falls i l.number (l.number + 1) ≡ true → (seen_of l.many).moments.before i ≡ l.number;
+  own : (i : ℕ) → i < l.from → (seen_of l.many).moments.may_act i l.number (l.number + 1) ≡ true → (seen_of l.many).moments.before i ≡ l.number;
 }
 
 abbrev pub decreases-loop-row : goal.decreases-loop-row

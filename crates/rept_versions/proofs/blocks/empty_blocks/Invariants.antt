@@ -1,5 +1,5 @@
-use Rattle.rept_versions.specs.Blocks.{AreEmpty}
+use Rattle.rept_versions.specs.Blocks.{AreEmptyBlocks}
 use Rattle.rept_versions.proofs.blocks.empty_blocks.Given as goal
 
 abbrev pub invariant-loop : goal.invariant-loop
-invariant-loop l = AreEmpty l.blocks.items l.counter
+invariant-loop l = AreEmptyBlocks l.blocks.items l.counter

@@ -1,6 +1,6 @@
 use Rattle.std.proofs.Common.{◌≡◌, List, length, take, arith, subst}
 use Rattle.std.proofs.Math.Seq.{take-length}
-use Rattle.rept_weave.specs.declared.stretch.Stretch.{Stretch}
+use Rattle.rept_weave.specs.declared.stretch.HartStretch.{HartStretch}
 use Rattle.rept_weave.specs.Woven.{IsWoven}
 use Rattle.rept_weave.proofs.Weaving.{front_on, front_woven}
 use Rattle.rept_weave.proofs.writer.weave.Goals as goal
@@ -12,4 +12,4 @@ pub returns-clause-woven : goal.returns-clause-woven
 returns-clause-woven c =
     let end : c.loop-i.i ≡ length c.all-all.result.now = omega arith in
     let all : take c.loop-i.i c.all-all.result.now ≡ c.all-all.result.now = rw end (take-length c.all-all.result.now) in
-    subst (λ (hs : List (List Stretch)). IsWoven c.args.halves hs c.loop-i.trace) c.all-all.ensures (front_woven c.args.halves c.all-all.result.now (take c.loop-i.i c.all-all.result.now) c.loop-i.trace all (omega arith) (omega arith) c.loop-i.invariant)
+    subst (λ (hs : List (List HartStretch)). IsWoven c.args.halves hs c.loop-i.trace) c.all-all.ensures (front_woven c.args.halves c.all-all.result.now (take c.loop-i.i c.all-all.result.now) c.loop-i.trace all (omega arith) (omega arith) c.loop-i.invariant)

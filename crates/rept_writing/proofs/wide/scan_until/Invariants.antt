@@ -1,5 +1,5 @@
-use Rattle.rept_writing.specs.Falling.{FallFrom}
+use Rattle.rept_writing.specs.Acting.{MayActFrom}
 use Rattle.rept_writing.proofs.wide.scan_until.Given as goal
 
 abbrev pub invariant-loop-k : goal.invariant-loop-k
-invariant-loop-k l = FallFrom l.list l.a l.k l.found
+invariant-loop-k l = MayActFrom l.list l.a l.k l.found

@@ -10,7 +10,7 @@ use Rattle.rept_analysis.proofs.analysis.Analysis.access_below.Goals as goal
 
 pub invariant_of-view : goal.invariant_of-view
 invariant_of-view g c =
-    let a : Whole g.row.P.Denot g.row.L.Denot g.row.B.Denot g.row.W.Denot g.row.R.Denot = record { paths = c.self.inside.paths; last = c.self.inside.last; exe = exe_of c.self.inside.dump; core = core_of c.self.inside.dump; known = c.self.inside.known; spans = c.self.inside.spans; filled = c.self.inside.filled; rules = c.self.inside.rules; shown = c.self.inside.shown; complete = c.self.inside.complete; conflict = c.self.inside.conflict; work = work_of g.B.ByteFacts.JOINS (g.R.RowRules.draws c.self.inside.rules) c.self.inside.writing c.self.inside.drawn } in
+    let a : Whole g.row.P.Denot g.row.L.Denot g.row.B.Denot g.row.W.Denot g.row.R.Denot = record { paths = c.self.inside.paths; last = c.self.inside.last; exe = exe_of c.self.inside.dump; core = core_of c.self.inside.dump; known = c.self.inside.known; spans = c.self.inside.spans; filled = c.self.inside.filled; rules = c.self.inside.rules; shown = c.self.inside.shown; complete = c.self.inside.complete; conflict = c.self.inside.conflict; work = work_of g.B.ByteFacts.JOINS (g.R.RowRules.infers c.self.inside.rules) c.self.inside.writing c.self.inside.inferred } in
     let inside = subst (λ (x : Whole g.row.P.Denot g.row.L.Denot g.row.B.Denot g.row.W.Denot g.row.R.Denot). c.args.i < (g.P.Paths.timeline x.paths).legs.count) (sym c.self.view_is) c.requires in
     let last_is = c.self.invariant.last_is in
     let sized = c.self.invariant.sized in

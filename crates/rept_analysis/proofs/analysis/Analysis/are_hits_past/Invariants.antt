@@ -1,7 +1,7 @@
 use Rattle.std.proofs.Common.{◌-◌, length}
 use Rattle.rept_report.specs.Spots.{spot}
 use Rattle.rept_analysis.specs.State.{state_of, reader}
-use Rattle.rept_analysis.specs.Drawing.{AreHitsPast}
+use Rattle.rept_analysis.specs.Inferring.{AreHitsPast}
 use Rattle.rept_analysis.proofs.analysis.Analysis.are_hits_past.Given as goal
 
 abbrev pub invariant-loop-hit : goal.invariant-loop-hit

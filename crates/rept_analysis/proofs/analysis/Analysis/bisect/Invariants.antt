@@ -3,7 +3,7 @@ use Rattle.rept_reason.specs.Facts.{told}
 use Rattle.rept_report.specs.Log.{oldest}
 use Rattle.rept_report.specs.Conflicts.{IsQuiet}
 use Rattle.rept_analysis.specs.State.{setting_of, state_of, reader}
-use Rattle.rept_analysis.specs.Drawing.{SameFacts}
+use Rattle.rept_analysis.specs.Inferring.{SameFacts}
 use Rattle.rept_analysis.specs.Refined.{QuietBelow}
 use Rattle.rept_analysis.proofs.analysis.Analysis.bisect.Given as goal
 

@@ -2,8 +2,8 @@ use Rattle.std.proofs.Common.{◌≢◌, ◌<◌, ◌+◌, ℕ, Some, refl}
 use Rattle.rept_isa.specs.Operands.{written_by}
 use Rattle.rept_reason.specs.declared.fact.Cell.TheVariants.{Register}
 use Rattle.rept_analysis.specs.State.{state_of, reader}
-use Rattle.rept_analysis.specs.Drawing.{Knows, IsLearntAt, IsKeptAt}
-use Rattle.rept_analysis.proofs.Drawn.{Drew_both, Drew_as, Grows_trans, row_after}
+use Rattle.rept_analysis.specs.Inferring.{Knows, IsLearntAt, IsKeptAt}
+use Rattle.rept_analysis.proofs.Conclusion.{HasInferred_both, HasInferred_as, Grows_trans, row_after}
 use Rattle.rept_analysis.proofs.Following.{onward_follows, back_follows, kept_at, back_known}
 use Rattle.rept_analysis.proofs.analysis.Analysis.carry.Goals as goal
 
@@ -23,14 +23,14 @@ learn_if-requires-2-clause-follows g c =
 pub returns-in_err-back-clause-grows : goal.returns-in_err-back-clause-grows
 returns-in_err-back-clause-grows g c = Grows_trans _ _ _ c.in_ok-onward.ensures.grows c.learn_if-2.ensures.grows
 
-pub returns-clause-drew : goal.returns-clause-drew
-returns-clause-drew g c =
+pub returns-clause-inferred : goal.returns-clause-inferred
+returns-clause-inferred g c =
     let b = state_of (reader g.P.Paths.timeline g.L.LastValues.values) g.W.Partial.sets g.W.Transfer.moves g.R.RowRules.rules g.B.ByteFacts.store c.learn_if.new.self in
     let i = c.args.i in
     let r = c.args.r in
-    let back = Drew_as b _ c.in_ok-back.back (IsLearntAt i r c.known-after.result) (λ s. (v : ℕ) → 0 < r → Knows (i + 1) (Register r) v s → Knows i (Register r) v s) c.in_ok-back.ensures.drew (λ h. back_known b i r c.known-after.result c.known-after.ensures.value h) in
-    Drew_both _ b _ c.in_ok-onward.onward c.in_ok-back.back (IsLearntAt (i + 1) r c.known-before.result) (λ s. (v : ℕ) → 0 < r → Knows (i + 1) (Register r) v s → Knows i (Register r) v s) (λ s. 0 < r → written_by c.args.row.now.instr ≢ Some r → IsKeptAt i r s)
-    c.in_ok-onward.ensures.grows c.in_ok-back.ensures.grows c.in_ok-onward.ensures.drew back
+    let back = HasInferred_as b _ c.in_ok-back.back (IsLearntAt i r c.known-after.result) (λ s. (v : ℕ) → 0 < r → Knows (i + 1) (Register r) v s → Knows i (Register r) v s) c.in_ok-back.ensures.inferred (λ h. back_known b i r c.known-after.result c.known-after.ensures.value h) in
+    HasInferred_both _ b _ c.in_ok-onward.onward c.in_ok-back.back (IsLearntAt (i + 1) r c.known-before.result) (λ s. (v : ℕ) → 0 < r → Knows (i + 1) (Register r) v s → Knows i (Register r) v s) (λ s. 0 < r → written_by c.args.row.now.instr ≢ Some r → IsKeptAt i r s)
+    c.in_ok-onward.ensures.grows c.in_ok-back.ensures.grows c.in_ok-onward.ensures.inferred back
     (λ p q named kept. kept_at _ i r c.known-before.result c.known-before.ensures.value named p q)
 
 pub returns-clause-grows : goal.returns-clause-grows

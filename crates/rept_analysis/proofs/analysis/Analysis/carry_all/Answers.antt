@@ -2,18 +2,18 @@ use Rattle.std.proofs.Common.{◌≢◌, ℕ, ◌+◌, ◌<◌, ◌≤◌, Some,
 use Rattle.rept_isa.specs.Operands.{written_by}
 use Rattle.rept_log.specs.Compared.{IsFirstDiffering}
 use Rattle.rept_analysis.specs.State.{AnalysisState, state_of, reader}
-use Rattle.rept_analysis.specs.Drawing.{IsKeptAt, KeptBelow}
-use Rattle.rept_analysis.proofs.Drawn.{Drew_both, Drew_as, Drew_since, Grows_trans, one_more}
+use Rattle.rept_analysis.specs.Inferring.{IsKeptAt, KeptBelow}
+use Rattle.rept_analysis.proofs.Conclusion.{HasInferred_both, HasInferred_as, HasInferred_since, Grows_trans, one_more}
 use Rattle.rept_analysis.proofs.Following.{kept_to, none_differs}
 use Rattle.rept_analysis.proofs.analysis.Analysis.carry_all.Goals as goal
 
-pub returns-in_default-clause-drew : goal.returns-in_default-clause-drew
-returns-in_default-clause-drew g c =
+pub returns-in_default-clause-inferred : goal.returns-in_default-clause-inferred
+returns-in_default-clause-inferred g c =
     let now = state_of (reader g.P.Paths.timeline g.L.LastValues.values) g.W.Partial.sets g.W.Transfer.moves g.R.RowRules.rules g.B.ByteFacts.store c.loop-least.self in
     let row = c.args.row.now in
     let i = c.args.i in
     let least = c.loop-least.least in
-    Drew_since _ now c.loop-least.learnt (KeptBelow least row i) (KeptBelow 32 row i) c.loop-least.invariant.drew (kept_to now row i least 32 (none_differs now.known.log i least c.next_differing.result c.in_default.not-Some c.next_differing.ensures))
+    HasInferred_since _ now c.loop-least.learnt (KeptBelow least row i) (KeptBelow 32 row i) c.loop-least.invariant.inferred (kept_to now row i least 32 (none_differs now.known.log i least c.next_differing.result c.in_default.not-Some c.next_differing.ensures))
 
 pub returns-in_err-new-clause-grows : goal.returns-in_err-new-clause-grows
 returns-in_err-new-clause-grows g c = Grows_trans _ _ _ c.loop-least.invariant.grows c.carry.ensures.grows
@@ -27,16 +27,16 @@ loop-least-preserved g c =
     let r = c.in-Some.r in
     let C : AnalysisState g.row.W.Denot → ℕ → Type 0 = λ a s. 0 < s → written_by row.instr ≢ Some s → IsKeptAt i s a in
     let next : IsFirstDiffering now.known.log i c.loop-least.least r = c.in-Some.ensures in
-    let below = Drew_since _ now c.loop-least.learnt (KeptBelow c.loop-least.least row i) (KeptBelow r row i) c.loop-least.invariant.drew (kept_to now row i c.loop-least.least r next.same_below) in
+    let below = HasInferred_since _ now c.loop-least.learnt (KeptBelow c.loop-least.least row i) (KeptBelow r row i) c.loop-least.invariant.inferred (kept_to now row i c.loop-least.least r next.same_below) in
     rw (c.number-least.ensures.value) (record {
       named = omega arith;
       grows = Grows_trans _ _ _ c.loop-least.invariant.grows c.in_ok-new.ensures.grows;
-      drew = Drew_both _ _ _ c.loop-least.learnt c.in_ok-new.new (KeptBelow r row i) (λ a. C a r) (KeptBelow (r + 1) row i)
-          c.loop-least.invariant.grows c.in_ok-new.ensures.grows below c.in_ok-new.ensures.drew
+      inferred = HasInferred_both _ _ _ c.loop-least.learnt c.in_ok-new.new (KeptBelow r row i) (λ a. C a r) (KeptBelow (r + 1) row i)
+          c.loop-least.invariant.grows c.in_ok-new.ensures.grows below c.in_ok-new.ensures.inferred
           (λ before at_r s named inside kept. one_more (C (st c.args.self.now)) r (λ q lt n k. before q n lt k) at_r s inside named kept);
     })
 
-pub returns-clause-drew : goal.returns-clause-drew
-returns-clause-drew g c =
+pub returns-clause-inferred : goal.returns-clause-inferred
+returns-clause-inferred g c =
     let passed : 32 ≤ c.loop-least.least = omega arith in
-    Drew_as _ _ c.loop-least.learnt (KeptBelow c.loop-least.least c.args.row.now c.args.i) (KeptBelow 32 c.args.row.now c.args.i) c.loop-least.invariant.drew (λ h r named inside kept. h r named (omega (arith, passed, inside)) kept)
+    HasInferred_as _ _ c.loop-least.learnt (KeptBelow c.loop-least.least c.args.row.now c.args.i) (KeptBelow 32 c.args.row.now c.args.i) c.loop-least.invariant.inferred (λ h r named inside kept. h r named (omega (arith, passed, inside)) kept)

@@ -1,6 +1,6 @@
 use Rattle.std.proofs.Common.{◌<◌, ◌-◌}
 use Rattle.rept_analysis.specs.State.{state_of, reader}
-use Rattle.rept_analysis.specs.Drawing.{Grows, Drew, KeptBelow}
+use Rattle.rept_analysis.specs.Inferring.{Grows, HasInferred, KeptBelow}
 use Rattle.rept_analysis.proofs.analysis.Analysis.carry_all.Given as goal
 
 abbrev pub invariant-loop-least : goal.invariant-loop-least
@@ -9,7 +9,7 @@ invariant-loop-least g l =
     record {
       named : 0 < l.least;
       grows : Grows (st l.fn.self) (st l.self);
-      drew : Drew (st l.fn.self) (st l.self) l.learnt (KeptBelow l.least l.row l.i);
+      inferred : HasInferred (st l.fn.self) (st l.self) l.learnt (KeptBelow l.least l.row l.i);
     }
 
 abbrev pub decreases-loop-least : goal.decreases-loop-least

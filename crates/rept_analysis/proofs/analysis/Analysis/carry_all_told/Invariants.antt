@@ -1,6 +1,6 @@
 use Rattle.std.proofs.Common.{◌≡◌, length}
 use Rattle.rept_analysis.specs.State.{AnalysisState, state_of, reader}
-use Rattle.rept_analysis.specs.Drawing.{Grows, Drew}
+use Rattle.rept_analysis.specs.Inferring.{Grows, HasInferred}
 use Rattle.rept_analysis.proofs.analysis.Analysis.carry_all_told.Given as goal
 
 abbrev pub invariant-loop-k : goal.invariant-loop-k
@@ -8,6 +8,6 @@ invariant-loop-k g l =
     let st = state_of (reader g.P.Paths.timeline g.L.LastValues.values) g.W.Partial.sets g.W.Transfer.moves g.R.RowRules.rules g.B.ByteFacts.store in
     record {
       grows : Grows (st l.fn.self) (st l.self);
-      drew : Drew (st l.fn.self) (st l.self) l.learnt (λ (x : AnalysisState g.row.W.Denot). Unit {0});
+      inferred : HasInferred (st l.fn.self) (st l.self) l.learnt (λ (x : AnalysisState g.row.W.Denot). Unit {0});
       count : l.count ≡ length (st l.fn.self).known.store.tracked;
     }

@@ -1,7 +1,7 @@
 use Rattle.std.proofs.Common.{◌||◌}
 use Rattle.rept_analysis.specs.State.{AnalysisState, state_of, reader}
-use Rattle.rept_analysis.specs.Drawing.{IsCarriedIn, AreLinks}
-use Rattle.rept_analysis.proofs.Drawn.{Drew_both, Grows_trans}
+use Rattle.rept_analysis.specs.Inferring.{IsCarriedIn, AreLinks}
+use Rattle.rept_analysis.proofs.Conclusion.{HasInferred_both, Grows_trans}
 use Rattle.rept_analysis.proofs.analysis.Analysis.carry_at.Goals as goal
 
 pub returns-in_err-up-clause-grows : goal.returns-in_err-up-clause-grows
@@ -13,13 +13,13 @@ returns-in_err-links-clause-grows g c = Grows_trans _ _ _ (Grows_trans _ _ _ c.i
 pub returns-clause-grows : goal.returns-clause-grows
 returns-clause-grows g c = Grows_trans _ _ _ (Grows_trans _ _ _ c.in_ok-inside.ensures.grows c.in_ok-up.ensures.grows) c.in_ok-links.ensures.grows
 
-pub returns-clause-drew : goal.returns-clause-drew
-returns-clause-drew g c =
+pub returns-clause-inferred : goal.returns-clause-inferred
+returns-clause-inferred g c =
     let s = state_of (reader g.P.Paths.timeline g.L.LastValues.values) g.W.Partial.sets g.W.Transfer.moves g.R.RowRules.rules g.B.ByteFacts.store c.args.self.now in
     let t = state_of (reader g.P.Paths.timeline g.L.LastValues.values) g.W.Partial.sets g.W.Transfer.moves g.R.RowRules.rules g.B.ByteFacts.store c.carry_strip.new.self in
     let u = state_of (reader g.P.Paths.timeline g.L.LastValues.values) g.W.Partial.sets g.W.Transfer.moves g.R.RowRules.rules g.B.ByteFacts.store c.leap_end.new.self in
     let v = state_of (reader g.P.Paths.timeline g.L.LastValues.values) g.W.Partial.sets g.W.Transfer.moves g.R.RowRules.rules g.B.ByteFacts.store c.carry_links.new.self in
     let P : AnalysisState g.row.W.Denot → Type 0 = λ x. Unit {0} in
     let to = Grows_trans s t u c.in_ok-inside.ensures.grows c.in_ok-up.ensures.grows in
-    let up = Drew_both s t u c.in_ok-inside.inside c.in_ok-up.up (IsCarriedIn c.args.a c.strip-strip.result) P P c.in_ok-inside.ensures.grows c.in_ok-up.ensures.grows c.in_ok-inside.ensures.drew c.in_ok-up.ensures.drew (λ p q. tt) in
-    Drew_both s u v (c.in_ok-inside.inside || c.in_ok-up.up) c.in_ok-links.links P (AreLinks c.args.a c.strip-strip.result.last) P to c.in_ok-links.ensures.grows up c.in_ok-links.ensures.drew (λ p q. tt)
+    let up = HasInferred_both s t u c.in_ok-inside.inside c.in_ok-up.up (IsCarriedIn c.args.a c.strip-strip.result) P P c.in_ok-inside.ensures.grows c.in_ok-up.ensures.grows c.in_ok-inside.ensures.inferred c.in_ok-up.ensures.inferred (λ p q. tt) in
+    HasInferred_both s u v (c.in_ok-inside.inside || c.in_ok-up.up) c.in_ok-links.links P (AreLinks c.args.a c.strip-strip.result.last) P to c.in_ok-links.ensures.grows up c.in_ok-links.ensures.inferred (λ p q. tt)

@@ -1,13 +1,13 @@
 use Rattle.std.proofs.Common.{ap, arith}
 use Rattle.rept_analysis.specs.State.{Subject, AnalysisState, state_of, reader}
-use Rattle.rept_analysis.proofs.Drawn.{Drew_both, Grows_trans}
+use Rattle.rept_analysis.proofs.Conclusion.{HasInferred_both, Grows_trans}
 use Rattle.rept_analysis.proofs.analysis.Analysis.carry_back.Goals as goal
 
 pub loop-low-init : goal.loop-low-init
 loop-low-init g c =
     let down = c.in_ok-down.ensures.down in
     let inside = c.requires.inside in
-    record { grows = c.in_ok-down.ensures.grows; drew = c.in_ok-down.ensures.drew; inside = omega (arith, down, inside) }
+    record { grows = c.in_ok-down.ensures.grows; inferred = c.in_ok-down.ensures.inferred; inside = omega (arith, down, inside) }
 
 pub former_together-requires-clause-inside : goal.former_together-requires-clause-inside
 former_together-requires-clause-inside g c =
@@ -27,7 +27,7 @@ loop-low-preserved g c =
     let inside = c.loop-low.invariant.inside in
     record {
       grows = Grows_trans (state_of (reader g.P.Paths.timeline g.L.LastValues.values) g.W.Partial.sets g.W.Transfer.moves g.R.RowRules.rules g.B.ByteFacts.store c.args.self.now) (state_of (reader g.P.Paths.timeline g.L.LastValues.values) g.W.Partial.sets g.W.Transfer.moves g.R.RowRules.rules g.B.ByteFacts.store c.loop-low.self) (state_of (reader g.P.Paths.timeline g.L.LastValues.values) g.W.Partial.sets g.W.Transfer.moves g.R.RowRules.rules g.B.ByteFacts.store c.former_together.new.self) c.loop-low.invariant.grows c.in_ok-former.ensures.grows;
-      drew = Drew_both (state_of (reader g.P.Paths.timeline g.L.LastValues.values) g.W.Partial.sets g.W.Transfer.moves g.R.RowRules.rules g.B.ByteFacts.store c.args.self.now) (state_of (reader g.P.Paths.timeline g.L.LastValues.values) g.W.Partial.sets g.W.Transfer.moves g.R.RowRules.rules g.B.ByteFacts.store c.loop-low.self) (state_of (reader g.P.Paths.timeline g.L.LastValues.values) g.W.Partial.sets g.W.Transfer.moves g.R.RowRules.rules g.B.ByteFacts.store c.former_together.new.self) c.loop-low.learnt c.in_ok-former.former.0 (λ (x : AnalysisState g.row.W.Denot). Unit {0}) (λ (x : AnalysisState g.row.W.Denot). Unit {0}) (λ (x : AnalysisState g.row.W.Denot). Unit {0}) c.loop-low.invariant.grows c.in_ok-former.ensures.grows c.loop-low.invariant.drew c.in_ok-former.ensures.drew (λ p q. tt);
+      inferred = HasInferred_both (state_of (reader g.P.Paths.timeline g.L.LastValues.values) g.W.Partial.sets g.W.Transfer.moves g.R.RowRules.rules g.B.ByteFacts.store c.args.self.now) (state_of (reader g.P.Paths.timeline g.L.LastValues.values) g.W.Partial.sets g.W.Transfer.moves g.R.RowRules.rules g.B.ByteFacts.store c.loop-low.self) (state_of (reader g.P.Paths.timeline g.L.LastValues.values) g.W.Partial.sets g.W.Transfer.moves g.R.RowRules.rules g.B.ByteFacts.store c.former_together.new.self) c.loop-low.learnt c.in_ok-former.former.0 (λ (x : AnalysisState g.row.W.Denot). Unit {0}) (λ (x : AnalysisState g.row.W.Denot). Unit {0}) (λ (x : AnalysisState g.row.W.Denot). Unit {0}) c.loop-low.invariant.grows c.in_ok-former.ensures.grows c.loop-low.invariant.inferred c.in_ok-former.ensures.inferred (λ p q. tt);
       inside = omega (arith, down, inside);
     }
 
@@ -37,6 +37,6 @@ loop-low-preserved-then-former g c =
     let inside = c.loop-low.invariant.inside in
     record {
       grows = Grows_trans (state_of (reader g.P.Paths.timeline g.L.LastValues.values) g.W.Partial.sets g.W.Transfer.moves g.R.RowRules.rules g.B.ByteFacts.store c.args.self.now) (state_of (reader g.P.Paths.timeline g.L.LastValues.values) g.W.Partial.sets g.W.Transfer.moves g.R.RowRules.rules g.B.ByteFacts.store c.loop-low.self) (state_of (reader g.P.Paths.timeline g.L.LastValues.values) g.W.Partial.sets g.W.Transfer.moves g.R.RowRules.rules g.B.ByteFacts.store c.former_together.new.self) c.loop-low.invariant.grows c.in_ok-former.ensures.grows;
-      drew = Drew_both (state_of (reader g.P.Paths.timeline g.L.LastValues.values) g.W.Partial.sets g.W.Transfer.moves g.R.RowRules.rules g.B.ByteFacts.store c.args.self.now) (state_of (reader g.P.Paths.timeline g.L.LastValues.values) g.W.Partial.sets g.W.Transfer.moves g.R.RowRules.rules g.B.ByteFacts.store c.loop-low.self) (state_of (reader g.P.Paths.timeline g.L.LastValues.values) g.W.Partial.sets g.W.Transfer.moves g.R.RowRules.rules g.B.ByteFacts.store c.former_together.new.self) c.loop-low.learnt c.in_ok-former.former.0 (λ (x : AnalysisState g.row.W.Denot). Unit {0}) (λ (x : AnalysisState g.row.W.Denot). Unit {0}) (λ (x : AnalysisState g.row.W.Denot). Unit {0}) c.loop-low.invariant.grows c.in_ok-former.ensures.grows c.loop-low.invariant.drew c.in_ok-former.ensures.drew (λ p q. tt);
+      inferred = HasInferred_both (state_of (reader g.P.Paths.timeline g.L.LastValues.values) g.W.Partial.sets g.W.Transfer.moves g.R.RowRules.rules g.B.ByteFacts.store c.args.self.now) (state_of (reader g.P.Paths.timeline g.L.LastValues.values) g.W.Partial.sets g.W.Transfer.moves g.R.RowRules.rules g.B.ByteFacts.store c.loop-low.self) (state_of (reader g.P.Paths.timeline g.L.LastValues.values) g.W.Partial.sets g.W.Transfer.moves g.R.RowRules.rules g.B.ByteFacts.store c.former_together.new.self) c.loop-low.learnt c.in_ok-former.former.0 (λ (x : AnalysisState g.row.W.Denot). Unit {0}) (λ (x : AnalysisState g.row.W.Denot). Unit {0}) (λ (x : AnalysisState g.row.W.Denot). Unit {0}) c.loop-low.invariant.grows c.in_ok-former.ensures.grows c.loop-low.invariant.inferred c.in_ok-former.ensures.inferred (λ p q. tt);
       inside = omega (arith, down, inside);
     }

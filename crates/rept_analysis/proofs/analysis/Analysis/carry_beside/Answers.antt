@@ -1,8 +1,8 @@
 use Rattle.std.proofs.Common.{◌≡◌, ◌+◌, ◌||◌, ℕ, Some, inl, inr, arith, ◌∙◌}
 use Rattle.rept_report.specs.Spots.{passage}
 use Rattle.rept_analysis.specs.State.{AnalysisState, state_of, reader}
-use Rattle.rept_analysis.specs.Drawing.{IsCarriedFrom, IsCarriedIf, IsCarriedBeside}
-use Rattle.rept_analysis.proofs.Drawn.{Drew_both, Grows_trans}
+use Rattle.rept_analysis.specs.Inferring.{IsCarriedFrom, IsCarriedIf, IsCarriedBeside}
+use Rattle.rept_analysis.proofs.Conclusion.{HasInferred_both, Grows_trans}
 use Rattle.rept_analysis.proofs.Listing.{writings_after}
 use Rattle.rept_analysis.proofs.Going.{beside_closed, next_after}
 use Rattle.rept_analysis.proofs.analysis.Analysis.carry_beside.Goals as goal
@@ -42,8 +42,8 @@ returns-in_err-after-clause-grows g c = Grows_trans _ _ _ (Grows_trans _ _ _ c.i
 pub returns-clause-grows : goal.returns-clause-grows
 returns-clause-grows g c = Grows_trans _ _ _ (Grows_trans _ _ _ c.in_ok-inside.ensures.grows c.in_ok-before.ensures.grows) c.in_ok-after.ensures.grows
 
-pub returns-clause-drew : goal.returns-clause-drew
-returns-clause-drew g c =
+pub returns-clause-inferred : goal.returns-clause-inferred
+returns-clause-inferred g c =
     let s = (state_of (reader g.P.Paths.timeline g.L.LastValues.values) g.W.Partial.sets g.W.Transfer.moves g.R.RowRules.rules g.B.ByteFacts.store c.args.self.now) in
     let t = (state_of (reader g.P.Paths.timeline g.L.LastValues.values) g.W.Partial.sets g.W.Transfer.moves g.R.RowRules.rules g.B.ByteFacts.store c.carry_segment.new.self) in
     let u = (state_of (reader g.P.Paths.timeline g.L.LastValues.values) g.W.Partial.sets g.W.Transfer.moves g.R.RowRules.rules g.B.ByteFacts.store c.carry_end.new.self) in
@@ -53,8 +53,8 @@ returns-clause-drew g c =
     let P : AnalysisState g.row.W.Denot → Type 0 = λ x. (i : ℕ) → piece.before ≡ Some i → IsCarriedIf (passage a i (i + 1)) x in
     let Q : AnalysisState g.row.W.Denot → Type 0 = λ x. (i : ℕ) → piece.after ≡ Some i → IsCarriedIf (passage a i (i + 1)) x in
     let R : AnalysisState g.row.W.Denot → Type 0 = λ x. IsCarriedFrom a piece.from piece.to x × P x in
-    let both = Drew_both s t u c.in_ok-inside.inside c.in_ok-before.before (IsCarriedFrom a piece.from piece.to) P R c.in_ok-inside.ensures.grows c.in_ok-before.ensures.grows c.in_ok-inside.ensures.drew c.in_ok-before.ensures.drew (λ p q. (p, q)) in
-    Drew_both s u v (c.in_ok-inside.inside || c.in_ok-before.before) c.in_ok-after.after R Q (IsCarriedBeside a c.args.strip c.args.point piece.to) (Grows_trans s t u c.in_ok-inside.ensures.grows c.in_ok-before.ensures.grows) c.in_ok-after.ensures.grows both c.in_ok-after.ensures.drew (λ p q. beside_closed s a c.args.point c.args.strip piece c.piece-piece.ensures p.0 p.1 q)
+    let both = HasInferred_both s t u c.in_ok-inside.inside c.in_ok-before.before (IsCarriedFrom a piece.from piece.to) P R c.in_ok-inside.ensures.grows c.in_ok-before.ensures.grows c.in_ok-inside.ensures.inferred c.in_ok-before.ensures.inferred (λ p q. (p, q)) in
+    HasInferred_both s u v (c.in_ok-inside.inside || c.in_ok-before.before) c.in_ok-after.after R Q (IsCarriedBeside a c.args.strip c.args.point piece.to) (Grows_trans s t u c.in_ok-inside.ensures.grows c.in_ok-before.ensures.grows) c.in_ok-after.ensures.grows both c.in_ok-after.ensures.inferred (λ p q. beside_closed s a c.args.point c.args.strip piece c.piece-piece.ensures p.0 p.1 q)
 
 pub carry_segment-requires-clause-spared : goal.carry_segment-requires-clause-spared
 carry_segment-requires-clause-spared g c = c.piece-piece.ensures.spared

@@ -1,8 +1,8 @@
 use Rattle.std.proofs.Common.{◌+◌, arith}
 use Rattle.rept_report.specs.Spots.{passage}
 use Rattle.rept_analysis.specs.State.{AnalysisState, state_of, reader}
-use Rattle.rept_analysis.specs.Drawing.{IsCarriedIf}
-use Rattle.rept_analysis.proofs.Drawn.{Drew_both, Grows_trans}
+use Rattle.rept_analysis.specs.Inferring.{IsCarriedIf}
+use Rattle.rept_analysis.proofs.Conclusion.{HasInferred_both, Grows_trans}
 use Rattle.rept_analysis.proofs.Going.{strip_after}
 use Rattle.rept_analysis.proofs.analysis.Analysis.carry_border.Goals as goal
 
@@ -24,10 +24,10 @@ returns-in_err-down-clause-grows g c = Grows_trans _ _ _ c.in_ok-new.ensures.gro
 pub returns-clause-grows : goal.returns-clause-grows
 returns-clause-grows g c = Grows_trans _ _ _ c.in_ok-new.ensures.grows c.in_ok-down.ensures.grows
 
-pub returns-clause-drew : goal.returns-clause-drew
-returns-clause-drew g c =
+pub returns-clause-inferred : goal.returns-clause-inferred
+returns-clause-inferred g c =
     let s = (state_of (reader g.P.Paths.timeline g.L.LastValues.values) g.W.Partial.sets g.W.Transfer.moves g.R.RowRules.rules g.B.ByteFacts.store c.args.self.now) in
     let t = (state_of (reader g.P.Paths.timeline g.L.LastValues.values) g.W.Partial.sets g.W.Transfer.moves g.R.RowRules.rules g.B.ByteFacts.store c.carry_step.new.self) in
     let u = (state_of (reader g.P.Paths.timeline g.L.LastValues.values) g.W.Partial.sets g.W.Transfer.moves g.R.RowRules.rules g.B.ByteFacts.store c.carry_down.new.self) in
     let P : AnalysisState g.row.W.Denot → Type 0 = IsCarriedIf (passage c.args.a c.args.m (c.args.m + 1)) in
-    Drew_both s t u c.in_ok-new.new c.in_ok-down.down P (λ (x : AnalysisState g.row.W.Denot). Unit {0}) P c.in_ok-new.ensures.grows c.in_ok-down.ensures.grows c.in_ok-new.ensures.drew c.in_ok-down.ensures.drew (λ p q. p)
+    HasInferred_both s t u c.in_ok-new.new c.in_ok-down.down P (λ (x : AnalysisState g.row.W.Denot). Unit {0}) P c.in_ok-new.ensures.grows c.in_ok-down.ensures.grows c.in_ok-new.ensures.inferred c.in_ok-down.ensures.inferred (λ p q. p)

@@ -1,15 +1,15 @@
 use Rattle.std.proofs.Common.{Bool, subst}
 use Rattle.rept_analysis.specs.State.{AnalysisState, state_of, reader}
-use Rattle.rept_analysis.specs.Drawing.{Drew}
-use Rattle.rept_analysis.proofs.Drawn.{Drew_both, Drew_same, Grows_trans}
+use Rattle.rept_analysis.specs.Inferring.{HasInferred}
+use Rattle.rept_analysis.proofs.Conclusion.{HasInferred_both, HasInferred_same, Grows_trans}
 use Rattle.rept_analysis.proofs.Listing.{writings_after}
 use Rattle.rept_analysis.proofs.analysis.Analysis.carry_bytes.Goals as goal
 
-pub returns-then-is_first_round-clause-drew : goal.returns-then-is_first_round-clause-drew
-returns-then-is_first_round-clause-drew g c = Drew_same (state_of (reader g.P.Paths.timeline g.L.LastValues.values) g.W.Partial.sets g.W.Transfer.moves g.R.RowRules.rules g.B.ByteFacts.store c.args.self.now) (λ (x : AnalysisState g.row.W.Denot). Unit {0}) tt
+pub returns-then-is_first_round-clause-inferred : goal.returns-then-is_first_round-clause-inferred
+returns-then-is_first_round-clause-inferred g c = HasInferred_same (state_of (reader g.P.Paths.timeline g.L.LastValues.values) g.W.Partial.sets g.W.Transfer.moves g.R.RowRules.rules g.B.ByteFacts.store c.args.self.now) (λ (x : AnalysisState g.row.W.Denot). Unit {0}) tt
 
-pub returns-then-not-near-clause-drew : goal.returns-then-not-near-clause-drew
-returns-then-not-near-clause-drew g c = subst (λ (learnt : Bool). Drew (state_of (reader g.P.Paths.timeline g.L.LastValues.values) g.W.Partial.sets g.W.Transfer.moves g.R.RowRules.rules g.B.ByteFacts.store c.args.self.now) (state_of (reader g.P.Paths.timeline g.L.LastValues.values) g.W.Partial.sets g.W.Transfer.moves g.R.RowRules.rules g.B.ByteFacts.store c.carry_near.new.self) learnt (λ (x : AnalysisState g.row.W.Denot). Unit {0})) c.if-not-near.true c.in_ok-near.ensures.drew
+pub returns-then-not-near-clause-inferred : goal.returns-then-not-near-clause-inferred
+returns-then-not-near-clause-inferred g c = subst (λ (learnt : Bool). HasInferred (state_of (reader g.P.Paths.timeline g.L.LastValues.values) g.W.Partial.sets g.W.Transfer.moves g.R.RowRules.rules g.B.ByteFacts.store c.args.self.now) (state_of (reader g.P.Paths.timeline g.L.LastValues.values) g.W.Partial.sets g.W.Transfer.moves g.R.RowRules.rules g.B.ByteFacts.store c.carry_near.new.self) learnt (λ (x : AnalysisState g.row.W.Denot). Unit {0})) c.if-not-near.true c.in_ok-near.ensures.inferred
 
 pub carry_far-requires-clause-writings : goal.carry_far-requires-clause-writings
 carry_far-requires-clause-writings g c = writings_after (state_of (reader g.P.Paths.timeline g.L.LastValues.values) g.W.Partial.sets g.W.Transfer.moves g.R.RowRules.rules g.B.ByteFacts.store c.args.self.now) (state_of (reader g.P.Paths.timeline g.L.LastValues.values) g.W.Partial.sets g.W.Transfer.moves g.R.RowRules.rules g.B.ByteFacts.store c.carry_near.new.self) c.in_ok-near.ensures.grows c.requires.writings
@@ -20,7 +20,7 @@ returns-in_err-far-clause-grows g c = Grows_trans _ _ _ c.in_ok-near.ensures.gro
 pub returns-clause-grows : goal.returns-clause-grows
 returns-clause-grows g c = Grows_trans _ _ _ c.in_ok-near.ensures.grows c.in_ok-far.ensures.grows
 
-pub returns-clause-drew : goal.returns-clause-drew
-returns-clause-drew g c =
-    Drew_both (state_of (reader g.P.Paths.timeline g.L.LastValues.values) g.W.Partial.sets g.W.Transfer.moves g.R.RowRules.rules g.B.ByteFacts.store c.args.self.now) (state_of (reader g.P.Paths.timeline g.L.LastValues.values) g.W.Partial.sets g.W.Transfer.moves g.R.RowRules.rules g.B.ByteFacts.store c.carry_near.new.self) (state_of (reader g.P.Paths.timeline g.L.LastValues.values) g.W.Partial.sets g.W.Transfer.moves g.R.RowRules.rules g.B.ByteFacts.store c.carry_far.new.self) c.in_ok-near.near c.in_ok-far.far (λ (x : AnalysisState g.row.W.Denot). Unit {0}) (λ (x : AnalysisState g.row.W.Denot). Unit {0}) (λ (x : AnalysisState g.row.W.Denot). Unit {0})
-    c.in_ok-near.ensures.grows c.in_ok-far.ensures.grows c.in_ok-near.ensures.drew c.in_ok-far.ensures.drew (λ p q. tt)
+pub returns-clause-inferred : goal.returns-clause-inferred
+returns-clause-inferred g c =
+    HasInferred_both (state_of (reader g.P.Paths.timeline g.L.LastValues.values) g.W.Partial.sets g.W.Transfer.moves g.R.RowRules.rules g.B.ByteFacts.store c.args.self.now) (state_of (reader g.P.Paths.timeline g.L.LastValues.values) g.W.Partial.sets g.W.Transfer.moves g.R.RowRules.rules g.B.ByteFacts.store c.carry_near.new.self) (state_of (reader g.P.Paths.timeline g.L.LastValues.values) g.W.Partial.sets g.W.Transfer.moves g.R.RowRules.rules g.B.ByteFacts.store c.carry_far.new.self) c.in_ok-near.near c.in_ok-far.far (λ (x : AnalysisState g.row.W.Denot). Unit {0}) (λ (x : AnalysisState g.row.W.Denot). Unit {0}) (λ (x : AnalysisState g.row.W.Denot). Unit {0})
+    c.in_ok-near.ensures.grows c.in_ok-far.ensures.grows c.in_ok-near.ensures.inferred c.in_ok-far.ensures.inferred (λ p q. tt)

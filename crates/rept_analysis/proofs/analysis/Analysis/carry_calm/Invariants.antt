@@ -1,6 +1,6 @@
 use Rattle.std.proofs.Common.{◌+◌, ◌-◌, ◌≤◌}
 use Rattle.rept_analysis.specs.State.{state_of, reader}
-use Rattle.rept_analysis.specs.Drawing.{Grows, Drew, IsCarriedBelow}
+use Rattle.rept_analysis.specs.Inferring.{Grows, HasInferred, IsCarriedBelow}
 use Rattle.rept_analysis.proofs.analysis.Analysis.carry_calm.Given as goal
 
 abbrev pub invariant-loop-from : goal.invariant-loop-from
@@ -8,7 +8,7 @@ invariant-loop-from g l =
     let st = state_of (reader g.P.Paths.timeline g.L.LastValues.values) g.W.Partial.sets g.W.Transfer.moves g.R.RowRules.rules g.B.ByteFacts.store in
     record {
       grows : Grows (st l.fn.self) (st l.self);
-      drew : Drew (st l.fn.self) (st l.self) l.learnt (IsCarriedBelow l.a l.strip l.from);
+      inferred : HasInferred (st l.fn.self) (st l.self) l.learnt (IsCarriedBelow l.a l.strip l.from);
       least : l.strip.first ≤ l.from;
       near : l.from ≤ l.strip.last + 1;
     }

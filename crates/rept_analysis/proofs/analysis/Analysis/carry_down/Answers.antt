@@ -1,13 +1,13 @@
 use Rattle.std.proofs.Common.{◌+◌, ◌-◌, arith, ◌∙◌}
 use Rattle.rept_report.specs.Spots.{passage}
 use Rattle.rept_analysis.specs.State.{AnalysisState, state_of, reader}
-use Rattle.rept_analysis.specs.Drawing.{IsCarriedIf}
-use Rattle.rept_analysis.proofs.Drawn.{Drew_both, Drew_same, Grows_itself, Grows_trans}
+use Rattle.rept_analysis.specs.Inferring.{IsCarriedIf}
+use Rattle.rept_analysis.proofs.Conclusion.{HasInferred_both, HasInferred_same, Grows_itself, Grows_trans}
 use Rattle.rept_analysis.proofs.Going.{next_after}
 use Rattle.rept_analysis.proofs.analysis.Analysis.carry_down.Goals as goal
 
 pub loop-m-init : goal.loop-m-init
-loop-m-init g c = record { grows = Grows_itself _; drew = Drew_same _ (λ (x : AnalysisState g.row.W.Denot). Unit {0}) tt; below = omega arith }
+loop-m-init g c = record { grows = Grows_itself _; inferred = HasInferred_same _ (λ (x : AnalysisState g.row.W.Denot). Unit {0}) tt; below = omega arith }
 
 pub carry_step-requires-clause-next : goal.carry_step-requires-clause-next
 carry_step-requires-clause-next g c =
@@ -28,12 +28,12 @@ loop-m-preserved g c =
     let below = c.loop-m.invariant.below in
     record {
       grows = Grows_trans (state_of (reader g.P.Paths.timeline g.L.LastValues.values) g.W.Partial.sets g.W.Transfer.moves g.R.RowRules.rules g.B.ByteFacts.store c.args.self.now) (state_of (reader g.P.Paths.timeline g.L.LastValues.values) g.W.Partial.sets g.W.Transfer.moves g.R.RowRules.rules g.B.ByteFacts.store c.loop-m.self) (state_of (reader g.P.Paths.timeline g.L.LastValues.values) g.W.Partial.sets g.W.Transfer.moves g.R.RowRules.rules g.B.ByteFacts.store c.carry_step.new.self) c.loop-m.invariant.grows c.in_ok-new.ensures.grows;
-      drew = Drew_both (state_of (reader g.P.Paths.timeline g.L.LastValues.values) g.W.Partial.sets g.W.Transfer.moves g.R.RowRules.rules g.B.ByteFacts.store c.args.self.now) (state_of (reader g.P.Paths.timeline g.L.LastValues.values) g.W.Partial.sets g.W.Transfer.moves g.R.RowRules.rules g.B.ByteFacts.store c.loop-m.self) (state_of (reader g.P.Paths.timeline g.L.LastValues.values) g.W.Partial.sets g.W.Transfer.moves g.R.RowRules.rules g.B.ByteFacts.store c.carry_step.new.self) c.loop-m.learnt c.in_ok-new.new (λ (x : AnalysisState g.row.W.Denot). Unit {0}) (IsCarriedIf (passage c.args.a (c.loop-m.m - 1) (c.loop-m.m - 1 + 1))) (λ (x : AnalysisState g.row.W.Denot). Unit {0}) c.loop-m.invariant.grows c.in_ok-new.ensures.grows c.loop-m.invariant.drew c.in_ok-new.ensures.drew (λ p q. tt);
+      inferred = HasInferred_both (state_of (reader g.P.Paths.timeline g.L.LastValues.values) g.W.Partial.sets g.W.Transfer.moves g.R.RowRules.rules g.B.ByteFacts.store c.args.self.now) (state_of (reader g.P.Paths.timeline g.L.LastValues.values) g.W.Partial.sets g.W.Transfer.moves g.R.RowRules.rules g.B.ByteFacts.store c.loop-m.self) (state_of (reader g.P.Paths.timeline g.L.LastValues.values) g.W.Partial.sets g.W.Transfer.moves g.R.RowRules.rules g.B.ByteFacts.store c.carry_step.new.self) c.loop-m.learnt c.in_ok-new.new (λ (x : AnalysisState g.row.W.Denot). Unit {0}) (IsCarriedIf (passage c.args.a (c.loop-m.m - 1) (c.loop-m.m - 1 + 1))) (λ (x : AnalysisState g.row.W.Denot). Unit {0}) c.loop-m.invariant.grows c.in_ok-new.ensures.grows c.loop-m.invariant.inferred c.in_ok-new.ensures.inferred (λ p q. tt);
       below = omega (arith, more, below);
     }
 
-pub returns-then-not-new-clause-drew : goal.returns-then-not-new-clause-drew
-returns-then-not-new-clause-drew g c = Drew_both (state_of (reader g.P.Paths.timeline g.L.LastValues.values) g.W.Partial.sets g.W.Transfer.moves g.R.RowRules.rules g.B.ByteFacts.store c.args.self.now) (state_of (reader g.P.Paths.timeline g.L.LastValues.values) g.W.Partial.sets g.W.Transfer.moves g.R.RowRules.rules g.B.ByteFacts.store c.loop-m.self) (state_of (reader g.P.Paths.timeline g.L.LastValues.values) g.W.Partial.sets g.W.Transfer.moves g.R.RowRules.rules g.B.ByteFacts.store c.carry_step.new.self) c.loop-m.learnt c.in_ok-new.new (λ (x : AnalysisState g.row.W.Denot). Unit {0}) (IsCarriedIf (passage c.args.a (c.loop-m.m - 1) (c.loop-m.m - 1 + 1))) (λ (x : AnalysisState g.row.W.Denot). Unit {0}) c.loop-m.invariant.grows c.in_ok-new.ensures.grows c.loop-m.invariant.drew c.in_ok-new.ensures.drew (λ p q. tt)
+pub returns-then-not-new-clause-inferred : goal.returns-then-not-new-clause-inferred
+returns-then-not-new-clause-inferred g c = HasInferred_both (state_of (reader g.P.Paths.timeline g.L.LastValues.values) g.W.Partial.sets g.W.Transfer.moves g.R.RowRules.rules g.B.ByteFacts.store c.args.self.now) (state_of (reader g.P.Paths.timeline g.L.LastValues.values) g.W.Partial.sets g.W.Transfer.moves g.R.RowRules.rules g.B.ByteFacts.store c.loop-m.self) (state_of (reader g.P.Paths.timeline g.L.LastValues.values) g.W.Partial.sets g.W.Transfer.moves g.R.RowRules.rules g.B.ByteFacts.store c.carry_step.new.self) c.loop-m.learnt c.in_ok-new.new (λ (x : AnalysisState g.row.W.Denot). Unit {0}) (IsCarriedIf (passage c.args.a (c.loop-m.m - 1) (c.loop-m.m - 1 + 1))) (λ (x : AnalysisState g.row.W.Denot). Unit {0}) c.loop-m.invariant.grows c.in_ok-new.ensures.grows c.loop-m.invariant.inferred c.in_ok-new.ensures.inferred (λ p q. tt)
 
 pub carry_step-requires-clause-open : goal.carry_step-requires-clause-open
 carry_step-requires-clause-open g c = c.loop-m.invariant.grows.complete ∙ c.requires.open
@@ -41,8 +41,8 @@ carry_step-requires-clause-open g c = c.loop-m.invariant.grows.complete ∙ c.re
 pub returns-clause-grows : goal.returns-clause-grows
 returns-clause-grows g c = c.loop-m.invariant.grows
 
-pub returns-clause-drew : goal.returns-clause-drew
-returns-clause-drew g c = c.loop-m.invariant.drew
+pub returns-clause-inferred : goal.returns-clause-inferred
+returns-clause-inferred g c = c.loop-m.invariant.inferred
 
 pub returns-then-not-new-clause-grows : goal.returns-then-not-new-clause-grows
 returns-then-not-new-clause-grows g c = Grows_trans _ _ _ c.loop-m.invariant.grows c.in_ok-new.ensures.grows

@@ -1,11 +1,11 @@
 use Rattle.std.proofs.Common.{◌||◌, ap, arith}
 use Rattle.rept_analysis.specs.State.{Subject, AnalysisState, state_of, reader}
-use Rattle.rept_analysis.proofs.Drawn.{Drew_both, Drew_same, Grows_itself, Grows_trans}
+use Rattle.rept_analysis.proofs.Conclusion.{HasInferred_both, HasInferred_same, Grows_itself, Grows_trans}
 use Rattle.rept_analysis.proofs.Going.{strip_at}
 use Rattle.rept_analysis.proofs.analysis.Analysis.carry_edges.Goals as goal
 
 pub loop-from-init : goal.loop-from-init
-loop-from-init g c = record { grows = Grows_itself _; drew = Drew_same _ (λ (x : AnalysisState g.row.W.Denot). Unit {0}) tt; end_is = c.end-end.ensures.value }
+loop-from-init g c = record { grows = Grows_itself _; inferred = HasInferred_same _ (λ (x : AnalysisState g.row.W.Denot). Unit {0}) tt; end_is = c.end-end.ensures.value }
 
 pub strip_together-requires-clause-strip : goal.strip_together-requires-clause-strip
 strip_together-requires-clause-strip g c = let its = c.strip-strip.ensures in let low = its.from in let high = its.to in strip_at _ _ c.strip-strip.result.first c.strip-strip.result its (omega arith) (omega (arith, low, high))
@@ -34,9 +34,9 @@ returns-in_err-back-clause-grows g c = Grows_trans _ _ _ (Grows_trans _ _ _ c.lo
 pub loop-from-preserved : goal.loop-from-preserved
 loop-from-preserved g c =
     let to = Grows_trans (state_of (reader g.P.Paths.timeline g.L.LastValues.values) g.W.Partial.sets g.W.Transfer.moves g.R.RowRules.rules g.B.ByteFacts.store c.args.self.now) (state_of (reader g.P.Paths.timeline g.L.LastValues.values) g.W.Partial.sets g.W.Transfer.moves g.R.RowRules.rules g.B.ByteFacts.store c.loop-from.self) (state_of (reader g.P.Paths.timeline g.L.LastValues.values) g.W.Partial.sets g.W.Transfer.moves g.R.RowRules.rules g.B.ByteFacts.store c.strip_together.new.self) c.loop-from.invariant.grows c.in_ok-inside.ensures.grows in
-    let inside = Drew_both (state_of (reader g.P.Paths.timeline g.L.LastValues.values) g.W.Partial.sets g.W.Transfer.moves g.R.RowRules.rules g.B.ByteFacts.store c.args.self.now) (state_of (reader g.P.Paths.timeline g.L.LastValues.values) g.W.Partial.sets g.W.Transfer.moves g.R.RowRules.rules g.B.ByteFacts.store c.loop-from.self) (state_of (reader g.P.Paths.timeline g.L.LastValues.values) g.W.Partial.sets g.W.Transfer.moves g.R.RowRules.rules g.B.ByteFacts.store c.strip_together.new.self) c.loop-from.learnt c.in_ok-inside.inside (λ (x : AnalysisState g.row.W.Denot). Unit {0}) (λ (x : AnalysisState g.row.W.Denot). Unit {0}) (λ (x : AnalysisState g.row.W.Denot). Unit {0}) c.loop-from.invariant.grows c.in_ok-inside.ensures.grows c.loop-from.invariant.drew c.in_ok-inside.ensures.drew (λ p q. tt) in
+    let inside = HasInferred_both (state_of (reader g.P.Paths.timeline g.L.LastValues.values) g.W.Partial.sets g.W.Transfer.moves g.R.RowRules.rules g.B.ByteFacts.store c.args.self.now) (state_of (reader g.P.Paths.timeline g.L.LastValues.values) g.W.Partial.sets g.W.Transfer.moves g.R.RowRules.rules g.B.ByteFacts.store c.loop-from.self) (state_of (reader g.P.Paths.timeline g.L.LastValues.values) g.W.Partial.sets g.W.Transfer.moves g.R.RowRules.rules g.B.ByteFacts.store c.strip_together.new.self) c.loop-from.learnt c.in_ok-inside.inside (λ (x : AnalysisState g.row.W.Denot). Unit {0}) (λ (x : AnalysisState g.row.W.Denot). Unit {0}) (λ (x : AnalysisState g.row.W.Denot). Unit {0}) c.loop-from.invariant.grows c.in_ok-inside.ensures.grows c.loop-from.invariant.inferred c.in_ok-inside.ensures.inferred (λ p q. tt) in
     record {
       grows = Grows_trans (state_of (reader g.P.Paths.timeline g.L.LastValues.values) g.W.Partial.sets g.W.Transfer.moves g.R.RowRules.rules g.B.ByteFacts.store c.args.self.now) (state_of (reader g.P.Paths.timeline g.L.LastValues.values) g.W.Partial.sets g.W.Transfer.moves g.R.RowRules.rules g.B.ByteFacts.store c.strip_together.new.self) (state_of (reader g.P.Paths.timeline g.L.LastValues.values) g.W.Partial.sets g.W.Transfer.moves g.R.RowRules.rules g.B.ByteFacts.store c.carry_back.new.self) to c.in_ok-back.ensures.grows;
-      drew = Drew_both (state_of (reader g.P.Paths.timeline g.L.LastValues.values) g.W.Partial.sets g.W.Transfer.moves g.R.RowRules.rules g.B.ByteFacts.store c.args.self.now) (state_of (reader g.P.Paths.timeline g.L.LastValues.values) g.W.Partial.sets g.W.Transfer.moves g.R.RowRules.rules g.B.ByteFacts.store c.strip_together.new.self) (state_of (reader g.P.Paths.timeline g.L.LastValues.values) g.W.Partial.sets g.W.Transfer.moves g.R.RowRules.rules g.B.ByteFacts.store c.carry_back.new.self) (c.loop-from.learnt || c.in_ok-inside.inside) c.in_ok-back.back (λ (x : AnalysisState g.row.W.Denot). Unit {0}) (λ (x : AnalysisState g.row.W.Denot). Unit {0}) (λ (x : AnalysisState g.row.W.Denot). Unit {0}) to c.in_ok-back.ensures.grows inside c.in_ok-back.ensures.drew (λ p q. tt);
+      inferred = HasInferred_both (state_of (reader g.P.Paths.timeline g.L.LastValues.values) g.W.Partial.sets g.W.Transfer.moves g.R.RowRules.rules g.B.ByteFacts.store c.args.self.now) (state_of (reader g.P.Paths.timeline g.L.LastValues.values) g.W.Partial.sets g.W.Transfer.moves g.R.RowRules.rules g.B.ByteFacts.store c.strip_together.new.self) (state_of (reader g.P.Paths.timeline g.L.LastValues.values) g.W.Partial.sets g.W.Transfer.moves g.R.RowRules.rules g.B.ByteFacts.store c.carry_back.new.self) (c.loop-from.learnt || c.in_ok-inside.inside) c.in_ok-back.back (λ (x : AnalysisState g.row.W.Denot). Unit {0}) (λ (x : AnalysisState g.row.W.Denot). Unit {0}) (λ (x : AnalysisState g.row.W.Denot). Unit {0}) to c.in_ok-back.ensures.grows inside c.in_ok-back.ensures.inferred (λ p q. tt);
       end_is = c.loop-from.invariant.end_is;
     }

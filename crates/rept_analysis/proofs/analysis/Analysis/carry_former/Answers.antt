@@ -1,6 +1,6 @@
 use Rattle.std.proofs.Common.{◌-◌, arith, ◌∙◌}
 use Rattle.rept_analysis.specs.State.{AnalysisState, state_of, reader}
-use Rattle.rept_analysis.proofs.Drawn.{Drew_further, Grows_trans, Drew_same, Grows_itself}
+use Rattle.rept_analysis.proofs.Conclusion.{HasInferred_further, Grows_trans, HasInferred_same, Grows_itself}
 use Rattle.rept_analysis.proofs.Going.{strip_at, strip_after}
 use Rattle.rept_analysis.proofs.analysis.Analysis.carry_former.Goals as goal
 
@@ -20,30 +20,30 @@ returns-in_err-under-clause-grows g c = Grows_trans _ _ _ c.in_ok-new.ensures.gr
 pub returns-clause-grows : goal.returns-clause-grows
 returns-clause-grows g c = Grows_trans _ _ _ c.in_ok-new.ensures.grows c.in_ok-under.ensures.grows
 
-pub returns-clause-drew : goal.returns-clause-drew
-returns-clause-drew g c =
+pub returns-clause-inferred : goal.returns-clause-inferred
+returns-clause-inferred g c =
     let s = (state_of (reader g.P.Paths.timeline g.L.LastValues.values) g.W.Partial.sets g.W.Transfer.moves g.R.RowRules.rules g.B.ByteFacts.store c.args.self.now) in
     let t = (state_of (reader g.P.Paths.timeline g.L.LastValues.values) g.W.Partial.sets g.W.Transfer.moves g.R.RowRules.rules g.B.ByteFacts.store c.carry_over.new.self) in
     let u = (state_of (reader g.P.Paths.timeline g.L.LastValues.values) g.W.Partial.sets g.W.Transfer.moves g.R.RowRules.rules g.B.ByteFacts.store c.carry_under.new.self) in
-    Drew_further s t u c.in_ok-new.new c.in_ok-under.under.0 (λ (x : AnalysisState g.row.W.Denot). Unit {0}) (λ (x : AnalysisState g.row.W.Denot). Unit {0}) (λ (x : AnalysisState g.row.W.Denot). Unit {0}) c.in_ok-under.ensures.grows c.if-not-new.false c.in_ok-new.ensures.drew c.in_ok-under.ensures.drew
+    HasInferred_further s t u c.in_ok-new.new c.in_ok-under.under.0 (λ (x : AnalysisState g.row.W.Denot). Unit {0}) (λ (x : AnalysisState g.row.W.Denot). Unit {0}) (λ (x : AnalysisState g.row.W.Denot). Unit {0}) c.in_ok-under.ensures.grows c.if-not-new.false c.in_ok-new.ensures.inferred c.in_ok-under.ensures.inferred
 
-pub returns-then-not-is_dark_past-clause-grows : goal.returns-then-not-is_dark_past-clause-grows
-returns-then-not-is_dark_past-clause-grows g c = Grows_itself (state_of (reader g.P.Paths.timeline g.L.LastValues.values) g.W.Partial.sets g.W.Transfer.moves g.R.RowRules.rules g.B.ByteFacts.store c.args.self.now)
+pub returns-then-not-is_untraced_past-clause-grows : goal.returns-then-not-is_untraced_past-clause-grows
+returns-then-not-is_untraced_past-clause-grows g c = Grows_itself (state_of (reader g.P.Paths.timeline g.L.LastValues.values) g.W.Partial.sets g.W.Transfer.moves g.R.RowRules.rules g.B.ByteFacts.store c.args.self.now)
 
-pub returns-then-not-is_dark_past-clause-drew : goal.returns-then-not-is_dark_past-clause-drew
-returns-then-not-is_dark_past-clause-drew g c = Drew_same (state_of (reader g.P.Paths.timeline g.L.LastValues.values) g.W.Partial.sets g.W.Transfer.moves g.R.RowRules.rules g.B.ByteFacts.store c.args.self.now) (λ (x : AnalysisState g.row.W.Denot). Unit {0}) tt
+pub returns-then-not-is_untraced_past-clause-inferred : goal.returns-then-not-is_untraced_past-clause-inferred
+returns-then-not-is_untraced_past-clause-inferred g c = HasInferred_same (state_of (reader g.P.Paths.timeline g.L.LastValues.values) g.W.Partial.sets g.W.Transfer.moves g.R.RowRules.rules g.B.ByteFacts.store c.args.self.now) (λ (x : AnalysisState g.row.W.Denot). Unit {0}) tt
 
 pub returns-then-is_some-clause-grows : goal.returns-then-is_some-clause-grows
 returns-then-is_some-clause-grows g c = Grows_itself (state_of (reader g.P.Paths.timeline g.L.LastValues.values) g.W.Partial.sets g.W.Transfer.moves g.R.RowRules.rules g.B.ByteFacts.store c.args.self.now)
 
-pub returns-then-is_some-clause-drew : goal.returns-then-is_some-clause-drew
-returns-then-is_some-clause-drew g c = Drew_same (state_of (reader g.P.Paths.timeline g.L.LastValues.values) g.W.Partial.sets g.W.Transfer.moves g.R.RowRules.rules g.B.ByteFacts.store c.args.self.now) (λ (x : AnalysisState g.row.W.Denot). Unit {0}) tt
+pub returns-then-is_some-clause-inferred : goal.returns-then-is_some-clause-inferred
+returns-then-is_some-clause-inferred g c = HasInferred_same (state_of (reader g.P.Paths.timeline g.L.LastValues.values) g.W.Partial.sets g.W.Transfer.moves g.R.RowRules.rules g.B.ByteFacts.store c.args.self.now) (λ (x : AnalysisState g.row.W.Denot). Unit {0}) tt
 
 pub returns-then-not-new-clause-grows : goal.returns-then-not-new-clause-grows
 returns-then-not-new-clause-grows g c = c.in_ok-new.ensures.grows
 
-pub returns-then-not-new-clause-drew : goal.returns-then-not-new-clause-drew
-returns-then-not-new-clause-drew g c = rw c.if-not-new.true at c.in_ok-new.ensures.drew
+pub returns-then-not-new-clause-inferred : goal.returns-then-not-new-clause-inferred
+returns-then-not-new-clause-inferred g c = rw c.if-not-new.true at c.in_ok-new.ensures.inferred
 
 pub carry_under-requires-clause-open : goal.carry_under-requires-clause-open
 carry_under-requires-clause-open g c = c.in_ok-new.ensures.grows.complete ∙ c.requires.open

@@ -1,6 +1,6 @@
 use Rattle.std.proofs.Common.{ap, arith}
 use Rattle.rept_analysis.specs.State.{Subject, AnalysisState, state_of, reader}
-use Rattle.rept_analysis.proofs.Drawn.{Drew_both, Grows_trans}
+use Rattle.rept_analysis.proofs.Conclusion.{HasInferred_both, Grows_trans}
 use Rattle.rept_analysis.proofs.analysis.Analysis.carry_forth.Goals as goal
 
 pub loop-last-init : goal.loop-last-init
@@ -10,7 +10,7 @@ loop-last-init g c =
     let end = ap (λ (P : Subject g.row.W.Denot). P.given.moments.end) c.in_ok-learnt.ensures.grows.path in
     record {
       grows = c.in_ok-learnt.ensures.grows;
-      drew = c.in_ok-learnt.ensures.drew;
+      inferred = c.in_ok-learnt.ensures.inferred;
       high = omega (arith, high, end);
       inside = omega (arith, inside);
     }
@@ -36,7 +36,7 @@ loop-last-preserved g c =
     let same = ap (λ (P : Subject g.row.W.Denot). P.given.moments.end) c.in_ok-later.ensures.grows.path in
     record {
       grows = Grows_trans (state_of (reader g.P.Paths.timeline g.L.LastValues.values) g.W.Partial.sets g.W.Transfer.moves g.R.RowRules.rules g.B.ByteFacts.store c.args.self.now) (state_of (reader g.P.Paths.timeline g.L.LastValues.values) g.W.Partial.sets g.W.Transfer.moves g.R.RowRules.rules g.B.ByteFacts.store c.loop-last.self) (state_of (reader g.P.Paths.timeline g.L.LastValues.values) g.W.Partial.sets g.W.Transfer.moves g.R.RowRules.rules g.B.ByteFacts.store c.later_together.new.self) c.loop-last.invariant.grows c.in_ok-later.ensures.grows;
-      drew = Drew_both (state_of (reader g.P.Paths.timeline g.L.LastValues.values) g.W.Partial.sets g.W.Transfer.moves g.R.RowRules.rules g.B.ByteFacts.store c.args.self.now) (state_of (reader g.P.Paths.timeline g.L.LastValues.values) g.W.Partial.sets g.W.Transfer.moves g.R.RowRules.rules g.B.ByteFacts.store c.loop-last.self) (state_of (reader g.P.Paths.timeline g.L.LastValues.values) g.W.Partial.sets g.W.Transfer.moves g.R.RowRules.rules g.B.ByteFacts.store c.later_together.new.self) c.loop-last.learnt c.in_ok-later.later.0 (λ (x : AnalysisState g.row.W.Denot). Unit {0}) (λ (x : AnalysisState g.row.W.Denot). Unit {0}) (λ (x : AnalysisState g.row.W.Denot). Unit {0}) c.loop-last.invariant.grows c.in_ok-later.ensures.grows c.loop-last.invariant.drew c.in_ok-later.ensures.drew (λ p q. tt);
+      inferred = HasInferred_both (state_of (reader g.P.Paths.timeline g.L.LastValues.values) g.W.Partial.sets g.W.Transfer.moves g.R.RowRules.rules g.B.ByteFacts.store c.args.self.now) (state_of (reader g.P.Paths.timeline g.L.LastValues.values) g.W.Partial.sets g.W.Transfer.moves g.R.RowRules.rules g.B.ByteFacts.store c.loop-last.self) (state_of (reader g.P.Paths.timeline g.L.LastValues.values) g.W.Partial.sets g.W.Transfer.moves g.R.RowRules.rules g.B.ByteFacts.store c.later_together.new.self) c.loop-last.learnt c.in_ok-later.later.0 (λ (x : AnalysisState g.row.W.Denot). Unit {0}) (λ (x : AnalysisState g.row.W.Denot). Unit {0}) (λ (x : AnalysisState g.row.W.Denot). Unit {0}) c.loop-last.invariant.grows c.in_ok-later.ensures.grows c.loop-last.invariant.inferred c.in_ok-later.ensures.inferred (λ p q. tt);
       high = omega (arith, high, end, same);
       inside = omega (arith, up, end);
     }
@@ -51,7 +51,7 @@ loop-last-preserved-then-later g c =
     let same = ap (λ (P : Subject g.row.W.Denot). P.given.moments.end) c.in_ok-later.ensures.grows.path in
     record {
       grows = Grows_trans (state_of (reader g.P.Paths.timeline g.L.LastValues.values) g.W.Partial.sets g.W.Transfer.moves g.R.RowRules.rules g.B.ByteFacts.store c.args.self.now) (state_of (reader g.P.Paths.timeline g.L.LastValues.values) g.W.Partial.sets g.W.Transfer.moves g.R.RowRules.rules g.B.ByteFacts.store c.loop-last.self) (state_of (reader g.P.Paths.timeline g.L.LastValues.values) g.W.Partial.sets g.W.Transfer.moves g.R.RowRules.rules g.B.ByteFacts.store c.later_together.new.self) c.loop-last.invariant.grows c.in_ok-later.ensures.grows;
-      drew = Drew_both (state_of (reader g.P.Paths.timeline g.L.LastValues.values) g.W.Partial.sets g.W.Transfer.moves g.R.RowRules.rules g.B.ByteFacts.store c.args.self.now) (state_of (reader g.P.Paths.timeline g.L.LastValues.values) g.W.Partial.sets g.W.Transfer.moves g.R.RowRules.rules g.B.ByteFacts.store c.loop-last.self) (state_of (reader g.P.Paths.timeline g.L.LastValues.values) g.W.Partial.sets g.W.Transfer.moves g.R.RowRules.rules g.B.ByteFacts.store c.later_together.new.self) c.loop-last.learnt c.in_ok-later.later.0 (λ (x : AnalysisState g.row.W.Denot). Unit {0}) (λ (x : AnalysisState g.row.W.Denot). Unit {0}) (λ (x : AnalysisState g.row.W.Denot). Unit {0}) c.loop-last.invariant.grows c.in_ok-later.ensures.grows c.loop-last.invariant.drew c.in_ok-later.ensures.drew (λ p q. tt);
+      inferred = HasInferred_both (state_of (reader g.P.Paths.timeline g.L.LastValues.values) g.W.Partial.sets g.W.Transfer.moves g.R.RowRules.rules g.B.ByteFacts.store c.args.self.now) (state_of (reader g.P.Paths.timeline g.L.LastValues.values) g.W.Partial.sets g.W.Transfer.moves g.R.RowRules.rules g.B.ByteFacts.store c.loop-last.self) (state_of (reader g.P.Paths.timeline g.L.LastValues.values) g.W.Partial.sets g.W.Transfer.moves g.R.RowRules.rules g.B.ByteFacts.store c.later_together.new.self) c.loop-last.learnt c.in_ok-later.later.0 (λ (x : AnalysisState g.row.W.Denot). Unit {0}) (λ (x : AnalysisState g.row.W.Denot). Unit {0}) (λ (x : AnalysisState g.row.W.Denot). Unit {0}) c.loop-last.invariant.grows c.in_ok-later.ensures.grows c.loop-last.invariant.inferred c.in_ok-later.ensures.inferred (λ p q. tt);
       high = omega (arith, high, most, reached, end, same);
       inside = omega (arith, up, end);
     }

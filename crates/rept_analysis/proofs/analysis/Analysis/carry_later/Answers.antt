@@ -1,7 +1,7 @@
 use Rattle.std.proofs.Common.{◌||◌, arith, ◌∙◌, ◌≤◌, sym, subst}
 use Rattle.rept_analysis.specs.State.{AnalysisState, state_of, reader, Subject}
-use Rattle.rept_analysis.specs.Drawing.{IsCarriedIn}
-use Rattle.rept_analysis.proofs.Drawn.{Drew_both, Grows_trans}
+use Rattle.rept_analysis.specs.Inferring.{IsCarriedIn}
+use Rattle.rept_analysis.proofs.Conclusion.{HasInferred_both, Grows_trans}
 use Rattle.rept_analysis.proofs.Going.{strip_at}
 use Rattle.rept_analysis.proofs.analysis.Analysis.carry_later.Goals as goal
 
@@ -21,10 +21,10 @@ returns-in_err-links-clause-grows g c = Grows_trans _ _ _ (Grows_trans _ _ _ c.i
 pub returns-clause-grows : goal.returns-clause-grows
 returns-clause-grows g c = Grows_trans _ _ _ (Grows_trans _ _ _ c.in_ok-inside.ensures.grows c.in_ok-up.ensures.grows) c.in_ok-links.ensures.grows
 
-pub returns-clause-drew : goal.returns-clause-drew
-returns-clause-drew g c =
-    let inside = Drew_both (state_of (reader g.P.Paths.timeline g.L.LastValues.values) g.W.Partial.sets g.W.Transfer.moves g.R.RowRules.rules g.B.ByteFacts.store c.args.self.now) (state_of (reader g.P.Paths.timeline g.L.LastValues.values) g.W.Partial.sets g.W.Transfer.moves g.R.RowRules.rules g.B.ByteFacts.store c.carry_strip.new.self) (state_of (reader g.P.Paths.timeline g.L.LastValues.values) g.W.Partial.sets g.W.Transfer.moves g.R.RowRules.rules g.B.ByteFacts.store c.leap_up.new.self) c.in_ok-inside.inside c.in_ok-up.up.0 (IsCarriedIn c.args.a c.strip-later.result) (λ (x : AnalysisState g.row.W.Denot). Unit {0}) (λ (x : AnalysisState g.row.W.Denot). Unit {0}) c.in_ok-inside.ensures.grows c.in_ok-up.ensures.grows c.in_ok-inside.ensures.drew c.in_ok-up.ensures.drew (λ p q. tt) in
-    Drew_both (state_of (reader g.P.Paths.timeline g.L.LastValues.values) g.W.Partial.sets g.W.Transfer.moves g.R.RowRules.rules g.B.ByteFacts.store c.args.self.now) (state_of (reader g.P.Paths.timeline g.L.LastValues.values) g.W.Partial.sets g.W.Transfer.moves g.R.RowRules.rules g.B.ByteFacts.store c.leap_up.new.self) (state_of (reader g.P.Paths.timeline g.L.LastValues.values) g.W.Partial.sets g.W.Transfer.moves g.R.RowRules.rules g.B.ByteFacts.store c.carry_links_on.new.self) (c.in_ok-inside.inside || c.in_ok-up.up.0) c.in_ok-links.links (λ (x : AnalysisState g.row.W.Denot). Unit {0}) (λ (x : AnalysisState g.row.W.Denot). Unit {0}) (λ (x : AnalysisState g.row.W.Denot). Unit {0}) (Grows_trans (state_of (reader g.P.Paths.timeline g.L.LastValues.values) g.W.Partial.sets g.W.Transfer.moves g.R.RowRules.rules g.B.ByteFacts.store c.args.self.now) (state_of (reader g.P.Paths.timeline g.L.LastValues.values) g.W.Partial.sets g.W.Transfer.moves g.R.RowRules.rules g.B.ByteFacts.store c.carry_strip.new.self) (state_of (reader g.P.Paths.timeline g.L.LastValues.values) g.W.Partial.sets g.W.Transfer.moves g.R.RowRules.rules g.B.ByteFacts.store c.leap_up.new.self) c.in_ok-inside.ensures.grows c.in_ok-up.ensures.grows) c.in_ok-links.ensures.grows inside c.in_ok-links.ensures.drew (λ p q. tt)
+pub returns-clause-inferred : goal.returns-clause-inferred
+returns-clause-inferred g c =
+    let inside = HasInferred_both (state_of (reader g.P.Paths.timeline g.L.LastValues.values) g.W.Partial.sets g.W.Transfer.moves g.R.RowRules.rules g.B.ByteFacts.store c.args.self.now) (state_of (reader g.P.Paths.timeline g.L.LastValues.values) g.W.Partial.sets g.W.Transfer.moves g.R.RowRules.rules g.B.ByteFacts.store c.carry_strip.new.self) (state_of (reader g.P.Paths.timeline g.L.LastValues.values) g.W.Partial.sets g.W.Transfer.moves g.R.RowRules.rules g.B.ByteFacts.store c.leap_up.new.self) c.in_ok-inside.inside c.in_ok-up.up.0 (IsCarriedIn c.args.a c.strip-later.result) (λ (x : AnalysisState g.row.W.Denot). Unit {0}) (λ (x : AnalysisState g.row.W.Denot). Unit {0}) c.in_ok-inside.ensures.grows c.in_ok-up.ensures.grows c.in_ok-inside.ensures.inferred c.in_ok-up.ensures.inferred (λ p q. tt) in
+    HasInferred_both (state_of (reader g.P.Paths.timeline g.L.LastValues.values) g.W.Partial.sets g.W.Transfer.moves g.R.RowRules.rules g.B.ByteFacts.store c.args.self.now) (state_of (reader g.P.Paths.timeline g.L.LastValues.values) g.W.Partial.sets g.W.Transfer.moves g.R.RowRules.rules g.B.ByteFacts.store c.leap_up.new.self) (state_of (reader g.P.Paths.timeline g.L.LastValues.values) g.W.Partial.sets g.W.Transfer.moves g.R.RowRules.rules g.B.ByteFacts.store c.carry_links_on.new.self) (c.in_ok-inside.inside || c.in_ok-up.up.0) c.in_ok-links.links (λ (x : AnalysisState g.row.W.Denot). Unit {0}) (λ (x : AnalysisState g.row.W.Denot). Unit {0}) (λ (x : AnalysisState g.row.W.Denot). Unit {0}) (Grows_trans (state_of (reader g.P.Paths.timeline g.L.LastValues.values) g.W.Partial.sets g.W.Transfer.moves g.R.RowRules.rules g.B.ByteFacts.store c.args.self.now) (state_of (reader g.P.Paths.timeline g.L.LastValues.values) g.W.Partial.sets g.W.Transfer.moves g.R.RowRules.rules g.B.ByteFacts.store c.carry_strip.new.self) (state_of (reader g.P.Paths.timeline g.L.LastValues.values) g.W.Partial.sets g.W.Transfer.moves g.R.RowRules.rules g.B.ByteFacts.store c.leap_up.new.self) c.in_ok-inside.ensures.grows c.in_ok-up.ensures.grows) c.in_ok-links.ensures.grows inside c.in_ok-links.ensures.inferred (λ p q. tt)
 
 pub leap_up-requires-clause-inside : goal.leap_up-requires-clause-inside
 leap_up-requires-clause-inside g c = subst (λ (P : Subject g.row.W.Denot). c.strip-later.result.last ≤ P.given.moments.end) (sym (c.in_ok-inside.ensures.grows.path)) c.strip-later.ensures.inside

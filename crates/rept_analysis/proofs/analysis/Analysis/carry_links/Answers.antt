@@ -2,16 +2,16 @@ use Rattle.std.proofs.Common.{ℕ, ◌+◌, ◌<◌, ◌≤◌, Some, None, refl
 use Rattle.rept_report.specs.Timeline.{IsNextFrom}
 use Rattle.rept_report.specs.Spots.{passage}
 use Rattle.rept_analysis.specs.State.{AnalysisState, Whole, state_of, reader}
-use Rattle.rept_analysis.specs.Drawing.{Grows, Drew, IsCarriedIf, AreBlocked, AreLinksBelow, AreLinks}
-use Rattle.rept_analysis.proofs.Drawn.{Drew_as, Drew_both, Drew_first, Drew_same, Grows_itself, Grows_trans}
+use Rattle.rept_analysis.specs.Inferring.{Grows, HasInferred, IsCarriedIf, AreBlocked, AreLinksBelow, AreLinks}
+use Rattle.rept_analysis.proofs.Conclusion.{HasInferred_as, HasInferred_both, HasInferred_first, HasInferred_same, Grows_itself, Grows_trans}
 use Rattle.rept_analysis.proofs.Going.{next_none, links_first, links_far, links_none, links_end, links_blocked}
 use Rattle.rept_analysis.proofs.analysis.Analysis.carry_links.Goals as goal
 
 pub loop-least-init : goal.loop-least-init
-loop-least-init g c = record { grows = Grows_itself _; drew = Drew_same _ _ (links_first _ c.args.a c.args.m); end_is = c.end-end.ensures.value }
+loop-least-init g c = record { grows = Grows_itself _; inferred = HasInferred_same _ _ (links_first _ c.args.a c.args.m); end_is = c.end-end.ensures.value }
 
-pub returns-in_default-clause-drew : goal.returns-in_default-clause-drew
-returns-in_default-clause-drew g c =
+pub returns-in_default-clause-inferred : goal.returns-in_default-clause-inferred
+returns-in_default-clause-inferred g c =
     let s = (state_of (reader g.P.Paths.timeline g.L.LastValues.values) g.W.Partial.sets g.W.Transfer.moves g.R.RowRules.rules g.B.ByteFacts.store c.args.self.now) in
     let t = (state_of (reader g.P.Paths.timeline g.L.LastValues.values) g.W.Partial.sets g.W.Transfer.moves g.R.RowRules.rules g.B.ByteFacts.store c.loop-least.self) in
     let least = c.loop-least.least in
@@ -19,7 +19,7 @@ returns-in_default-clause-drew g c =
     let a = c.args.a in
     let m = c.args.m in
     let Q : AnalysisState g.row.W.Denot → Type 0 = λ x. (AreLinksBelow a m least x → AreLinksBelow a m from x) × IsNextFrom x.path.given.moments m from None in
-    Drew_first s t t c.loop-least.has_news false (AreLinksBelow c.args.a c.args.m least) Q (AreLinks c.args.a c.args.m) (Grows_itself t) refl c.loop-least.invariant.drew (Drew_same t Q (c.idle_to-from.ensures.below, next_none t.path.given.moments m from c.next_from.result c.in_default.not-Some c.next_from.ensures)) (λ p q. links_none s a m from (q.0 p) q.1)
+    HasInferred_first s t t c.loop-least.has_news false (AreLinksBelow c.args.a c.args.m least) Q (AreLinks c.args.a c.args.m) (Grows_itself t) refl c.loop-least.invariant.inferred (HasInferred_same t Q (c.idle_to-from.ensures.below, next_none t.path.given.moments m from c.next_from.result c.in_default.not-Some c.next_from.ensures)) (λ p q. links_none s a m from (q.0 p) q.1)
 
 pub carry_next-requires-clause-next : goal.carry_next-requires-clause-next
 carry_next-requires-clause-next g c = (rw c.in-Some.is at c.next_from.ensures).0
@@ -48,19 +48,19 @@ loop-least-preserved g c =
     let P : AnalysisState g.row.W.Denot → Type 0 = λ x. (AreLinksBelow a m least x → AreLinksBelow a m from x) × IsNextFrom x.path.given.moments m from (Some next) × Q x in
     record {
       grows = Grows_trans s t u i.grows e.grows;
-      drew = Drew_both s t u c.loop-least.has_news c.in_ok-done.done.0.has_news (AreLinksBelow a m least) P (AreLinksBelow a m n) i.grows e.grows i.drew
-          (Drew_as t u c.in_ok-done.done.0.has_news Q P e.drew (λ h. (c.idle_to-from.ensures.below, its, h)))
+      inferred = HasInferred_both s t u c.loop-least.has_news c.in_ok-done.done.0.has_news (AreLinksBelow a m least) P (AreLinksBelow a m n) i.grows e.grows i.inferred
+          (HasInferred_as t u c.in_ok-done.done.0.has_news Q P e.inferred (λ h. (c.idle_to-from.ensures.below, its, h)))
           (λ p q. links_far s a m from (q.0 p) next n q.1 q.2);
       end_is = i.end_is;
     }
 
-pub returns-clause-drew : goal.returns-clause-drew
-returns-clause-drew g c =
+pub returns-clause-inferred : goal.returns-clause-inferred
+returns-clause-inferred g c =
     let s = (state_of (reader g.P.Paths.timeline g.L.LastValues.values) g.W.Partial.sets g.W.Transfer.moves g.R.RowRules.rules g.B.ByteFacts.store c.args.self.now) in
     let t = (state_of (reader g.P.Paths.timeline g.L.LastValues.values) g.W.Partial.sets g.W.Transfer.moves g.R.RowRules.rules g.B.ByteFacts.store c.loop-least.self) in
     let end = c.loop-least.invariant.end_is in
     let ended = c.loop-least-test.false in
-    Drew_as s t c.loop-least.has_news (AreLinksBelow c.args.a c.args.m c.loop-least.least) (AreLinks c.args.a c.args.m) c.loop-least.invariant.drew (λ p. links_end s c.args.a c.args.m c.loop-least.least p (g.met.P.Paths.lawful c.args.self.now.paths).moments.inside (omega (arith, end, ended)))
+    HasInferred_as s t c.loop-least.has_news (AreLinksBelow c.args.a c.args.m c.loop-least.least) (AreLinks c.args.a c.args.m) c.loop-least.invariant.inferred (λ p. links_end s c.args.a c.args.m c.loop-least.least p (g.met.P.Paths.lawful c.args.self.now.paths).moments.inside (omega (arith, end, ended)))
 
 pub is_blocked-requires : goal.is_blocked-requires
 is_blocked-requires g c = record { writings = c.loop-least.invariant.grows.writing c.requires.writings }
@@ -70,14 +70,14 @@ returns-then-is_blocked-clause-grows g c =
     let st = state_of (reader g.P.Paths.timeline g.L.LastValues.values) g.W.Partial.sets g.W.Transfer.moves g.R.RowRules.rules g.B.ByteFacts.store in
     subst (λ (x : Whole g.row.P.Denot g.row.L.Denot g.row.B.Denot g.row.W.Denot g.row.R.Denot). Grows (st c.args.self.now) (st x)) (sym c.note_wall.ensures) c.loop-least.invariant.grows
 
-pub returns-then-is_blocked-clause-drew : goal.returns-then-is_blocked-clause-drew
-returns-then-is_blocked-clause-drew g c =
+pub returns-then-is_blocked-clause-inferred : goal.returns-then-is_blocked-clause-inferred
+returns-then-is_blocked-clause-inferred g c =
     let st = state_of (reader g.P.Paths.timeline g.L.LastValues.values) g.W.Partial.sets g.W.Transfer.moves g.R.RowRules.rules g.B.ByteFacts.store in
     let s = st c.args.self.now in
     let t = st c.loop-least.self in
     let Q : AnalysisState g.row.W.Denot → Type 0 = AreBlocked c.args.a c.args.m in
-    subst (λ (x : Whole g.row.P.Denot g.row.L.Denot g.row.B.Denot g.row.W.Denot g.row.R.Denot). Drew s (st x) c.loop-least.has_news (AreLinks c.args.a c.args.m)) (sym c.note_wall.ensures)
-    (Drew_first s t t c.loop-least.has_news false (AreLinksBelow c.args.a c.args.m c.loop-least.least) Q (AreLinks c.args.a c.args.m) (Grows_itself t) refl c.loop-least.invariant.drew (Drew_same t Q (c.is_blocked.ensures c.if-is_blocked.true)) (λ p q. links_blocked s c.args.a c.args.m q))
+    subst (λ (x : Whole g.row.P.Denot g.row.L.Denot g.row.B.Denot g.row.W.Denot g.row.R.Denot). HasInferred s (st x) c.loop-least.has_news (AreLinks c.args.a c.args.m)) (sym c.note_wall.ensures)
+    (HasInferred_first s t t c.loop-least.has_news false (AreLinksBelow c.args.a c.args.m c.loop-least.least) Q (AreLinks c.args.a c.args.m) (Grows_itself t) refl c.loop-least.invariant.inferred (HasInferred_same t Q (c.is_blocked.ensures c.if-is_blocked.true)) (λ p q. links_blocked s c.args.a c.args.m q))
 
 pub idle_to-from-requires-clause-writings : goal.idle_to-from-requires-clause-writings
 idle_to-from-requires-clause-writings g c = c.loop-least.invariant.grows.writing c.requires.writings

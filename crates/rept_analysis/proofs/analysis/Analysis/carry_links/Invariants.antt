@@ -1,6 +1,6 @@
 use Rattle.std.proofs.Common.{◌≡◌, ◌+◌, ◌-◌}
 use Rattle.rept_analysis.specs.State.{state_of, reader}
-use Rattle.rept_analysis.specs.Drawing.{Grows, Drew, AreLinksBelow}
+use Rattle.rept_analysis.specs.Inferring.{Grows, HasInferred, AreLinksBelow}
 use Rattle.rept_analysis.proofs.analysis.Analysis.carry_links.Given as goal
 
 abbrev pub invariant-loop-least : goal.invariant-loop-least
@@ -8,7 +8,7 @@ invariant-loop-least g l =
     let st = state_of (reader g.P.Paths.timeline g.L.LastValues.values) g.W.Partial.sets g.W.Transfer.moves g.R.RowRules.rules g.B.ByteFacts.store in
     record {
       grows : Grows (st l.fn.self) (st l.self);
-      drew : Drew (st l.fn.self) (st l.self) l.has_news (AreLinksBelow l.a l.m l.least);
+      inferred : HasInferred (st l.fn.self) (st l.self) l.has_news (AreLinksBelow l.a l.m l.least);
       end_is : l.end ≡ (st l.fn.self).path.given.moments.end;
     }
 

@@ -1,5 +1,5 @@
 use Rattle.rept_analysis.specs.State.{AnalysisState, state_of, reader}
-use Rattle.rept_analysis.proofs.Drawn.{Drew_both, Grows_trans}
+use Rattle.rept_analysis.proofs.Conclusion.{HasInferred_both, Grows_trans}
 use Rattle.rept_analysis.proofs.Listing.{writings_after}
 use Rattle.rept_analysis.proofs.analysis.Analysis.carry_near.Goals as goal
 
@@ -12,6 +12,6 @@ returns-in_err-new-clause-grows g c = Grows_trans _ _ _ c.loop-k.invariant.grows
 pub loop-k-preserved : goal.loop-k-preserved
 loop-k-preserved g c = record {
   grows = Grows_trans _ _ _ c.loop-k.invariant.grows c.in_ok-new.ensures.grows;
-  drew = Drew_both (state_of (reader g.P.Paths.timeline g.L.LastValues.values) g.W.Partial.sets g.W.Transfer.moves g.R.RowRules.rules g.B.ByteFacts.store c.args.self.now) (state_of (reader g.P.Paths.timeline g.L.LastValues.values) g.W.Partial.sets g.W.Transfer.moves g.R.RowRules.rules g.B.ByteFacts.store c.loop-k.self) _ c.loop-k.learnt c.in_ok-new.new (λ (x : AnalysisState g.row.W.Denot). Unit {0}) (λ (x : AnalysisState g.row.W.Denot). Unit {0}) (λ (x : AnalysisState g.row.W.Denot). Unit {0})
-      c.loop-k.invariant.grows c.in_ok-new.ensures.grows c.loop-k.invariant.drew c.in_ok-new.ensures.drew (λ p q. tt);
+  inferred = HasInferred_both (state_of (reader g.P.Paths.timeline g.L.LastValues.values) g.W.Partial.sets g.W.Transfer.moves g.R.RowRules.rules g.B.ByteFacts.store c.args.self.now) (state_of (reader g.P.Paths.timeline g.L.LastValues.values) g.W.Partial.sets g.W.Transfer.moves g.R.RowRules.rules g.B.ByteFacts.store c.loop-k.self) _ c.loop-k.learnt c.in_ok-new.new (λ (x : AnalysisState g.row.W.Denot). Unit {0}) (λ (x : AnalysisState g.row.W.Denot). Unit {0}) (λ (x : AnalysisState g.row.W.Denot). Unit {0})
+      c.loop-k.invariant.grows c.in_ok-new.ensures.grows c.loop-k.invariant.inferred c.in_ok-new.ensures.inferred (λ p q. tt);
 }

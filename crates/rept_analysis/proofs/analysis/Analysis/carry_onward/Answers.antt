@@ -1,13 +1,13 @@
 use Rattle.std.proofs.Common.{◌+◌, ◌||◌, false, refl, ap, arith}
 use Rattle.rept_analysis.specs.State.{Subject, AnalysisState, timeline_of, state_of, reader}
 use Rattle.rept_report.specs.Timeline.{IsStrip}
-use Rattle.rept_analysis.specs.Drawing.{IsCarriedIn, AreLinks, IsCarriedUpTo, IsCarriedAlong}
-use Rattle.rept_analysis.proofs.Drawn.{Drew_as, Drew_both, Drew_first, Drew_same, Grows_itself, Grows_trans}
+use Rattle.rept_analysis.specs.Inferring.{IsCarriedIn, AreLinks, IsCarriedUpTo, IsCarriedAlong}
+use Rattle.rept_analysis.proofs.Conclusion.{HasInferred_as, HasInferred_both, HasInferred_first, HasInferred_same, Grows_itself, Grows_trans}
 use Rattle.rept_analysis.proofs.Going.{strip_at, up_to_none, up_to_more, up_to_all}
 use Rattle.rept_analysis.proofs.analysis.Analysis.carry_onward.Goals as goal
 
 pub loop-from-init : goal.loop-from-init
-loop-from-init g c = record { grows = Grows_itself _; drew = Drew_same _ _ (up_to_none _ c.args.a); end_is = c.end-end.ensures.value }
+loop-from-init g c = record { grows = Grows_itself _; inferred = HasInferred_same _ _ (up_to_none _ c.args.a); end_is = c.end-end.ensures.value }
 
 pub carry_strip-requires-clause-strip : goal.carry_strip-requires-clause-strip
 carry_strip-requires-clause-strip g c = let its = c.strip-strip.ensures in strip_at _ c.loop-from.from c.strip-strip.result.first c.strip-strip.result its (omega arith) (let low = its.from in let high = its.to in omega (arith, low, high))
@@ -82,24 +82,24 @@ loop-from-preserved g c =
     let R : AnalysisState g.row.W.Denot → Type 0 = λ y. IsCarriedUpTo a from y × P y in
     let to = Grows_trans s t u i.grows c.in_ok-inside.ensures.grows in
     let further = Grows_trans s u x to c.in_ok-up.ensures.grows in
-    let inside = Drew_both s t u c.loop-from.learnt c.in_ok-inside.inside (IsCarriedUpTo a from) P R i.grows c.in_ok-inside.ensures.grows i.drew
-    (Drew_as t u c.in_ok-inside.inside (IsCarriedIn a strip) P c.in_ok-inside.ensures.drew (λ h. (c.strip-strip.ensures, h))) (λ p q. (p, q)) in
-    let up = Drew_both s u x (c.loop-from.learnt || c.in_ok-inside.inside) c.in_ok-up.up R (λ (y : AnalysisState g.row.W.Denot). Unit {0}) R to c.in_ok-up.ensures.grows inside c.in_ok-up.ensures.drew (λ p q. p) in
-    let links = Drew_both s x v (c.loop-from.learnt || c.in_ok-inside.inside || c.in_ok-up.up) c.in_ok-links.links R (AreLinks a strip.last) (IsCarriedUpTo a (strip.last + 1)) further c.in_ok-links.ensures.grows up c.in_ok-links.ensures.drew
+    let inside = HasInferred_both s t u c.loop-from.learnt c.in_ok-inside.inside (IsCarriedUpTo a from) P R i.grows c.in_ok-inside.ensures.grows i.inferred
+    (HasInferred_as t u c.in_ok-inside.inside (IsCarriedIn a strip) P c.in_ok-inside.ensures.inferred (λ h. (c.strip-strip.ensures, h))) (λ p q. (p, q)) in
+    let up = HasInferred_both s u x (c.loop-from.learnt || c.in_ok-inside.inside) c.in_ok-up.up R (λ (y : AnalysisState g.row.W.Denot). Unit {0}) R to c.in_ok-up.ensures.grows inside c.in_ok-up.ensures.inferred (λ p q. p) in
+    let links = HasInferred_both s x v (c.loop-from.learnt || c.in_ok-inside.inside || c.in_ok-up.up) c.in_ok-links.links R (AreLinks a strip.last) (IsCarriedUpTo a (strip.last + 1)) further c.in_ok-links.ensures.grows up c.in_ok-links.ensures.inferred
     (λ p q. up_to_more s a from from strip p.1.0 (p.1.0).from p.0 p.1.1 q) in
     let Q : AnalysisState g.row.W.Denot → Type 0 = λ y. IsCarriedUpTo a (strip.last + 1) y → IsCarriedUpTo a c.uneven_from-from.result y in
     let reached = Grows_trans s x v further c.in_ok-links.ensures.grows in
-    let others = Drew_both s v w (c.loop-from.learnt || c.in_ok-inside.inside || c.in_ok-up.up || c.in_ok-links.links) c.in_ok-others.others (IsCarriedUpTo a (strip.last + 1)) (λ (y : AnalysisState g.row.W.Denot). Unit {0}) (IsCarriedUpTo a (strip.last + 1)) reached c.in_ok-others.ensures.grows links c.in_ok-others.ensures.drew (λ p q. p) in
+    let others = HasInferred_both s v w (c.loop-from.learnt || c.in_ok-inside.inside || c.in_ok-up.up || c.in_ok-links.links) c.in_ok-others.others (IsCarriedUpTo a (strip.last + 1)) (λ (y : AnalysisState g.row.W.Denot). Unit {0}) (IsCarriedUpTo a (strip.last + 1)) reached c.in_ok-others.ensures.grows links c.in_ok-others.ensures.inferred (λ p q. p) in
     record {
       grows = Grows_trans s v w reached c.in_ok-others.ensures.grows;
-      drew = Drew_first s w w (c.loop-from.learnt || c.in_ok-inside.inside || c.in_ok-up.up || c.in_ok-links.links || c.in_ok-others.others) false (IsCarriedUpTo a (strip.last + 1)) Q (IsCarriedUpTo a c.uneven_from-from.result) (Grows_itself w) refl others (Drew_same w Q c.uneven_from-from.ensures.up) (λ p q. q p);
+      inferred = HasInferred_first s w w (c.loop-from.learnt || c.in_ok-inside.inside || c.in_ok-up.up || c.in_ok-links.links || c.in_ok-others.others) false (IsCarriedUpTo a (strip.last + 1)) Q (IsCarriedUpTo a c.uneven_from-from.result) (Grows_itself w) refl others (HasInferred_same w Q c.uneven_from-from.ensures.up) (λ p q. q p);
       end_is = i.end_is;
     }
 
-pub returns-clause-drew : goal.returns-clause-drew
-returns-clause-drew g c =
+pub returns-clause-inferred : goal.returns-clause-inferred
+returns-clause-inferred g c =
     let s = (state_of (reader g.P.Paths.timeline g.L.LastValues.values) g.W.Partial.sets g.W.Transfer.moves g.R.RowRules.rules g.B.ByteFacts.store c.args.self.now) in
     let t = (state_of (reader g.P.Paths.timeline g.L.LastValues.values) g.W.Partial.sets g.W.Transfer.moves g.R.RowRules.rules g.B.ByteFacts.store c.loop-from.self) in
     let end = c.loop-from.invariant.end_is in
     let ended = c.loop-from-test.false in
-    Drew_as s t c.loop-from.learnt (IsCarriedUpTo c.args.a c.loop-from.from) (IsCarriedAlong c.args.a) c.loop-from.invariant.drew (λ p. up_to_all s c.args.a c.loop-from.from (g.met.P.Paths.lawful c.args.self.now.paths).moments.inside (omega (arith, end, ended)) p)
+    HasInferred_as s t c.loop-from.learnt (IsCarriedUpTo c.args.a c.loop-from.from) (IsCarriedAlong c.args.a) c.loop-from.invariant.inferred (λ p. up_to_all s c.args.a c.loop-from.from (g.met.P.Paths.lawful c.args.self.now.paths).moments.inside (omega (arith, end, ended)) p)

@@ -1,6 +1,6 @@
 use Rattle.std.proofs.Common.{◌≡◌, ◌+◌, ◌-◌}
 use Rattle.rept_analysis.specs.State.{state_of, reader}
-use Rattle.rept_analysis.specs.Drawing.{Grows, Drew, IsCarriedUpTo}
+use Rattle.rept_analysis.specs.Inferring.{Grows, HasInferred, IsCarriedUpTo}
 use Rattle.rept_analysis.proofs.analysis.Analysis.carry_onward.Given as goal
 
 abbrev pub invariant-loop-from : goal.invariant-loop-from
@@ -8,7 +8,7 @@ invariant-loop-from g l =
     let st = state_of (reader g.P.Paths.timeline g.L.LastValues.values) g.W.Partial.sets g.W.Transfer.moves g.R.RowRules.rules g.B.ByteFacts.store in
     record {
       grows : Grows (st l.fn.self) (st l.self);
-      drew : Drew (st l.fn.self) (st l.self) l.learnt (IsCarriedUpTo l.a l.from);
+      inferred : HasInferred (st l.fn.self) (st l.self) l.learnt (IsCarriedUpTo l.a l.from);
       end_is : l.end ≡ (st l.fn.self).path.given.moments.end;
     }
 

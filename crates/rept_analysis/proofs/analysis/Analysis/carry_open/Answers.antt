@@ -1,27 +1,27 @@
 use Rattle.rept_analysis.specs.State.{AnalysisState, state_of, reader}
-use Rattle.rept_analysis.proofs.Drawn.{Drew_same, Grows_itself}
+use Rattle.rept_analysis.proofs.Conclusion.{HasInferred_same, Grows_itself}
 use Rattle.rept_analysis.proofs.analysis.Analysis.carry_open.Goals as goal
 
 pub returns-in_default-clause-grows : goal.returns-in_default-clause-grows
 returns-in_default-clause-grows g c = Grows_itself (state_of (reader g.P.Paths.timeline g.L.LastValues.values) g.W.Partial.sets g.W.Transfer.moves g.R.RowRules.rules g.B.ByteFacts.store c.args.self.now)
 
-pub returns-in_default-clause-drew : goal.returns-in_default-clause-drew
-returns-in_default-clause-drew g c = Drew_same (state_of (reader g.P.Paths.timeline g.L.LastValues.values) g.W.Partial.sets g.W.Transfer.moves g.R.RowRules.rules g.B.ByteFacts.store c.args.self.now) (λ (x : AnalysisState g.row.W.Denot). Unit {0}) tt
+pub returns-in_default-clause-inferred : goal.returns-in_default-clause-inferred
+returns-in_default-clause-inferred g c = HasInferred_same (state_of (reader g.P.Paths.timeline g.L.LastValues.values) g.W.Partial.sets g.W.Transfer.moves g.R.RowRules.rules g.B.ByteFacts.store c.args.self.now) (λ (x : AnalysisState g.row.W.Denot). Unit {0}) tt
 
 pub returns-in_default-next_from-clause-grows : goal.returns-in_default-next_from-clause-grows
 returns-in_default-next_from-clause-grows g c = Grows_itself (state_of (reader g.P.Paths.timeline g.L.LastValues.values) g.W.Partial.sets g.W.Transfer.moves g.R.RowRules.rules g.B.ByteFacts.store c.args.self.now)
 
-pub returns-in_default-next_from-clause-drew : goal.returns-in_default-next_from-clause-drew
-returns-in_default-next_from-clause-drew g c = Drew_same (state_of (reader g.P.Paths.timeline g.L.LastValues.values) g.W.Partial.sets g.W.Transfer.moves g.R.RowRules.rules g.B.ByteFacts.store c.args.self.now) (λ (x : AnalysisState g.row.W.Denot). Unit {0}) tt
+pub returns-in_default-next_from-clause-inferred : goal.returns-in_default-next_from-clause-inferred
+returns-in_default-next_from-clause-inferred g c = HasInferred_same (state_of (reader g.P.Paths.timeline g.L.LastValues.values) g.W.Partial.sets g.W.Transfer.moves g.R.RowRules.rules g.B.ByteFacts.store c.args.self.now) (λ (x : AnalysisState g.row.W.Denot). Unit {0}) tt
 
 pub returns-then-next-known-clause-grows : goal.returns-then-next-known-clause-grows
 returns-then-next-known-clause-grows g c = Grows_itself (state_of (reader g.P.Paths.timeline g.L.LastValues.values) g.W.Partial.sets g.W.Transfer.moves g.R.RowRules.rules g.B.ByteFacts.store c.args.self.now)
 
-pub returns-then-next-known-clause-drew : goal.returns-then-next-known-clause-drew
-returns-then-next-known-clause-drew g c = Drew_same (state_of (reader g.P.Paths.timeline g.L.LastValues.values) g.W.Partial.sets g.W.Transfer.moves g.R.RowRules.rules g.B.ByteFacts.store c.args.self.now) (λ (x : AnalysisState g.row.W.Denot). Unit {0}) tt
+pub returns-then-next-known-clause-inferred : goal.returns-then-next-known-clause-inferred
+returns-then-next-known-clause-inferred g c = HasInferred_same (state_of (reader g.P.Paths.timeline g.L.LastValues.values) g.W.Partial.sets g.W.Transfer.moves g.R.RowRules.rules g.B.ByteFacts.store c.args.self.now) (λ (x : AnalysisState g.row.W.Denot). Unit {0}) tt
 
 pub returns-then-open-known-clause-grows : goal.returns-then-open-known-clause-grows
 returns-then-open-known-clause-grows g c = Grows_itself (state_of (reader g.P.Paths.timeline g.L.LastValues.values) g.W.Partial.sets g.W.Transfer.moves g.R.RowRules.rules g.B.ByteFacts.store c.args.self.now)
 
-pub returns-then-open-known-clause-drew : goal.returns-then-open-known-clause-drew
-returns-then-open-known-clause-drew g c = Drew_same (state_of (reader g.P.Paths.timeline g.L.LastValues.values) g.W.Partial.sets g.W.Transfer.moves g.R.RowRules.rules g.B.ByteFacts.store c.args.self.now) (λ (x : AnalysisState g.row.W.Denot). Unit {0}) tt
+pub returns-then-open-known-clause-inferred : goal.returns-then-open-known-clause-inferred
+returns-then-open-known-clause-inferred g c = HasInferred_same (state_of (reader g.P.Paths.timeline g.L.LastValues.values) g.W.Partial.sets g.W.Transfer.moves g.R.RowRules.rules g.B.ByteFacts.store c.args.self.now) (λ (x : AnalysisState g.row.W.Denot). Unit {0}) tt

@@ -1,7 +1,7 @@
 use Rattle.std.proofs.Common.{◌∙◌, ◌≤◌, Bool, IfOk, sym, subst}
 use Rattle.rept_analysis.specs.State.{AnalysisState, Subject, state_of, reader}
-use Rattle.rept_analysis.specs.Drawing.{Drew}
-use Rattle.rept_analysis.proofs.Drawn.{Grows_trans}
+use Rattle.rept_analysis.specs.Inferring.{HasInferred}
+use Rattle.rept_analysis.proofs.Conclusion.{Grows_trans}
 use Rattle.rept_analysis.proofs.analysis.Analysis.carry_over.Goals as goal
 
 pub carry_from-requires-clause-inside : goal.carry_from-requires-clause-inside
@@ -19,11 +19,11 @@ carry_from-requires-clause-open g c = c.in_ok-open.ensures.grows.complete ∙ c.
 pub returns-then-open-clause-grows : goal.returns-then-open-clause-grows
 returns-then-open-clause-grows g c = c.in_ok-open.ensures.grows
 
-pub returns-then-open-clause-drew : goal.returns-then-open-clause-drew
-returns-then-open-clause-drew g c = c.in_ok-open.ensures.drew
+pub returns-then-open-clause-inferred : goal.returns-then-open-clause-inferred
+returns-then-open-clause-inferred g c = c.in_ok-open.ensures.inferred
 
 pub returns-clause-grows : goal.returns-clause-grows
 returns-clause-grows g c = Grows_trans (state_of (reader g.P.Paths.timeline g.L.LastValues.values) g.W.Partial.sets g.W.Transfer.moves g.R.RowRules.rules g.B.ByteFacts.store c.args.self.now) (state_of (reader g.P.Paths.timeline g.L.LastValues.values) g.W.Partial.sets g.W.Transfer.moves g.R.RowRules.rules g.B.ByteFacts.store c.carry_open.new.self) (state_of (reader g.P.Paths.timeline g.L.LastValues.values) g.W.Partial.sets g.W.Transfer.moves g.R.RowRules.rules g.B.ByteFacts.store c.carry_from.new.self) c.in_ok-open.ensures.grows c.carry_from.ensures.grows
 
-pub returns-clause-drew : goal.returns-clause-drew
-returns-clause-drew g c = subst (λ (x : AnalysisState g.row.W.Denot). IfOk c.carry_from.result (λ (learnt : Bool). Drew x (state_of (reader g.P.Paths.timeline g.L.LastValues.values) g.W.Partial.sets g.W.Transfer.moves g.R.RowRules.rules g.B.ByteFacts.store c.carry_from.new.self) learnt (λ (x : AnalysisState g.row.W.Denot). Unit {0}))) (c.in_ok-open.ensures.drew.unchanged c.if-open.false) c.carry_from.ensures.drew
+pub returns-clause-inferred : goal.returns-clause-inferred
+returns-clause-inferred g c = subst (λ (x : AnalysisState g.row.W.Denot). IfOk c.carry_from.result (λ (learnt : Bool). HasInferred x (state_of (reader g.P.Paths.timeline g.L.LastValues.values) g.W.Partial.sets g.W.Transfer.moves g.R.RowRules.rules g.B.ByteFacts.store c.carry_from.new.self) learnt (λ (x : AnalysisState g.row.W.Denot). Unit {0}))) (c.in_ok-open.ensures.inferred.unchanged c.if-open.false) c.carry_from.ensures.inferred

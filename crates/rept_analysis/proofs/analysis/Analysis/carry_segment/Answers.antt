@@ -1,10 +1,10 @@
 use Rattle.std.proofs.Common.{arith, ◌+◌, ◌∙◌, ◌≤◌, ◌<◌, ℕ, Some, None, inl, inr, sym, subst}
 use Rattle.rept_reason.specs.declared.fact.Cell.TheVariants.{Byte}
 use Rattle.rept_analysis.specs.State.{state_of, reader, AnalysisState, Subject}
-use Rattle.rept_analysis.specs.Drawing.{IsSpreadTo, IsCarriedFrom, IsSparedBetween}
-use Rattle.rept_analysis.proofs.Drawn.{Drew_both, Drew_same, Grows_trans, Grows_itself}
+use Rattle.rept_analysis.specs.Inferring.{IsSpreadTo, IsCarriedFrom, IsSparedBetween}
+use Rattle.rept_analysis.proofs.Conclusion.{HasInferred_both, HasInferred_same, Grows_trans, Grows_itself}
 use Rattle.rept_analysis.proofs.Spreading.{next_value, next_at, segment_spread, segment_covered, bridged_after, spared_down}
-use Rattle.rept_versions.specs.declared.facts.Stretch.{Stretch}
+use Rattle.rept_versions.specs.declared.facts.ValueStretch.{ValueStretch}
 use Rattle.rept_versions.specs.Facts.{Nexts}
 use Rattle.rept_report.proofs.Told.{none_some}
 use Rattle.rept_analysis.proofs.analysis.Analysis.carry_segment.Goals as goal
@@ -18,18 +18,18 @@ returns-in_err-left-in-Some-clause-grows g c = Grows_trans _ _ _ c.in_ok-right-i
 pub returns-in_ok-left-in-Some-clause-grows : goal.returns-in_ok-left-in-Some-clause-grows
 returns-in_ok-left-in-Some-clause-grows g c = Grows_trans _ _ _ c.in_ok-right-in-Some.ensures.grows c.in_ok-left-in-Some.ensures.grows
 
-pub returns-in_ok-left-in-Some-clause-drew : goal.returns-in_ok-left-in-Some-clause-drew
-returns-in_ok-left-in-Some-clause-drew g c =
+pub returns-in_ok-left-in-Some-clause-inferred : goal.returns-in_ok-left-in-Some-clause-inferred
+returns-in_ok-left-in-Some-clause-inferred g c =
     let s = state_of (reader g.P.Paths.timeline g.L.LastValues.values) g.W.Partial.sets g.W.Transfer.moves g.R.RowRules.rules g.B.ByteFacts.store c.args.self.now in
     let ordered = next_at c.args.from c.args.to c.max-at.result c.in-Some.stretch.first c.requires.order c.if-to-stretch.false c.max-at.ensures in
     let at = c.max-at.result in
     let v = c.in-Some.stretch.value in
-    Drew_both s (state_of (reader g.P.Paths.timeline g.L.LastValues.values) g.W.Partial.sets g.W.Transfer.moves g.R.RowRules.rules g.B.ByteFacts.store c.spread.new.self) _ c.in_ok-right-in-Some.right c.in_ok-left-in-Some.left (IsSpreadTo (record { address = c.args.a; from = at; to = c.args.to; value = v })) (IsSpreadTo (record { address = c.args.a; from = at; to = c.args.from; value = v })) (IsCarriedFrom c.args.a c.args.from c.args.to)
-    c.in_ok-right-in-Some.ensures.grows c.in_ok-left-in-Some.ensures.grows c.in_ok-right-in-Some.ensures.drew c.in_ok-left-in-Some.ensures.drew
+    HasInferred_both s (state_of (reader g.P.Paths.timeline g.L.LastValues.values) g.W.Partial.sets g.W.Transfer.moves g.R.RowRules.rules g.B.ByteFacts.store c.spread.new.self) _ c.in_ok-right-in-Some.right c.in_ok-left-in-Some.left (IsSpreadTo (record { address = c.args.a; from = at; to = c.args.to; value = v })) (IsSpreadTo (record { address = c.args.a; from = at; to = c.args.from; value = v })) (IsCarriedFrom c.args.a c.args.from c.args.to)
+    c.in_ok-right-in-Some.ensures.grows c.in_ok-left-in-Some.ensures.grows c.in_ok-right-in-Some.ensures.inferred c.in_ok-left-in-Some.ensures.inferred
     (λ p q. segment_spread s c.args.a c.args.from c.args.to at v ordered.0 ordered.1 p q)
 
-pub returns-then-has_all-clause-drew : goal.returns-then-has_all-clause-drew
-returns-then-has_all-clause-drew g c = Drew_same (state_of (reader g.P.Paths.timeline g.L.LastValues.values) g.W.Partial.sets g.W.Transfer.moves g.R.RowRules.rules g.B.ByteFacts.store c.args.self.now) (IsCarriedFrom c.args.a c.args.from c.args.to) (segment_covered (state_of (reader g.P.Paths.timeline g.L.LastValues.values) g.W.Partial.sets g.W.Transfer.moves g.R.RowRules.rules g.B.ByteFacts.store c.args.self.now) c.args.a c.args.from c.args.to c.in-Some.stretch (rw c.in-Some.is at c.stretch.ensures) (c.has_all.ensures c.if-has_all.true))
+pub returns-then-has_all-clause-inferred : goal.returns-then-has_all-clause-inferred
+returns-then-has_all-clause-inferred g c = HasInferred_same (state_of (reader g.P.Paths.timeline g.L.LastValues.values) g.W.Partial.sets g.W.Transfer.moves g.R.RowRules.rules g.B.ByteFacts.store c.args.self.now) (IsCarriedFrom c.args.a c.args.from c.args.to) (segment_covered (state_of (reader g.P.Paths.timeline g.L.LastValues.values) g.W.Partial.sets g.W.Transfer.moves g.R.RowRules.rules g.B.ByteFacts.store c.args.self.now) c.args.a c.args.from c.args.to c.in-Some.stretch (rw c.in-Some.is at c.stretch.ensures) (c.has_all.ensures c.if-has_all.true))
 
 pub spread-requires-in-Some-clause-spared : goal.spread-requires-in-Some-clause-spared
 spread-requires-in-Some-clause-spared g c =
@@ -50,17 +50,17 @@ segment_free s a from to none i le lt = record {
   back = λ w spared h. absurd (none_some (sym (none (i + 1) (omega (arith, le))) ∙ h));
 }
 
-segment_before : {W : Type 0} (s : AnalysisState W) (a from to : ℕ) (stretch : Stretch) → Nexts s.known.store.fact a from (Some stretch) → to < stretch.first → IsCarriedFrom a from to s
+segment_before : {W : Type 0} (s : AnalysisState W) (a from to : ℕ) (stretch : ValueStretch) → Nexts s.known.store.fact a from (Some stretch) → to < stretch.first → IsCarriedFrom a from to s
 segment_before s a from to stretch next early i le lt = record {
   onward = λ w spared h. absurd (none_some (sym (next.free i le (omega (arith, lt, early))) ∙ h));
   back = λ w spared h. absurd (none_some (sym (next.free (i + 1) (omega (arith, le)) (omega (arith, lt, early))) ∙ h));
 }
 
-pub returns-in-None-clause-drew : goal.returns-in-None-clause-drew
-returns-in-None-clause-drew g c = Drew_same (state_of (reader g.P.Paths.timeline g.L.LastValues.values) g.W.Partial.sets g.W.Transfer.moves g.R.RowRules.rules g.B.ByteFacts.store c.args.self.now) (IsCarriedFrom c.args.a c.args.from c.args.to) (segment_free (state_of (reader g.P.Paths.timeline g.L.LastValues.values) g.W.Partial.sets g.W.Transfer.moves g.R.RowRules.rules g.B.ByteFacts.store c.args.self.now) c.args.a c.args.from c.args.to (rw c.in-None.is at c.stretch.ensures))
+pub returns-in-None-clause-inferred : goal.returns-in-None-clause-inferred
+returns-in-None-clause-inferred g c = HasInferred_same (state_of (reader g.P.Paths.timeline g.L.LastValues.values) g.W.Partial.sets g.W.Transfer.moves g.R.RowRules.rules g.B.ByteFacts.store c.args.self.now) (IsCarriedFrom c.args.a c.args.from c.args.to) (segment_free (state_of (reader g.P.Paths.timeline g.L.LastValues.values) g.W.Partial.sets g.W.Transfer.moves g.R.RowRules.rules g.B.ByteFacts.store c.args.self.now) c.args.a c.args.from c.args.to (rw c.in-None.is at c.stretch.ensures))
 
-pub returns-then-to-stretch-clause-drew : goal.returns-then-to-stretch-clause-drew
-returns-then-to-stretch-clause-drew g c = Drew_same (state_of (reader g.P.Paths.timeline g.L.LastValues.values) g.W.Partial.sets g.W.Transfer.moves g.R.RowRules.rules g.B.ByteFacts.store c.args.self.now) (IsCarriedFrom c.args.a c.args.from c.args.to) (segment_before (state_of (reader g.P.Paths.timeline g.L.LastValues.values) g.W.Partial.sets g.W.Transfer.moves g.R.RowRules.rules g.B.ByteFacts.store c.args.self.now) c.args.a c.args.from c.args.to c.in-Some.stretch (rw c.in-Some.is at c.stretch.ensures) c.if-to-stretch.true)
+pub returns-then-to-stretch-clause-inferred : goal.returns-then-to-stretch-clause-inferred
+returns-then-to-stretch-clause-inferred g c = HasInferred_same (state_of (reader g.P.Paths.timeline g.L.LastValues.values) g.W.Partial.sets g.W.Transfer.moves g.R.RowRules.rules g.B.ByteFacts.store c.args.self.now) (IsCarriedFrom c.args.a c.args.from c.args.to) (segment_before (state_of (reader g.P.Paths.timeline g.L.LastValues.values) g.W.Partial.sets g.W.Transfer.moves g.R.RowRules.rules g.B.ByteFacts.store c.args.self.now) c.args.a c.args.from c.args.to c.in-Some.stretch (rw c.in-Some.is at c.stretch.ensures) c.if-to-stretch.true)
 
 pub spread-requires-clause-known : goal.spread-requires-clause-known
 spread-requires-clause-known g c = next_value (state_of (reader g.P.Paths.timeline g.L.LastValues.values) g.W.Partial.sets g.W.Transfer.moves g.R.RowRules.rules g.B.ByteFacts.store c.args.self.now) c.args.a c.args.from c.max-at.result c.in-Some.stretch (rw c.in-Some.is at c.stretch.ensures) c.max-at.ensures

@@ -1,30 +1,30 @@
 use Rattle.std.proofs.Common.{◌≡◌, ◌+◌, ◌≤◌, false, IfOk, refl, sym, subst, arith}
 use Rattle.rept_report.specs.Spots.{passage}
 use Rattle.rept_analysis.specs.State.{Whole, state_of, reader}
-use Rattle.rept_analysis.specs.Drawing.{IsCarriedFrom, IsCarriedIf, IsSparedBetween, Grows, Drew}
-use Rattle.rept_analysis.proofs.Drawn.{Drew_if, Drew_same, Grows_same}
+use Rattle.rept_analysis.specs.Inferring.{IsCarriedFrom, IsCarriedIf, IsSparedBetween, Grows, HasInferred}
+use Rattle.rept_analysis.proofs.Conclusion.{HasInferred_if, HasInferred_same, Grows_same}
 use Rattle.rept_analysis.proofs.Going.{blocked_if, step_if, spared_one}
 use Rattle.rept_analysis.proofs.analysis.Analysis.carry_step.Goals as goal
 
-pub returns-then-m-end-clause-drew : goal.returns-then-m-end-clause-drew
-returns-then-m-end-clause-drew g c =
+pub returns-then-m-end-clause-inferred : goal.returns-then-m-end-clause-inferred
+returns-then-m-end-clause-inferred g c =
     let most = ((g.met.P.Paths.lawful c.args.self.now.paths).moments.inside c.args.m (c.args.m + 1) c.requires.next).1 in
     let end = c.end-end.ensures.value in
     let past = c.if-m-end.true in
     absurd (omega (arith, most, end, past))
 
-pub returns-then-is_stopped-clause-drew : goal.returns-then-is_stopped-clause-drew
-returns-then-is_stopped-clause-drew g c = Drew_same (state_of (reader g.P.Paths.timeline g.L.LastValues.values) g.W.Partial.sets g.W.Transfer.moves g.R.RowRules.rules g.B.ByteFacts.store c.args.self.now) (IsCarriedIf (passage c.args.a c.args.m (c.args.m + 1))) (blocked_if (state_of (reader g.P.Paths.timeline g.L.LastValues.values) g.W.Partial.sets g.W.Transfer.moves g.R.RowRules.rules g.B.ByteFacts.store c.args.self.now) (passage c.args.a c.args.m (c.args.m + 1)) (c.is_stopped.ensures c.if-is_stopped.true))
+pub returns-then-is_stopped-clause-inferred : goal.returns-then-is_stopped-clause-inferred
+returns-then-is_stopped-clause-inferred g c = HasInferred_same (state_of (reader g.P.Paths.timeline g.L.LastValues.values) g.W.Partial.sets g.W.Transfer.moves g.R.RowRules.rules g.B.ByteFacts.store c.args.self.now) (IsCarriedIf (passage c.args.a c.args.m (c.args.m + 1))) (blocked_if (state_of (reader g.P.Paths.timeline g.L.LastValues.values) g.W.Partial.sets g.W.Transfer.moves g.R.RowRules.rules g.B.ByteFacts.store c.args.self.now) (passage c.args.a c.args.m (c.args.m + 1)) (c.is_stopped.ensures c.if-is_stopped.true))
 
 pub returns-then-not-is_carried_on-clause-grows : goal.returns-then-not-is_carried_on-clause-grows
 returns-then-not-is_carried_on-clause-grows g c =
     let st = state_of (reader g.P.Paths.timeline g.L.LastValues.values) g.W.Partial.sets g.W.Transfer.moves g.R.RowRules.rules g.B.ByteFacts.store in
     subst (λ (x : Whole g.row.P.Denot g.row.L.Denot g.row.B.Denot g.row.W.Denot g.row.R.Denot). Grows (st c.args.self.now) (st x)) (sym c.is_carried_on.ensures.same) (Grows_same (st c.args.self.now) (st c.args.self.now) refl)
 
-pub returns-then-not-is_carried_on-clause-drew : goal.returns-then-not-is_carried_on-clause-drew
-returns-then-not-is_carried_on-clause-drew g c =
+pub returns-then-not-is_carried_on-clause-inferred : goal.returns-then-not-is_carried_on-clause-inferred
+returns-then-not-is_carried_on-clause-inferred g c =
     let st = state_of (reader g.P.Paths.timeline g.L.LastValues.values) g.W.Partial.sets g.W.Transfer.moves g.R.RowRules.rules g.B.ByteFacts.store in
-    subst (λ (x : Whole g.row.P.Denot g.row.L.Denot g.row.B.Denot g.row.W.Denot g.row.R.Denot). Drew (st c.args.self.now) (st x) false (IsCarriedIf (passage c.args.a c.args.m (c.args.m + 1)))) (sym c.is_carried_on.ensures.same) (Drew_same (st c.args.self.now) (IsCarriedIf (passage c.args.a c.args.m (c.args.m + 1))) (blocked_if (st c.args.self.now) (passage c.args.a c.args.m (c.args.m + 1)) (c.is_carried_on.ensures.no c.if-not-is_carried_on.true)))
+    subst (λ (x : Whole g.row.P.Denot g.row.L.Denot g.row.B.Denot g.row.W.Denot g.row.R.Denot). HasInferred (st c.args.self.now) (st x) false (IsCarriedIf (passage c.args.a c.args.m (c.args.m + 1)))) (sym c.is_carried_on.ensures.same) (HasInferred_same (st c.args.self.now) (IsCarriedIf (passage c.args.a c.args.m (c.args.m + 1))) (blocked_if (st c.args.self.now) (passage c.args.a c.args.m (c.args.m + 1)) (c.is_carried_on.ensures.no c.if-not-is_carried_on.true)))
 
 pub carry_segment-requires-clause-to : goal.carry_segment-requires-clause-to
 carry_segment-requires-clause-to g c =
@@ -44,8 +44,8 @@ returns-clause-grows g c =
     let st = state_of (reader g.P.Paths.timeline g.L.LastValues.values) g.W.Partial.sets g.W.Transfer.moves g.R.RowRules.rules g.B.ByteFacts.store in
     subst (λ (x : Whole g.row.P.Denot g.row.L.Denot g.row.B.Denot g.row.W.Denot g.row.R.Denot). Grows (st x) (st c.carry_segment.new.self)) c.is_carried_on.ensures.same c.carry_segment.ensures.grows
 
-pub returns-clause-drew : goal.returns-clause-drew
-returns-clause-drew g c =
+pub returns-clause-inferred : goal.returns-clause-inferred
+returns-clause-inferred g c =
     let st = state_of (reader g.P.Paths.timeline g.L.LastValues.values) g.W.Partial.sets g.W.Transfer.moves g.R.RowRules.rules g.B.ByteFacts.store in
     let s = st c.args.self.now in
-    Drew_if s (st c.carry_segment.new.self) c.carry_segment.result (IsCarriedFrom c.args.a c.args.m (c.args.m + 1)) (IsCarriedIf (passage c.args.a c.args.m (c.args.m + 1))) (subst (λ (x : Whole g.row.P.Denot g.row.L.Denot g.row.B.Denot g.row.W.Denot g.row.R.Denot). IfOk c.carry_segment.result (λ learnt. Drew (st x) (st c.carry_segment.new.self) learnt (IsCarriedFrom c.args.a c.args.m (c.args.m + 1)))) c.is_carried_on.ensures.same c.carry_segment.ensures.drew) (λ h. step_if s c.args.a c.args.m h)
+    HasInferred_if s (st c.carry_segment.new.self) c.carry_segment.result (IsCarriedFrom c.args.a c.args.m (c.args.m + 1)) (IsCarriedIf (passage c.args.a c.args.m (c.args.m + 1))) (subst (λ (x : Whole g.row.P.Denot g.row.L.Denot g.row.B.Denot g.row.W.Denot g.row.R.Denot). IfOk c.carry_segment.result (λ learnt. HasInferred (st x) (st c.carry_segment.new.self) learnt (IsCarriedFrom c.args.a c.args.m (c.args.m + 1)))) c.is_carried_on.ensures.same c.carry_segment.ensures.inferred) (λ h. step_if s c.args.a c.args.m h)

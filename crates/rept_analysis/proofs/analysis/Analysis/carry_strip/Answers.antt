@@ -1,7 +1,7 @@
 use Rattle.std.proofs.Common.{refl, arith}
 use Rattle.rept_analysis.specs.State.{state_of, reader}
-use Rattle.rept_analysis.specs.Drawing.{IsCarriedIn}
-use Rattle.rept_analysis.proofs.Drawn.{Drew_same}
+use Rattle.rept_analysis.specs.Inferring.{IsCarriedIn}
+use Rattle.rept_analysis.proofs.Conclusion.{HasInferred_same}
 use Rattle.rept_analysis.proofs.Going.{in_even}
 use Rattle.rept_analysis.proofs.analysis.Analysis.carry_strip.Goals as goal
 
@@ -12,8 +12,8 @@ even_to-requires g c =
     let inside = its.inside in
     omega (arith, low, inside)
 
-pub returns-then-even_to-strip-clause-drew : goal.returns-then-even_to-strip-clause-drew
-returns-then-even_to-strip-clause-drew g c = Drew_same (state_of (reader g.P.Paths.timeline g.L.LastValues.values) g.W.Partial.sets g.W.Transfer.moves g.R.RowRules.rules g.B.ByteFacts.store c.args.self.now) (IsCarriedIn c.args.a c.args.strip) (in_even (state_of (reader g.P.Paths.timeline g.L.LastValues.values) g.W.Partial.sets g.W.Transfer.moves g.R.RowRules.rules g.B.ByteFacts.store c.args.self.now) c.args.a c.args.strip.first c.even_to.result c.args.strip c.even_to.ensures.even refl c.if-even_to-strip.true)
+pub returns-then-even_to-strip-clause-inferred : goal.returns-then-even_to-strip-clause-inferred
+returns-then-even_to-strip-clause-inferred g c = HasInferred_same (state_of (reader g.P.Paths.timeline g.L.LastValues.values) g.W.Partial.sets g.W.Transfer.moves g.R.RowRules.rules g.B.ByteFacts.store c.args.self.now) (IsCarriedIn c.args.a c.args.strip) (in_even (state_of (reader g.P.Paths.timeline g.L.LastValues.values) g.W.Partial.sets g.W.Transfer.moves g.R.RowRules.rules g.B.ByteFacts.store c.args.self.now) c.args.a c.args.strip.first c.even_to.result c.args.strip c.even_to.ensures.even refl c.if-even_to-strip.true)
 
 pub is_calm-requires-clause-strip : goal.is_calm-requires-clause-strip
 is_calm-requires-clause-strip g c = (_, c.requires.strip)

@@ -1,23 +1,23 @@
 use Rattle.std.proofs.Common.{◌||◌}
 use Rattle.rept_analysis.specs.State.{AnalysisState, state_of, reader}
-use Rattle.rept_analysis.specs.Drawing.{AllCarried, LastBytesKnown}
-use Rattle.rept_analysis.proofs.Drawn.{Drew_both, Grows_trans}
+use Rattle.rept_analysis.specs.Inferring.{AllCarried, LastBytesKnown}
+use Rattle.rept_analysis.proofs.Conclusion.{HasInferred_both, Grows_trans}
 use Rattle.rept_analysis.proofs.analysis.Analysis.carry_through.Goals as goal
 
-pub draw_through-requires-clause-writings : goal.draw_through-requires-clause-writings
-draw_through-requires-clause-writings g c = c.in_ok-carried.ensures.grows.writing c.requires.writings
+pub infer_through-requires-clause-writings : goal.infer_through-requires-clause-writings
+infer_through-requires-clause-writings g c = c.in_ok-carried.ensures.grows.writing c.requires.writings
 
-pub draw_through-requires-clause-uncut : goal.draw_through-requires-clause-uncut
-draw_through-requires-clause-uncut g c = c.in_ok-carried.ensures.drew.uncut c.requires.uncut
+pub infer_through-requires-clause-uncut : goal.infer_through-requires-clause-uncut
+infer_through-requires-clause-uncut g c = c.in_ok-carried.ensures.inferred.uncut c.requires.uncut
 
 pub carry_by_turns-requires-clause-writings : goal.carry_by_turns-requires-clause-writings
 carry_by_turns-requires-clause-writings g c = c.in_ok-rows.ensures.grows.writing (c.in_ok-carried.ensures.grows.writing c.requires.writings)
 
 pub carry_by_turns-requires-clause-uncut : goal.carry_by_turns-requires-clause-uncut
-carry_by_turns-requires-clause-uncut g c = c.in_ok-rows.ensures.drew.uncut (c.in_ok-carried.ensures.drew.uncut c.requires.uncut)
+carry_by_turns-requires-clause-uncut g c = c.in_ok-rows.ensures.inferred.uncut (c.in_ok-carried.ensures.inferred.uncut c.requires.uncut)
 
 pub returns-in_err-rows-clause-grows : goal.returns-in_err-rows-clause-grows
-returns-in_err-rows-clause-grows g c = Grows_trans _ _ _ c.in_ok-carried.ensures.grows c.draw_through.ensures.grows
+returns-in_err-rows-clause-grows g c = Grows_trans _ _ _ c.in_ok-carried.ensures.grows c.infer_through.ensures.grows
 
 pub returns-in_err-bytes-clause-grows : goal.returns-in_err-bytes-clause-grows
 returns-in_err-bytes-clause-grows g c = Grows_trans _ _ _ (Grows_trans _ _ _ c.in_ok-carried.ensures.grows c.in_ok-rows.ensures.grows) c.carry_by_turns.ensures.grows
@@ -25,13 +25,13 @@ returns-in_err-bytes-clause-grows g c = Grows_trans _ _ _ (Grows_trans _ _ _ c.i
 pub returns-clause-grows : goal.returns-clause-grows
 returns-clause-grows g c = Grows_trans _ _ _ (Grows_trans _ _ _ c.in_ok-carried.ensures.grows c.in_ok-rows.ensures.grows) c.in_ok-bytes.ensures.grows
 
-pub returns-clause-drew : goal.returns-clause-drew
-returns-clause-drew g c =
+pub returns-clause-inferred : goal.returns-clause-inferred
+returns-clause-inferred g c =
     let st = state_of (reader g.P.Paths.timeline g.L.LastValues.values) g.W.Partial.sets g.W.Transfer.moves g.R.RowRules.rules g.B.ByteFacts.store in
     let s = st c.args.self.now in
     let t = st c.carry_tracked.new.self in
-    let u = st c.draw_through.new.self in
+    let u = st c.infer_through.new.self in
     let v = st c.carry_by_turns.new.self in
     let U : AnalysisState g.row.W.Denot → Type 0 = λ x. Unit {0} in
-    let rows = Drew_both s t u c.in_ok-carried.carried c.in_ok-rows.rows AllCarried U AllCarried c.in_ok-carried.ensures.grows c.in_ok-rows.ensures.grows c.in_ok-carried.ensures.drew c.in_ok-rows.ensures.drew (λ p q. p) in
-    Drew_both s u v (c.in_ok-carried.carried || c.in_ok-rows.rows) c.in_ok-bytes.bytes AllCarried LastBytesKnown AllCarried (Grows_trans s t u c.in_ok-carried.ensures.grows c.in_ok-rows.ensures.grows) c.in_ok-bytes.ensures.grows rows c.in_ok-bytes.ensures.drew (λ p q. p)
+    let rows = HasInferred_both s t u c.in_ok-carried.carried c.in_ok-rows.rows AllCarried U AllCarried c.in_ok-carried.ensures.grows c.in_ok-rows.ensures.grows c.in_ok-carried.ensures.inferred c.in_ok-rows.ensures.inferred (λ p q. p) in
+    HasInferred_both s u v (c.in_ok-carried.carried || c.in_ok-rows.rows) c.in_ok-bytes.bytes AllCarried LastBytesKnown AllCarried (Grows_trans s t u c.in_ok-carried.ensures.grows c.in_ok-rows.ensures.grows) c.in_ok-bytes.ensures.grows rows c.in_ok-bytes.ensures.inferred (λ p q. p)

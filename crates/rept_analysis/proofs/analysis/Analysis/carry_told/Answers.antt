@@ -1,5 +1,5 @@
 use Rattle.rept_analysis.specs.State.{state_of, reader}
-use Rattle.rept_analysis.proofs.Drawn.{read_tracked}
+use Rattle.rept_analysis.proofs.Conclusion.{read_tracked}
 use Rattle.rept_analysis.proofs.analysis.Analysis.carry_told.Goals as goal
 
 pub carry_address-requires-clause-tracked : goal.carry_address-requires-clause-tracked

@@ -1,6 +1,6 @@
 use Rattle.std.proofs.Common.{◌≡◌, ◌<◌, ◌^◌, length, IfSome}
 use Rattle.rept_analysis.specs.State.{state_of, reader}
-use Rattle.rept_analysis.specs.Drawing.{Grows, Drew}
+use Rattle.rept_analysis.specs.Inferring.{Grows, HasInferred}
 use Rattle.rept_analysis.proofs.Likeness.{AreLed}
 use Rattle.rept_analysis.proofs.analysis.Analysis.carry_tracked.Given as goal
 
@@ -9,7 +9,7 @@ invariant-loop-k g l =
     let st = state_of (reader g.P.Paths.timeline g.L.LastValues.values) g.W.Partial.sets g.W.Transfer.moves g.R.RowRules.rules g.B.ByteFacts.store in
     record {
       grows : Grows (st l.fn.self) (st l.self);
-      drew : Drew (st l.fn.self) (st l.self) l.learnt (AreLed l.leader l.k);
+      inferred : HasInferred (st l.fn.self) (st l.self) l.learnt (AreLed l.leader l.k);
       small : IfSome l.leader (λ a. a < 2 ^ 32);
       count : l.count ≡ length (st l.fn.self).known.store.tracked;
     }

@@ -1,8 +1,8 @@
 use Rattle.std.proofs.Common.{◌≡◌, ◌+◌, ℕ, true, sym, subst, arith}
 use Rattle.rept_report.specs.Spots.{passage}
 use Rattle.rept_analysis.specs.State.{state_of, reader}
-use Rattle.rept_analysis.specs.Drawing.{IsBridged, IsCarriedFrom, IsCarriedIf}
-use Rattle.rept_analysis.proofs.Drawn.{Drew_if}
+use Rattle.rept_analysis.specs.Inferring.{IsBridged, IsCarriedFrom, IsCarriedIf}
+use Rattle.rept_analysis.proofs.Conclusion.{HasInferred_if}
 use Rattle.rept_analysis.proofs.Going.{step_if, spared_one}
 use Rattle.rept_analysis.proofs.analysis.Analysis.cross.Goals as goal
 
@@ -20,10 +20,10 @@ carry_segment-requires-clause-spared g c =
     let s = (state_of (reader g.P.Paths.timeline g.L.LastValues.values) g.W.Partial.sets g.W.Transfer.moves g.R.RowRules.rules g.B.ByteFacts.store c.args.self.now) in
     spared_one s c.args.a c.args.m (subst (λ (n : ℕ). IsBridged (passage c.args.a c.args.m n) s) (c.is_after.ensures.yes c.if-is_after.true) c.requires.bridged)
 
-pub returns-then-is_after-clause-drew : goal.returns-then-is_after-clause-drew
-returns-then-is_after-clause-drew g c =
+pub returns-then-is_after-clause-inferred : goal.returns-then-is_after-clause-inferred
+returns-then-is_after-clause-inferred g c =
     let s = (state_of (reader g.P.Paths.timeline g.L.LastValues.values) g.W.Partial.sets g.W.Transfer.moves g.R.RowRules.rules g.B.ByteFacts.store c.args.self.now) in
-    Drew_if s _ c.carry_segment.result (IsCarriedFrom c.args.a c.args.m (c.args.m + 1)) (IsCarriedIf (passage c.args.a c.args.m c.args.w)) c.carry_segment.ensures.drew (λ h. subst (λ (n : ℕ). IsCarriedIf (passage c.args.a c.args.m n) s) (sym (c.is_after.ensures.yes c.if-is_after.true)) (step_if s c.args.a c.args.m h))
+    HasInferred_if s _ c.carry_segment.result (IsCarriedFrom c.args.a c.args.m (c.args.m + 1)) (IsCarriedIf (passage c.args.a c.args.m c.args.w)) c.carry_segment.ensures.inferred (λ h. subst (λ (n : ℕ). IsCarriedIf (passage c.args.a c.args.m n) s) (sym (c.is_after.ensures.yes c.if-is_after.true)) (step_if s c.args.a c.args.m h))
 
 pub tell_either-requires-clause-room : goal.tell_either-requires-clause-room
 tell_either-requires-clause-room g c = λ lined. c.is_after.ensures.no c.if-is_after.false (lined c.args.m c.args.w c.requires.bridged.next)

@@ -1,6 +1,6 @@
 use Rattle.rept_analysis.specs.State.{AnalysisState, state_of, reader}
-use Rattle.rept_analysis.specs.Drawing.{IsRowTracked}
-use Rattle.rept_analysis.proofs.Drawn.{Drew_both, Grows_trans}
+use Rattle.rept_analysis.specs.Inferring.{IsRowTracked}
+use Rattle.rept_analysis.proofs.Conclusion.{HasInferred_both, Grows_trans}
 use Rattle.rept_analysis.proofs.analysis.Analysis.fetch_bytes.Goals as goal
 
 pub carry_row-requires-clause-writings : goal.carry_row-requires-clause-writings
@@ -12,10 +12,10 @@ returns-in_err-carried-clause-grows g c = Grows_trans _ _ _ c.in_ok-tracked.ensu
 pub returns-clause-grows : goal.returns-clause-grows
 returns-clause-grows g c = Grows_trans _ _ _ c.in_ok-tracked.ensures.grows c.in_ok-carried.ensures.grows
 
-pub returns-clause-drew : goal.returns-clause-drew
-returns-clause-drew g c =
+pub returns-clause-inferred : goal.returns-clause-inferred
+returns-clause-inferred g c =
     let a = state_of (reader g.P.Paths.timeline g.L.LastValues.values) g.W.Partial.sets g.W.Transfer.moves g.R.RowRules.rules g.B.ByteFacts.store c.args.self.now in
     let b = state_of (reader g.P.Paths.timeline g.L.LastValues.values) g.W.Partial.sets g.W.Transfer.moves g.R.RowRules.rules g.B.ByteFacts.store c.track_row.new.self in
     let d = state_of (reader g.P.Paths.timeline g.L.LastValues.values) g.W.Partial.sets g.W.Transfer.moves g.R.RowRules.rules g.B.ByteFacts.store c.carry_row.new.self in
     let P : AnalysisState g.row.W.Denot → Type 0 = λ x. Unit {0} in
-    Drew_both a b d c.in_ok-tracked.tracked c.in_ok-carried.carried (IsRowTracked c.args.row.now c.args.i) P P c.in_ok-tracked.ensures.grows c.in_ok-carried.ensures.grows c.in_ok-tracked.ensures.drew c.in_ok-carried.ensures.drew (λ p q. tt)
+    HasInferred_both a b d c.in_ok-tracked.tracked c.in_ok-carried.carried (IsRowTracked c.args.row.now c.args.i) P P c.in_ok-tracked.ensures.grows c.in_ok-carried.ensures.grows c.in_ok-tracked.ensures.inferred c.in_ok-carried.ensures.inferred (λ p q. tt)

@@ -1,7 +1,7 @@
 use Rattle.std.proofs.Common.{ℕ, sym, ap, subst}
 use Rattle.rept_analysis.specs.State.{Subject, AnalysisState, state_of, reader}
 use Rattle.rept_analysis.specs.Steps.{IsStepWithin}
-use Rattle.rept_analysis.proofs.Drawn.{Drew_both, Grows_trans}
+use Rattle.rept_analysis.proofs.Conclusion.{HasInferred_both, Grows_trans}
 use Rattle.rept_analysis.proofs.analysis.Analysis.follow.Goals as goal
 
 pub follow_with-requires-clause-within : goal.follow_with-requires-clause-within
@@ -21,5 +21,5 @@ loop-k-preserved g c =
     let P : AnalysisState g.row.W.Denot → Type 0 = λ x. Unit {0} in
     record {
       grows = Grows_trans s t u c.loop-k.invariant.grows c.in_ok-new.ensures.grows;
-      drew = Drew_both s t u c.loop-k.learnt c.in_ok-new.new P P P c.loop-k.invariant.grows c.in_ok-new.ensures.grows c.loop-k.invariant.drew c.in_ok-new.ensures.drew (λ p q. tt);
+      inferred = HasInferred_both s t u c.loop-k.learnt c.in_ok-new.new P P P c.loop-k.invariant.grows c.in_ok-new.ensures.grows c.loop-k.invariant.inferred c.in_ok-new.ensures.inferred (λ p q. tt);
     }

@@ -1,6 +1,6 @@
 use Rattle.std.proofs.Common.{ℕ, ◌+◌, ◌≡◌, None, sym, subst, arith}
 use Rattle.rept_analysis.specs.State.{state_of, reader}
-use Rattle.rept_analysis.specs.Drawing.{AreLinksBelow}
+use Rattle.rept_analysis.specs.Inferring.{AreLinksBelow}
 use Rattle.rept_analysis.proofs.Going.{next_none, links_far, links_none}
 use Rattle.rept_analysis.proofs.analysis.Analysis.idle_to.Goals as goal
 

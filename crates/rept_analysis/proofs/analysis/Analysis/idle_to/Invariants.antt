@@ -1,6 +1,6 @@
 use Rattle.std.proofs.Common.{◌≡◌, ◌+◌, ◌-◌, ◌≤◌}
 use Rattle.rept_analysis.specs.State.{state_of, reader}
-use Rattle.rept_analysis.specs.Drawing.{AreLinksBelow}
+use Rattle.rept_analysis.specs.Inferring.{AreLinksBelow}
 use Rattle.rept_analysis.proofs.analysis.Analysis.idle_to.Given as goal
 
 abbrev pub invariant-loop-from : goal.invariant-loop-from

@@ -10,4 +10,4 @@ pub returns-then-not-are_former_past : goal.returns-then-not-are_former_past
 returns-then-not-are_former_past g c = unsettled_by_list (state_of (reader g.P.Paths.timeline g.L.LastValues.values) g.W.Partial.sets g.W.Transfer.moves g.R.RowRules.rules g.B.ByteFacts.store c.args.self.now) c.requires.settled c.args.a (omega arith) c.args.moment (c.are_former_past.ensures.no c.if-not-are_former_past.true)
 
 pub returns : goal.returns
-returns g c = settled_by_list (state_of (reader g.P.Paths.timeline g.L.LastValues.values) g.W.Partial.sets g.W.Transfer.moves g.R.RowRules.rules g.B.ByteFacts.store c.args.self.now) c.requires.settled c.args.a (omega arith) c.args.moment c.is_dark_past.result (c.are_later_past.ensures.yes c.if-not-are_later_past.false) (c.are_former_past.ensures.yes c.if-not-are_former_past.false) c.is_dark_past.ensures
+returns g c = settled_by_list (state_of (reader g.P.Paths.timeline g.L.LastValues.values) g.W.Partial.sets g.W.Transfer.moves g.R.RowRules.rules g.B.ByteFacts.store c.args.self.now) c.requires.settled c.args.a (omega arith) c.args.moment c.is_untraced_past.result (c.are_later_past.ensures.yes c.if-not-are_later_past.false) (c.are_former_past.ensures.yes c.if-not-are_former_past.false) c.is_untraced_past.ensures

@@ -1,5 +1,5 @@
 use Rattle.rept_analysis.specs.State.{AnalysisState, state_of, reader}
-use Rattle.rept_analysis.proofs.Drawn.{Drew_both, Grows_trans}
+use Rattle.rept_analysis.proofs.Conclusion.{HasInferred_both, Grows_trans}
 use Rattle.rept_analysis.proofs.analysis.Analysis.later_together.Goals as goal
 
 pub returns-in_err-others-clause-grows : goal.returns-in_err-others-clause-grows
@@ -8,10 +8,10 @@ returns-in_err-others-clause-grows g c = Grows_trans _ _ _ c.in_ok-later.ensures
 pub returns-clause-grows : goal.returns-clause-grows
 returns-clause-grows g c = Grows_trans _ _ _ c.in_ok-later.ensures.grows c.in_ok-others.ensures.grows
 
-pub returns-clause-drew : goal.returns-clause-drew
-returns-clause-drew g c =
+pub returns-clause-inferred : goal.returns-clause-inferred
+returns-clause-inferred g c =
     let s = state_of (reader g.P.Paths.timeline g.L.LastValues.values) g.W.Partial.sets g.W.Transfer.moves g.R.RowRules.rules g.B.ByteFacts.store c.args.self.now in
     let t = state_of (reader g.P.Paths.timeline g.L.LastValues.values) g.W.Partial.sets g.W.Transfer.moves g.R.RowRules.rules g.B.ByteFacts.store c.carry_later.new.self in
     let u = state_of (reader g.P.Paths.timeline g.L.LastValues.values) g.W.Partial.sets g.W.Transfer.moves g.R.RowRules.rules g.B.ByteFacts.store c.follow_if.new.self in
     let P : AnalysisState g.row.W.Denot → Type 0 = λ x. Unit {0} in
-    Drew_both s t u c.in_ok-later.later.0 c.in_ok-others.others P P P c.in_ok-later.ensures.grows c.in_ok-others.ensures.grows c.in_ok-later.ensures.drew c.in_ok-others.ensures.drew (λ p q. tt)
+    HasInferred_both s t u c.in_ok-later.later.0 c.in_ok-others.others P P P c.in_ok-later.ensures.grows c.in_ok-others.ensures.grows c.in_ok-later.ensures.inferred c.in_ok-others.ensures.inferred (λ p q. tt)

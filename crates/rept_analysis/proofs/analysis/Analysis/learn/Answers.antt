@@ -1,14 +1,14 @@
 use Rattle.std.proofs.Common.{◌<◌, ◌^◌, inl, ap, arith}
 use Rattle.rept_analysis.specs.State.{AnalysisState}
 use Rattle.rept_reason.specs.declared.fact.Cell.TheVariants.{Register}
-use Rattle.rept_analysis.specs.Drawing.{Knows}
-use Rattle.rept_analysis.proofs.Drawn.{Grows_same, Drew_new, clash_found}
+use Rattle.rept_analysis.specs.Inferring.{Knows}
+use Rattle.rept_analysis.proofs.Conclusion.{Grows_same, HasInferred_new, clash_found}
 use Rattle.rept_analysis.proofs.analysis.Analysis.learn.Goals as goal
 
-pub returns-in-New-clause-drew : goal.returns-in-New-clause-drew
-returns-in-New-clause-drew g c =
+pub returns-in-New-clause-inferred : goal.returns-in-New-clause-inferred
+returns-in-New-clause-inferred g c =
     let told = rw c.in-New.is at c.tell.ensures in
-    Drew_new _ _ (Knows c.args.point (Register c.args.r) c.args.value) told.news told.still
+    HasInferred_new _ _ (Knows c.args.point (Register c.args.r) c.args.value) told.news told.still
 
 pub returns-in-Clash-clause-halt : goal.returns-in-Clash-clause-halt
 returns-in-Clash-clause-halt g c =

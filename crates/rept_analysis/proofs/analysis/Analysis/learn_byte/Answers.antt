@@ -1,16 +1,16 @@
 use Rattle.std.proofs.Common.{true, sym, subst, ap, ◌∙◌}
 use Rattle.rept_reason.specs.declared.fact.Cell.TheVariants.{Byte}
 use Rattle.rept_analysis.specs.State.{AnalysisState, Whole, state_of, reader}
-use Rattle.rept_analysis.specs.Drawing.{Knows, Drew, Grows}
-use Rattle.rept_analysis.proofs.Drawn.{Grows_same, Drew_new, clash_found, Drew_none}
+use Rattle.rept_analysis.specs.Inferring.{Knows, HasInferred, Grows}
+use Rattle.rept_analysis.proofs.Conclusion.{Grows_same, HasInferred_new, clash_found, HasInferred_none}
 use Rattle.rept_analysis.proofs.analysis.Analysis.learn_byte.Goals as goal
 
-pub returns-in-Ok-New-clause-drew : goal.returns-in-Ok-New-clause-drew
-returns-in-Ok-New-clause-drew g c =
+pub returns-in-Ok-New-clause-inferred : goal.returns-in-Ok-New-clause-inferred
+returns-in-Ok-New-clause-inferred g c =
     let told = rw c.in-Ok-New.field-0-is at c.in-Ok-New.ensures in
     let P : AnalysisState g.row.W.Denot → Type 0 = Knows c.args.point (Byte c.args.a) c.args.value in
-    subst (λ (x : Whole g.row.P.Denot g.row.L.Denot g.row.B.Denot g.row.W.Denot g.row.R.Denot). Drew (state_of (reader g.P.Paths.timeline g.L.LastValues.values) g.W.Partial.sets g.W.Transfer.moves g.R.RowRules.rules g.B.ByteFacts.store c.args.self.now) (state_of (reader g.P.Paths.timeline g.L.LastValues.values) g.W.Partial.sets g.W.Transfer.moves g.R.RowRules.rules g.B.ByteFacts.store x) true P) (sym c.note_byte.ensures)
-    (Drew_new (state_of (reader g.P.Paths.timeline g.L.LastValues.values) g.W.Partial.sets g.W.Transfer.moves g.R.RowRules.rules g.B.ByteFacts.store c.args.self.now) (state_of (reader g.P.Paths.timeline g.L.LastValues.values) g.W.Partial.sets g.W.Transfer.moves g.R.RowRules.rules g.B.ByteFacts.store c.tell_byte.new.self) P told.news told.still)
+    subst (λ (x : Whole g.row.P.Denot g.row.L.Denot g.row.B.Denot g.row.W.Denot g.row.R.Denot). HasInferred (state_of (reader g.P.Paths.timeline g.L.LastValues.values) g.W.Partial.sets g.W.Transfer.moves g.R.RowRules.rules g.B.ByteFacts.store c.args.self.now) (state_of (reader g.P.Paths.timeline g.L.LastValues.values) g.W.Partial.sets g.W.Transfer.moves g.R.RowRules.rules g.B.ByteFacts.store x) true P) (sym c.note_byte.ensures)
+    (HasInferred_new (state_of (reader g.P.Paths.timeline g.L.LastValues.values) g.W.Partial.sets g.W.Transfer.moves g.R.RowRules.rules g.B.ByteFacts.store c.args.self.now) (state_of (reader g.P.Paths.timeline g.L.LastValues.values) g.W.Partial.sets g.W.Transfer.moves g.R.RowRules.rules g.B.ByteFacts.store c.tell_byte.new.self) P told.news told.still)
 
 pub returns-in-Ok-Clash-clause-halt : goal.returns-in-Ok-Clash-clause-halt
 returns-in-Ok-Clash-clause-halt g c =
@@ -45,11 +45,11 @@ returns-in-Ok-New-clause-still g c =
     let told = rw c.in-Ok-New.field-0-is at c.in-Ok-New.ensures in
     ap (λ (x : Whole g.row.P.Denot g.row.L.Denot g.row.B.Denot g.row.W.Denot g.row.R.Denot). x.work) c.note_byte.ensures ∙ told.still
 
-pub returns-in-Ok-Old-clause-drew : goal.returns-in-Ok-Old-clause-drew
-returns-in-Ok-Old-clause-drew g c =
+pub returns-in-Ok-Old-clause-inferred : goal.returns-in-Ok-Old-clause-inferred
+returns-in-Ok-Old-clause-inferred g c =
     let told = rw c.in-Ok-Old.field-0-is at c.in-Ok-Old.ensures in
     let P : AnalysisState g.row.W.Denot → Type 0 = Knows c.args.point (Byte c.args.a) c.args.value in
-    Drew_none (state_of (reader g.P.Paths.timeline g.L.LastValues.values) g.W.Partial.sets g.W.Transfer.moves g.R.RowRules.rules g.B.ByteFacts.store c.args.self.now) (state_of (reader g.P.Paths.timeline g.L.LastValues.values) g.W.Partial.sets g.W.Transfer.moves g.R.RowRules.rules g.B.ByteFacts.store c.tell_byte.new.self) P told.0 told.1
+    HasInferred_none (state_of (reader g.P.Paths.timeline g.L.LastValues.values) g.W.Partial.sets g.W.Transfer.moves g.R.RowRules.rules g.B.ByteFacts.store c.args.self.now) (state_of (reader g.P.Paths.timeline g.L.LastValues.values) g.W.Partial.sets g.W.Transfer.moves g.R.RowRules.rules g.B.ByteFacts.store c.tell_byte.new.self) P told.0 told.1
 
 pub returns-in-Ok-Old-clause-known : goal.returns-in-Ok-Old-clause-known
 returns-in-Ok-Old-clause-known g c =

@@ -1,8 +1,8 @@
 use Rattle.std.proofs.Common.{◌<◌, arith}
 use Rattle.rept_reason.specs.declared.fact.Cell.TheVariants.{Register}
 use Rattle.rept_analysis.specs.State.{state_of, reader}
-use Rattle.rept_analysis.specs.Drawing.{Knows, IsLearntAt}
-use Rattle.rept_analysis.proofs.Drawn.{Drew_if}
+use Rattle.rept_analysis.specs.Inferring.{Knows, IsLearntAt}
+use Rattle.rept_analysis.proofs.Conclusion.{HasInferred_if}
 use Rattle.rept_analysis.proofs.Following.{learnt_at}
 use Rattle.rept_analysis.proofs.analysis.Analysis.learn_if.Goals as goal
 
@@ -12,6 +12,6 @@ learn-requires-clause-follows g c =
     let in_file : c.args.r < 32 = let n = c.number.ensures.value in let h = c.number.ensures.in_file in omega (arith, n, h) in
     λ small. c.requires.follows c.in-Known.value c.in-Known.is named in_file small
 
-pub returns-in-Known-clause-drew : goal.returns-in-Known-clause-drew
-returns-in-Known-clause-drew g c =
-    Drew_if _ _ c.learn.result (Knows c.args.point (Register c.args.r) c.in-Known.value) (IsLearntAt c.args.point c.args.r c.args.value) c.learn.ensures.drew (λ h. learnt_at (state_of (reader g.P.Paths.timeline g.L.LastValues.values) g.W.Partial.sets g.W.Transfer.moves g.R.RowRules.rules g.B.ByteFacts.store c.args.self.now) c.args.point c.args.r c.in-Known.value c.args.value c.in-Known.is h)
+pub returns-in-Known-clause-inferred : goal.returns-in-Known-clause-inferred
+returns-in-Known-clause-inferred g c =
+    HasInferred_if _ _ c.learn.result (Knows c.args.point (Register c.args.r) c.in-Known.value) (IsLearntAt c.args.point c.args.r c.args.value) c.learn.ensures.inferred (λ h. learnt_at (state_of (reader g.P.Paths.timeline g.L.LastValues.values) g.W.Partial.sets g.W.Transfer.moves g.R.RowRules.rules g.B.ByteFacts.store c.args.self.now) c.args.point c.args.r c.in-Known.value c.args.value c.in-Known.is h)

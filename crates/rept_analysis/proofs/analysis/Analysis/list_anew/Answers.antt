@@ -2,7 +2,7 @@ use Rattle.std.proofs.Common.{◌≡◌, ◌∙◌, ap, set}
 use Rattle.rept_writing.specs.declared.list.Writing.{Writing}
 use Rattle.rept_analysis.specs.State.{Whole, state_of, with_writing, reader}
 use Rattle.rept_analysis.proofs.Barriers.{anew_grows}
-use Rattle.rept_analysis.proofs.Drawn.{Grows_same}
+use Rattle.rept_analysis.proofs.Conclusion.{Grows_same}
 use Rattle.std.specs.Option.{is_some}
 use Rattle.rept_analysis.proofs.analysis.Analysis.list_anew.Goals as goal
 

@@ -2,7 +2,7 @@ use Rattle.std.proofs.Common.{◌+◌, ap, sym, subst, List}
 use Rattle.rept_alias.specs.declared.addresses.CallAccess.{CallAccess}
 use Rattle.rept_writing.specs.declared.list.Writing.{Writing}
 use Rattle.rept_analysis.specs.State.{AnalysisState, state_of, reader}
-use Rattle.rept_analysis.specs.Drawing.{AreWritingsBefore, IsAccess}
+use Rattle.rept_analysis.specs.Inferring.{AreWritingsBefore, IsAccess}
 use Rattle.rept_analysis.proofs.Listing.{listed_less, listed_more, none_spared}
 use Rattle.rept_analysis.proofs.analysis.Analysis.list_there.Goals as goal
 

@@ -1,7 +1,7 @@
 use Rattle.std.proofs.Common.{◌≡◌, ◌+◌, ap, sym, subst, arith}
 use Rattle.rept_analysis.specs.State.{AnalysisState, state_of, all_known, reader}
 use Rattle.rept_report.specs.Conclusions.{HasWords}
-use Rattle.rept_analysis.specs.Drawing.{AreWritings, AreExact}
+use Rattle.rept_analysis.specs.Inferring.{AreWritings, AreExact}
 use Rattle.rept_analysis.proofs.Learning.{known_words}
 use Rattle.rept_analysis.proofs.Listing.{fitted_listed, writings_listed, writings_back, listed_then, listed_barriers, listed_exact}
 use Rattle.rept_analysis.proofs.analysis.Analysis.list_writing.Goals as goal

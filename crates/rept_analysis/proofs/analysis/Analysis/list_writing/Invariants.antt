@@ -1,6 +1,6 @@
 use Rattle.std.proofs.Common.{◌≡◌, ◌≤◌, ◌+◌, length}
 use Rattle.rept_analysis.specs.State.{state_of, with_writing, reader}
-use Rattle.rept_analysis.specs.Drawing.{AreWritingsBefore}
+use Rattle.rept_analysis.specs.Inferring.{AreWritingsBefore}
 use Rattle.rept_analysis.proofs.analysis.Analysis.list_writing.Given as goal
 
 abbrev pub invariant-loop-number : goal.invariant-loop-number

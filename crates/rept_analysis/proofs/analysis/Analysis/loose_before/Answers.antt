@@ -1,6 +1,6 @@
 use Rattle.std.proofs.Common.{◌≡◌, ◌-◌, ℕ, suc, None, refl, subst, arith}
 use Rattle.rept_analysis.specs.State.{state_of, reader}
-use Rattle.rept_analysis.specs.Drawing.{IsLooseBefore}
+use Rattle.rept_analysis.specs.Inferring.{IsLooseBefore}
 use Rattle.rept_analysis.proofs.analysis.Analysis.loose_before.Goals as goal
 
 pub returns-then-k-eq0 : goal.returns-then-k-eq0

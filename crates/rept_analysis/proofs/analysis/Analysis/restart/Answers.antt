@@ -16,8 +16,8 @@ returns-clause-continues g c = rw (← c.self.view_is) (record { path = refl; sh
 pub returns-clause-facts : goal.returns-clause-facts
 returns-clause-facts g c = rw (← c.self.view_is) refl
 
-pub returns-clause-draws : goal.returns-clause-draws
-returns-clause-draws g c = rw (← c.self.view_is) refl
+pub returns-clause-infers : goal.returns-clause-infers
+returns-clause-infers g c = rw (← c.self.view_is) refl
 
 pub returns-clause-rows : goal.returns-clause-rows
 returns-clause-rows g c = rw (← c.self.view_is) (c.clear.ensures.length ∙ c.self.invariant.rows)

@@ -19,32 +19,32 @@ returns-in-Ok-false-clause-outcome g c = stopped_after (state_of (reader g.P.Pat
 pub returns-in-Err-clause-outcome : goal.returns-in-Err-clause-outcome
 returns-in-Err-clause-outcome g c = halted_after (state_of (reader g.P.Paths.timeline g.L.LastValues.values) g.W.Partial.sets g.W.Transfer.moves g.R.RowRules.rules g.B.ByteFacts.store c.args.self.now) (state_of (reader g.P.Paths.timeline g.L.LastValues.values) g.W.Partial.sets g.W.Transfer.moves g.R.RowRules.rules g.B.ByteFacts.store c.settle.new.self) (state_of (reader g.P.Paths.timeline g.L.LastValues.values) g.W.Partial.sets g.W.Transfer.moves g.R.RowRules.rules g.B.ByteFacts.store c.stop.new.self) c.stop.result (Continues_trans _ (state_of (reader g.P.Paths.timeline g.L.LastValues.values) g.W.Partial.sets g.W.Transfer.moves g.R.RowRules.rules g.B.ByteFacts.store c.restart.new.self) _ c.restart.ensures.continues c.settle.ensures.continues) (known_after (state_of (reader g.P.Paths.timeline g.L.LastValues.values) g.W.Partial.sets g.W.Transfer.moves g.R.RowRules.rules g.B.ByteFacts.store c.args.self.now) (state_of (reader g.P.Paths.timeline g.L.LastValues.values) g.W.Partial.sets g.W.Transfer.moves g.R.RowRules.rules g.B.ByteFacts.store c.restart.new.self) (state_of (reader g.P.Paths.timeline g.L.LastValues.values) g.W.Partial.sets g.W.Transfer.moves g.R.RowRules.rules g.B.ByteFacts.store c.settle.new.self) (known_like (state_of (reader g.P.Paths.timeline g.L.LastValues.values) g.W.Partial.sets g.W.Transfer.moves g.R.RowRules.rules g.B.ByteFacts.store c.args.self.now) (state_of (reader g.P.Paths.timeline g.L.LastValues.values) g.W.Partial.sets g.W.Transfer.moves g.R.RowRules.rules g.B.ByteFacts.store c.restart.new.self) c.restart.ensures.continues.path (ap (λ k. known_of g.B.ByteFacts.store k) c.restart.ensures.facts)) c.settle.ensures.more) c.stop.ensures.ended
 
-pub returns-in-Ok-true-clause-draws : goal.returns-in-Ok-true-clause-draws
-returns-in-Ok-true-clause-draws g c =
-    let most = left_most (state_of (reader g.P.Paths.timeline g.L.LastValues.values) g.W.Partial.sets g.W.Transfer.moves g.R.RowRules.rules g.B.ByteFacts.store c.restart.new.self).work.drawn in
+pub returns-in-Ok-true-clause-infers : goal.returns-in-Ok-true-clause-infers
+returns-in-Ok-true-clause-infers g c =
+    let most = left_most (state_of (reader g.P.Paths.timeline g.L.LastValues.values) g.W.Partial.sets g.W.Transfer.moves g.R.RowRules.rules g.B.ByteFacts.store c.restart.new.self).work.inferred in
     let rows = c.restart.ensures.rows in
-    let draws = c.restart.ensures.draws in
+    let infers = c.restart.ensures.infers in
     let spent = c.settle.ensures.spent in
     let still = c.finish.ensures.still in
-    omega (arith, most, rows, draws, spent, still)
+    omega (arith, most, rows, infers, spent, still)
 
-pub returns-in-Ok-false-clause-draws : goal.returns-in-Ok-false-clause-draws
-returns-in-Ok-false-clause-draws g c =
-    let most = left_most (state_of (reader g.P.Paths.timeline g.L.LastValues.values) g.W.Partial.sets g.W.Transfer.moves g.R.RowRules.rules g.B.ByteFacts.store c.restart.new.self).work.drawn in
+pub returns-in-Ok-false-clause-infers : goal.returns-in-Ok-false-clause-infers
+returns-in-Ok-false-clause-infers g c =
+    let most = left_most (state_of (reader g.P.Paths.timeline g.L.LastValues.values) g.W.Partial.sets g.W.Transfer.moves g.R.RowRules.rules g.B.ByteFacts.store c.restart.new.self).work.inferred in
     let rows = c.restart.ensures.rows in
-    let draws = c.restart.ensures.draws in
+    let infers = c.restart.ensures.infers in
     let spent = c.settle.ensures.spent in
     let still = c.stop_least.ensures.still in
-    omega (arith, most, rows, draws, spent, still)
+    omega (arith, most, rows, infers, spent, still)
 
-pub returns-in-Err-clause-draws : goal.returns-in-Err-clause-draws
-returns-in-Err-clause-draws g c =
-    let most = left_most (state_of (reader g.P.Paths.timeline g.L.LastValues.values) g.W.Partial.sets g.W.Transfer.moves g.R.RowRules.rules g.B.ByteFacts.store c.restart.new.self).work.drawn in
+pub returns-in-Err-clause-infers : goal.returns-in-Err-clause-infers
+returns-in-Err-clause-infers g c =
+    let most = left_most (state_of (reader g.P.Paths.timeline g.L.LastValues.values) g.W.Partial.sets g.W.Transfer.moves g.R.RowRules.rules g.B.ByteFacts.store c.restart.new.self).work.inferred in
     let rows = c.restart.ensures.rows in
-    let draws = c.restart.ensures.draws in
+    let infers = c.restart.ensures.infers in
     let spent = c.settle.ensures.spent in
     let still = c.stop.ensures.still in
-    omega (arith, most, rows, draws, spent, still)
+    omega (arith, most, rows, infers, spent, still)
 
 pub returns-in-Err-clause-plain : goal.returns-in-Err-clause-plain
 returns-in-Err-clause-plain g c =

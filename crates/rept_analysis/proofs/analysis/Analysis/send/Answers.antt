@@ -2,7 +2,7 @@ use Rattle.std.proofs.Common.{◌≡◌, ◌≤◌, ◌<◌, ◌^◌, false, sym
 use Rattle.rept_reason.specs.declared.fact.Cell.TheVariants.{Byte}
 use Rattle.rept_log.specs.Known.{known_of}
 use Rattle.rept_analysis.specs.State.{Whole, state_of, reader}
-use Rattle.rept_analysis.specs.Drawing.{Knows, IsLed}
+use Rattle.rept_analysis.specs.Inferring.{Knows, IsLed}
 use Rattle.rept_analysis.proofs.Spreading.{sent}
 use Rattle.rept_analysis.proofs.analysis.Analysis.send.Goals as goal
 

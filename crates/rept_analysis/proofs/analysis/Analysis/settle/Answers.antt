@@ -4,7 +4,7 @@ use Rattle.rept_report.specs.Conflicts.{IsQuiet}
 use Rattle.rept_report.specs.Log.{oldest}
 use Rattle.rept_log.specs.Known.{Known}
 use Rattle.rept_analysis.specs.State.{AnalysisState, state_of, Subject, along, reader}
-use Rattle.rept_analysis.specs.Drawing.{IsSettled}
+use Rattle.rept_analysis.specs.Inferring.{IsSettled}
 use Rattle.rept_analysis.specs.Begun.{HasEndsFirst}
 use Rattle.rept_analysis.specs.Measure.{measure}
 use Rattle.rept_analysis.proofs.Begun.{any_err, begins_like}
@@ -27,7 +27,7 @@ pub returns-in_err-learnt-clause-continues : goal.returns-in_err-learnt-clause-c
 returns-in_err-learnt-clause-continues g c = Continues_trans _ (state_of (reader g.P.Paths.timeline g.L.LastValues.values) g.W.Partial.sets g.W.Transfer.moves g.R.RowRules.rules g.B.ByteFacts.store c.loop-len.self) _ c.loop-len.invariant.continues (Continues_trans _ (state_of (reader g.P.Paths.timeline g.L.LastValues.values) g.W.Partial.sets g.W.Transfer.moves g.R.RowRules.rules g.B.ByteFacts.store c.ready-quiet.new.self) _ (same_continues (state_of (reader g.P.Paths.timeline g.L.LastValues.values) g.W.Partial.sets g.W.Transfer.moves g.R.RowRules.rules g.B.ByteFacts.store c.loop-len.self) (state_of (reader g.P.Paths.timeline g.L.LastValues.values) g.W.Partial.sets g.W.Transfer.moves g.R.RowRules.rules g.B.ByteFacts.store c.ready-quiet.new.self) c.ready-quiet.ensures.same) (grows_continues (state_of (reader g.P.Paths.timeline g.L.LastValues.values) g.W.Partial.sets g.W.Transfer.moves g.R.RowRules.rules g.B.ByteFacts.store c.ready-quiet.new.self) (state_of (reader g.P.Paths.timeline g.L.LastValues.values) g.W.Partial.sets g.W.Transfer.moves g.R.RowRules.rules g.B.ByteFacts.store c.sweep.new.self) c.sweep.ensures.grows))
 
 pub loop-len-preserved : goal.loop-len-preserved
-loop-len-preserved g c = record { begins = λ h. inr (c.in_ok-learnt.ensures.begun (begins_like (state_of (reader g.P.Paths.timeline g.L.LastValues.values) g.W.Partial.sets g.W.Transfer.moves g.R.RowRules.rules g.B.ByteFacts.store c.loop-len.self) (state_of (reader g.P.Paths.timeline g.L.LastValues.values) g.W.Partial.sets g.W.Transfer.moves g.R.RowRules.rules g.B.ByteFacts.store c.ready-quiet.new.self) c.ready-quiet.ensures.same.path (ap (λ (k : Known). k.log) c.ready-quiet.ensures.same.known) (c.loop-len.invariant.begins h))); continues = Continues_trans _ (state_of (reader g.P.Paths.timeline g.L.LastValues.values) g.W.Partial.sets g.W.Transfer.moves g.R.RowRules.rules g.B.ByteFacts.store c.loop-len.self) _ c.loop-len.invariant.continues (Continues_trans _ (state_of (reader g.P.Paths.timeline g.L.LastValues.values) g.W.Partial.sets g.W.Transfer.moves g.R.RowRules.rules g.B.ByteFacts.store c.ready-quiet.new.self) _ (same_continues (state_of (reader g.P.Paths.timeline g.L.LastValues.values) g.W.Partial.sets g.W.Transfer.moves g.R.RowRules.rules g.B.ByteFacts.store c.loop-len.self) (state_of (reader g.P.Paths.timeline g.L.LastValues.values) g.W.Partial.sets g.W.Transfer.moves g.R.RowRules.rules g.B.ByteFacts.store c.ready-quiet.new.self) c.ready-quiet.ensures.same) (grows_continues (state_of (reader g.P.Paths.timeline g.L.LastValues.values) g.W.Partial.sets g.W.Transfer.moves g.R.RowRules.rules g.B.ByteFacts.store c.ready-quiet.new.self) (state_of (reader g.P.Paths.timeline g.L.LastValues.values) g.W.Partial.sets g.W.Transfer.moves g.R.RowRules.rules g.B.ByteFacts.store c.sweep.new.self) c.in_ok-learnt.ensures.grows)); more = known_after (state_of (reader g.P.Paths.timeline g.L.LastValues.values) g.W.Partial.sets g.W.Transfer.moves g.R.RowRules.rules g.B.ByteFacts.store c.args.self.now) (state_of (reader g.P.Paths.timeline g.L.LastValues.values) g.W.Partial.sets g.W.Transfer.moves g.R.RowRules.rules g.B.ByteFacts.store c.ready-quiet.new.self) (state_of (reader g.P.Paths.timeline g.L.LastValues.values) g.W.Partial.sets g.W.Transfer.moves g.R.RowRules.rules g.B.ByteFacts.store c.sweep.new.self) (known_after (state_of (reader g.P.Paths.timeline g.L.LastValues.values) g.W.Partial.sets g.W.Transfer.moves g.R.RowRules.rules g.B.ByteFacts.store c.args.self.now) (state_of (reader g.P.Paths.timeline g.L.LastValues.values) g.W.Partial.sets g.W.Transfer.moves g.R.RowRules.rules g.B.ByteFacts.store c.loop-len.self) (state_of (reader g.P.Paths.timeline g.L.LastValues.values) g.W.Partial.sets g.W.Transfer.moves g.R.RowRules.rules g.B.ByteFacts.store c.ready-quiet.new.self) c.loop-len.invariant.more (known_like (state_of (reader g.P.Paths.timeline g.L.LastValues.values) g.W.Partial.sets g.W.Transfer.moves g.R.RowRules.rules g.B.ByteFacts.store c.loop-len.self) (state_of (reader g.P.Paths.timeline g.L.LastValues.values) g.W.Partial.sets g.W.Transfer.moves g.R.RowRules.rules g.B.ByteFacts.store c.ready-quiet.new.self) c.ready-quiet.ensures.same.path c.ready-quiet.ensures.same.known)) c.in_ok-learnt.ensures.grows.more; spent = spent_after (state_of (reader g.P.Paths.timeline g.L.LastValues.values) g.W.Partial.sets g.W.Transfer.moves g.R.RowRules.rules g.B.ByteFacts.store c.loop-len.self) (state_of (reader g.P.Paths.timeline g.L.LastValues.values) g.W.Partial.sets g.W.Transfer.moves g.R.RowRules.rules g.B.ByteFacts.store c.ready-quiet.new.self) (state_of (reader g.P.Paths.timeline g.L.LastValues.values) g.W.Partial.sets g.W.Transfer.moves g.R.RowRules.rules g.B.ByteFacts.store c.sweep.new.self) (state_of (reader g.P.Paths.timeline g.L.LastValues.values) g.W.Partial.sets g.W.Transfer.moves g.R.RowRules.rules g.B.ByteFacts.store c.args.self.now) c.ready-quiet.ensures.same c.in_ok-learnt.ensures.grows c.loop-len.invariant.spent; uncut = c.in_ok-learnt.ensures.drew.uncut (uncut_like (state_of (reader g.P.Paths.timeline g.L.LastValues.values) g.W.Partial.sets g.W.Transfer.moves g.R.RowRules.rules g.B.ByteFacts.store c.loop-len.self) (state_of (reader g.P.Paths.timeline g.L.LastValues.values) g.W.Partial.sets g.W.Transfer.moves g.R.RowRules.rules g.B.ByteFacts.store c.ready-quiet.new.self) c.ready-quiet.ensures.same c.loop-len.invariant.uncut) }
+loop-len-preserved g c = record { begins = λ h. inr (c.in_ok-learnt.ensures.begun (begins_like (state_of (reader g.P.Paths.timeline g.L.LastValues.values) g.W.Partial.sets g.W.Transfer.moves g.R.RowRules.rules g.B.ByteFacts.store c.loop-len.self) (state_of (reader g.P.Paths.timeline g.L.LastValues.values) g.W.Partial.sets g.W.Transfer.moves g.R.RowRules.rules g.B.ByteFacts.store c.ready-quiet.new.self) c.ready-quiet.ensures.same.path (ap (λ (k : Known). k.log) c.ready-quiet.ensures.same.known) (c.loop-len.invariant.begins h))); continues = Continues_trans _ (state_of (reader g.P.Paths.timeline g.L.LastValues.values) g.W.Partial.sets g.W.Transfer.moves g.R.RowRules.rules g.B.ByteFacts.store c.loop-len.self) _ c.loop-len.invariant.continues (Continues_trans _ (state_of (reader g.P.Paths.timeline g.L.LastValues.values) g.W.Partial.sets g.W.Transfer.moves g.R.RowRules.rules g.B.ByteFacts.store c.ready-quiet.new.self) _ (same_continues (state_of (reader g.P.Paths.timeline g.L.LastValues.values) g.W.Partial.sets g.W.Transfer.moves g.R.RowRules.rules g.B.ByteFacts.store c.loop-len.self) (state_of (reader g.P.Paths.timeline g.L.LastValues.values) g.W.Partial.sets g.W.Transfer.moves g.R.RowRules.rules g.B.ByteFacts.store c.ready-quiet.new.self) c.ready-quiet.ensures.same) (grows_continues (state_of (reader g.P.Paths.timeline g.L.LastValues.values) g.W.Partial.sets g.W.Transfer.moves g.R.RowRules.rules g.B.ByteFacts.store c.ready-quiet.new.self) (state_of (reader g.P.Paths.timeline g.L.LastValues.values) g.W.Partial.sets g.W.Transfer.moves g.R.RowRules.rules g.B.ByteFacts.store c.sweep.new.self) c.in_ok-learnt.ensures.grows)); more = known_after (state_of (reader g.P.Paths.timeline g.L.LastValues.values) g.W.Partial.sets g.W.Transfer.moves g.R.RowRules.rules g.B.ByteFacts.store c.args.self.now) (state_of (reader g.P.Paths.timeline g.L.LastValues.values) g.W.Partial.sets g.W.Transfer.moves g.R.RowRules.rules g.B.ByteFacts.store c.ready-quiet.new.self) (state_of (reader g.P.Paths.timeline g.L.LastValues.values) g.W.Partial.sets g.W.Transfer.moves g.R.RowRules.rules g.B.ByteFacts.store c.sweep.new.self) (known_after (state_of (reader g.P.Paths.timeline g.L.LastValues.values) g.W.Partial.sets g.W.Transfer.moves g.R.RowRules.rules g.B.ByteFacts.store c.args.self.now) (state_of (reader g.P.Paths.timeline g.L.LastValues.values) g.W.Partial.sets g.W.Transfer.moves g.R.RowRules.rules g.B.ByteFacts.store c.loop-len.self) (state_of (reader g.P.Paths.timeline g.L.LastValues.values) g.W.Partial.sets g.W.Transfer.moves g.R.RowRules.rules g.B.ByteFacts.store c.ready-quiet.new.self) c.loop-len.invariant.more (known_like (state_of (reader g.P.Paths.timeline g.L.LastValues.values) g.W.Partial.sets g.W.Transfer.moves g.R.RowRules.rules g.B.ByteFacts.store c.loop-len.self) (state_of (reader g.P.Paths.timeline g.L.LastValues.values) g.W.Partial.sets g.W.Transfer.moves g.R.RowRules.rules g.B.ByteFacts.store c.ready-quiet.new.self) c.ready-quiet.ensures.same.path c.ready-quiet.ensures.same.known)) c.in_ok-learnt.ensures.grows.more; spent = spent_after (state_of (reader g.P.Paths.timeline g.L.LastValues.values) g.W.Partial.sets g.W.Transfer.moves g.R.RowRules.rules g.B.ByteFacts.store c.loop-len.self) (state_of (reader g.P.Paths.timeline g.L.LastValues.values) g.W.Partial.sets g.W.Transfer.moves g.R.RowRules.rules g.B.ByteFacts.store c.ready-quiet.new.self) (state_of (reader g.P.Paths.timeline g.L.LastValues.values) g.W.Partial.sets g.W.Transfer.moves g.R.RowRules.rules g.B.ByteFacts.store c.sweep.new.self) (state_of (reader g.P.Paths.timeline g.L.LastValues.values) g.W.Partial.sets g.W.Transfer.moves g.R.RowRules.rules g.B.ByteFacts.store c.args.self.now) c.ready-quiet.ensures.same c.in_ok-learnt.ensures.grows c.loop-len.invariant.spent; uncut = c.in_ok-learnt.ensures.inferred.uncut (uncut_like (state_of (reader g.P.Paths.timeline g.L.LastValues.values) g.W.Partial.sets g.W.Transfer.moves g.R.RowRules.rules g.B.ByteFacts.store c.loop-len.self) (state_of (reader g.P.Paths.timeline g.L.LastValues.values) g.W.Partial.sets g.W.Transfer.moves g.R.RowRules.rules g.B.ByteFacts.store c.ready-quiet.new.self) c.ready-quiet.ensures.same c.loop-len.invariant.uncut) }
 
 pub loop-len-smaller : goal.loop-len-smaller
 loop-len-smaller g c =
@@ -35,7 +35,7 @@ loop-len-smaller g c =
     let b = state_of (reader g.P.Paths.timeline g.L.LastValues.values) g.W.Partial.sets g.W.Transfer.moves g.R.RowRules.rules g.B.ByteFacts.store c.ready-quiet.new.self in
     let d = state_of (reader g.P.Paths.timeline g.L.LastValues.values) g.W.Partial.sets g.W.Transfer.moves g.R.RowRules.rules g.B.ByteFacts.store c.sweep.new.self in
     let same = measure_same a b c.ready-quiet.ensures.same in
-    subst (λ (n : ℕ). measure d < n) same (news_less b d c.in_ok-learnt.ensures.grows (c.in_ok-learnt.ensures.drew.news c.if-not-learnt.false))
+    subst (λ (n : ℕ). measure d < n) same (news_less b d c.in_ok-learnt.ensures.grows (c.in_ok-learnt.ensures.inferred.news c.if-not-learnt.false))
 
 pub returns-clause-continues : goal.returns-clause-continues
 returns-clause-continues g c = Continues_trans _ (state_of (reader g.P.Paths.timeline g.L.LastValues.values) g.W.Partial.sets g.W.Transfer.moves g.R.RowRules.rules g.B.ByteFacts.store c.loop-len.self) _ c.loop-len.invariant.continues (Continues_trans _ (state_of (reader g.P.Paths.timeline g.L.LastValues.values) g.W.Partial.sets g.W.Transfer.moves g.R.RowRules.rules g.B.ByteFacts.store c.ready-quiet.new.self) _ (same_continues (state_of (reader g.P.Paths.timeline g.L.LastValues.values) g.W.Partial.sets g.W.Transfer.moves g.R.RowRules.rules g.B.ByteFacts.store c.loop-len.self) (state_of (reader g.P.Paths.timeline g.L.LastValues.values) g.W.Partial.sets g.W.Transfer.moves g.R.RowRules.rules g.B.ByteFacts.store c.ready-quiet.new.self) c.ready-quiet.ensures.same) (grows_continues (state_of (reader g.P.Paths.timeline g.L.LastValues.values) g.W.Partial.sets g.W.Transfer.moves g.R.RowRules.rules g.B.ByteFacts.store c.ready-quiet.new.self) (state_of (reader g.P.Paths.timeline g.L.LastValues.values) g.W.Partial.sets g.W.Transfer.moves g.R.RowRules.rules g.B.ByteFacts.store c.sweep.new.self) c.in_ok-learnt.ensures.grows))
@@ -46,11 +46,11 @@ returns-clause-settled g c =
     let a = state_of (reader g.P.Paths.timeline g.L.LastValues.values) g.W.Partial.sets g.W.Transfer.moves g.R.RowRules.rules g.B.ByteFacts.store c.loop-len.self in
     let b = state_of (reader g.P.Paths.timeline g.L.LastValues.values) g.W.Partial.sets g.W.Transfer.moves g.R.RowRules.rules g.B.ByteFacts.store c.ready-quiet.new.self in
     let same = c.ready-quiet.ensures.same in
-    let drew = c.in_ok-learnt.ensures.drew in
+    let inferred = c.in_ok-learnt.ensures.inferred in
     let long = forth a b same (λ (P : Subject g.row.W.Denot) (k : Known). c.len-len.result ≡ length k.log) c.len-len.ensures.value in
     let quiet = forth a b same (λ (P : Subject g.row.W.Denot) (k : Known). IsQuiet (along P) (told (oldest c.len-len.result k.log))) (c.ready-quiet.ensures.quiet c.if-not-quiet.false) in
-    let settled = settled_by b c.len-len.result long quiet (c.ready-quiet.ensures.fitted c.if-not-quiet.false) c.ready-quiet.ensures.limit (drew.closed c.if-not-learnt.true) (c.ready-quiet.ensures.writings c.if-not-quiet.false) (c.ready-quiet.ensures.exact c.if-not-quiet.false) in
-    subst (λ (x : AnalysisState g.row.W.Denot). IsSettled x) (sym (drew.unchanged c.if-not-learnt.true)) settled
+    let settled = settled_by b c.len-len.result long quiet (c.ready-quiet.ensures.fitted c.if-not-quiet.false) c.ready-quiet.ensures.limit (inferred.closed c.if-not-learnt.true) (c.ready-quiet.ensures.writings c.if-not-quiet.false) (c.ready-quiet.ensures.exact c.if-not-quiet.false) in
+    subst (λ (x : AnalysisState g.row.W.Denot). IsSettled x) (sym (inferred.unchanged c.if-not-learnt.true)) settled
 
 pub sweep-requires-clause-writings : goal.sweep-requires-clause-writings
 sweep-requires-clause-writings g c = c.ready-quiet.ensures.writings c.if-not-quiet.false

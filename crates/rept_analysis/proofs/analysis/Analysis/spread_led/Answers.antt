@@ -1,15 +1,15 @@
 use Rattle.std.proofs.Common.{true, sym, subst}
 use Rattle.rept_analysis.specs.State.{AnalysisState, Whole, state_of, reader}
-use Rattle.rept_analysis.specs.Drawing.{Drew, IsSpreadTo, Grows}
-use Rattle.rept_analysis.proofs.Drawn.{Grows_same, Drew_new, Drew_none}
+use Rattle.rept_analysis.specs.Inferring.{HasInferred, IsSpreadTo, Grows}
+use Rattle.rept_analysis.proofs.Conclusion.{Grows_same, HasInferred_new, HasInferred_none}
 use Rattle.rept_analysis.proofs.analysis.Analysis.spread_led.Goals as goal
 
-pub returns-in-Ok-More-clause-drew : goal.returns-in-Ok-More-clause-drew
-returns-in-Ok-More-clause-drew g c =
+pub returns-in-Ok-More-clause-inferred : goal.returns-in-Ok-More-clause-inferred
+returns-in-Ok-More-clause-inferred g c =
     let sent = rw c.in-Ok-More.field-0-is at c.in-Ok-More.ensures in
     let P : AnalysisState g.row.W.Denot → Type 0 = IsSpreadTo (record { address = c.args.a; from = c.args.from; to = c.args.to; value = c.args.value }) in
-    subst (λ (x : Whole g.row.P.Denot g.row.L.Denot g.row.B.Denot g.row.W.Denot g.row.R.Denot). Drew (state_of (reader g.P.Paths.timeline g.L.LastValues.values) g.W.Partial.sets g.W.Transfer.moves g.R.RowRules.rules g.B.ByteFacts.store c.args.self.now) (state_of (reader g.P.Paths.timeline g.L.LastValues.values) g.W.Partial.sets g.W.Transfer.moves g.R.RowRules.rules g.B.ByteFacts.store x) true P) (sym c.note_byte.ensures)
-    (Drew_new (state_of (reader g.P.Paths.timeline g.L.LastValues.values) g.W.Partial.sets g.W.Transfer.moves g.R.RowRules.rules g.B.ByteFacts.store c.args.self.now) (state_of (reader g.P.Paths.timeline g.L.LastValues.values) g.W.Partial.sets g.W.Transfer.moves g.R.RowRules.rules g.B.ByteFacts.store c.send.new.self) P sent.1 sent.2)
+    subst (λ (x : Whole g.row.P.Denot g.row.L.Denot g.row.B.Denot g.row.W.Denot g.row.R.Denot). HasInferred (state_of (reader g.P.Paths.timeline g.L.LastValues.values) g.W.Partial.sets g.W.Transfer.moves g.R.RowRules.rules g.B.ByteFacts.store c.args.self.now) (state_of (reader g.P.Paths.timeline g.L.LastValues.values) g.W.Partial.sets g.W.Transfer.moves g.R.RowRules.rules g.B.ByteFacts.store x) true P) (sym c.note_byte.ensures)
+    (HasInferred_new (state_of (reader g.P.Paths.timeline g.L.LastValues.values) g.W.Partial.sets g.W.Transfer.moves g.R.RowRules.rules g.B.ByteFacts.store c.args.self.now) (state_of (reader g.P.Paths.timeline g.L.LastValues.values) g.W.Partial.sets g.W.Transfer.moves g.R.RowRules.rules g.B.ByteFacts.store c.send.new.self) P sent.1 sent.2)
 
 pub returns-in-Ok-Same-clause-grows : goal.returns-in-Ok-Same-clause-grows
 returns-in-Ok-Same-clause-grows g c =
@@ -21,11 +21,11 @@ returns-in-Ok-More-clause-grows g c =
     let sent = rw c.in-Ok-More.field-0-is at c.in-Ok-More.ensures in
     subst (λ (x : Whole g.row.P.Denot g.row.L.Denot g.row.B.Denot g.row.W.Denot g.row.R.Denot). Grows (state_of (reader g.P.Paths.timeline g.L.LastValues.values) g.W.Partial.sets g.W.Transfer.moves g.R.RowRules.rules g.B.ByteFacts.store c.args.self.now) (state_of (reader g.P.Paths.timeline g.L.LastValues.values) g.W.Partial.sets g.W.Transfer.moves g.R.RowRules.rules g.B.ByteFacts.store x)) (sym c.note_byte.ensures) sent.0
 
-pub returns-in-Ok-Same-clause-drew : goal.returns-in-Ok-Same-clause-drew
-returns-in-Ok-Same-clause-drew g c =
+pub returns-in-Ok-Same-clause-inferred : goal.returns-in-Ok-Same-clause-inferred
+returns-in-Ok-Same-clause-inferred g c =
     let sent = rw c.in-Ok-Same.field-0-is at c.in-Ok-Same.ensures in
     let P : AnalysisState g.row.W.Denot → Type 0 = IsSpreadTo (record { address = c.args.a; from = c.args.from; to = c.args.to; value = c.args.value }) in
-    Drew_none (state_of (reader g.P.Paths.timeline g.L.LastValues.values) g.W.Partial.sets g.W.Transfer.moves g.R.RowRules.rules g.B.ByteFacts.store c.args.self.now) (state_of (reader g.P.Paths.timeline g.L.LastValues.values) g.W.Partial.sets g.W.Transfer.moves g.R.RowRules.rules g.B.ByteFacts.store c.send.new.self) P sent.0 sent.1
+    HasInferred_none (state_of (reader g.P.Paths.timeline g.L.LastValues.values) g.W.Partial.sets g.W.Transfer.moves g.R.RowRules.rules g.B.ByteFacts.store c.args.self.now) (state_of (reader g.P.Paths.timeline g.L.LastValues.values) g.W.Partial.sets g.W.Transfer.moves g.R.RowRules.rules g.B.ByteFacts.store c.send.new.self) P sent.0 sent.1
 
 pub returns-in-Ok-Stop-clause-grows : goal.returns-in-Ok-Stop-clause-grows
 returns-in-Ok-Stop-clause-grows g c =

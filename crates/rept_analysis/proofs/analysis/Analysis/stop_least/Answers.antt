@@ -51,7 +51,7 @@ returns-clause-ended g c =
     stopped_from (state_of (reader g.P.Paths.timeline g.L.LastValues.values) g.W.Partial.sets g.W.Transfer.moves g.R.RowRules.rules g.B.ByteFacts.store c.args.self.now) (state_of (reader g.P.Paths.timeline g.L.LastValues.values) g.W.Partial.sets g.W.Transfer.moves g.R.RowRules.rules g.B.ByteFacts.store c.look.new.self) same (state_of (reader g.P.Paths.timeline g.L.LastValues.values) g.W.Partial.sets g.W.Transfer.moves g.R.RowRules.rules g.B.ByteFacts.store c.stop_at.new.self) c.unwrap-kind.result c.stop_at.ensures.ended
 
 pub returns-clause-still : goal.returns-clause-still
-returns-clause-still g c = c.stop_at.ensures.still ∙ c.look.ensures.same.draws ∙ c.bisect-limit.ensures.same.draws
+returns-clause-still g c = c.stop_at.ensures.still ∙ c.look.ensures.same.infers ∙ c.bisect-limit.ensures.same.infers
 
 pub returns-clause-log : goal.returns-clause-log
 returns-clause-log g c = c.stop_at.ensures.log ∙ ap (λ (k : Known). k.log) c.look.ensures.same.known ∙ ap (λ (k : Known). k.log) c.bisect-limit.ensures.same.known

@@ -31,10 +31,10 @@ pub returns-clause-ended : goal.returns-clause-ended
 returns-clause-ended g c = paused_from (state_of (reader g.P.Paths.timeline g.L.LastValues.values) g.W.Partial.sets g.W.Transfer.moves g.R.RowRules.rules g.B.ByteFacts.store c.args.self.now) (state_of (reader g.P.Paths.timeline g.L.LastValues.values) g.W.Partial.sets g.W.Transfer.moves g.R.RowRules.rules g.B.ByteFacts.store c.is_quiet-quiet.new.self) c.is_quiet-quiet.ensures.same (state_of (reader g.P.Paths.timeline g.L.LastValues.values) g.W.Partial.sets g.W.Transfer.moves g.R.RowRules.rules g.B.ByteFacts.store c.show.new.self) c.show.ensures.ended
 
 pub returns-then-not-quiet-clause-still : goal.returns-then-not-quiet-clause-still
-returns-then-not-quiet-clause-still g c = c.stop_least.ensures.still ∙ c.is_quiet-quiet.ensures.same.draws
+returns-then-not-quiet-clause-still g c = c.stop_least.ensures.still ∙ c.is_quiet-quiet.ensures.same.infers
 
 pub returns-clause-still : goal.returns-clause-still
-returns-clause-still g c = c.show.ensures.still ∙ c.is_quiet-quiet.ensures.same.draws
+returns-clause-still g c = c.show.ensures.still ∙ c.is_quiet-quiet.ensures.same.infers
 
 pub returns-then-not-quiet-clause-log : goal.returns-then-not-quiet-clause-log
 returns-then-not-quiet-clause-log g c = c.stop_least.ensures.log ∙ ap (λ (k : Known). k.log) c.is_quiet-quiet.ensures.same.known

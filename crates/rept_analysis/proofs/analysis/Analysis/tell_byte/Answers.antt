@@ -3,7 +3,7 @@ use Rattle.rept_reason.specs.declared.fact.Cell.TheVariants.{Byte}
 use Rattle.rept_log.specs.Known.{known_of}
 use Rattle.rept_analysis.specs.State.{Whole, state_of, reader}
 use Rattle.rept_report.specs.Why.{fact_of}
-use Rattle.rept_analysis.specs.Drawing.{IsTracked, IsFollowing, IsBrought, HasPlace}
+use Rattle.rept_analysis.specs.Inferring.{IsTracked, IsFollowing, IsBrought, HasPlace}
 use Rattle.rept_analysis.proofs.Learning.{told_byte}
 use Rattle.rept_analysis.proofs.analysis.Analysis.tell_byte.Goals as goal
 

@@ -2,8 +2,8 @@ use Rattle.std.proofs.Common.{◌∙◌, sym, arith}
 use Rattle.rept_reason.specs.declared.fact.Cell.TheVariants.{Byte}
 use Rattle.rept_report.specs.Spots.{passage}
 use Rattle.rept_analysis.specs.State.{state_of, reader}
-use Rattle.rept_analysis.specs.Drawing.{Knows, IsCarriedIf}
-use Rattle.rept_analysis.proofs.Drawn.{Drew_if}
+use Rattle.rept_analysis.specs.Inferring.{Knows, IsCarriedIf}
+use Rattle.rept_analysis.proofs.Conclusion.{HasInferred_if}
 use Rattle.rept_analysis.proofs.Spreading.{brought_on}
 use Rattle.rept_analysis.proofs.Going.{same_if}
 use Rattle.rept_analysis.proofs.analysis.Analysis.tell_either.Goals as goal
@@ -17,8 +17,8 @@ tell_across-requires-clause-to g c = ((g.met.P.Paths.lawful c.args.self.now.path
 pub tell_across-requires-clause-brought : goal.tell_across-requires-clause-brought
 tell_across-requires-clause-brought g c = brought_on (state_of (reader g.P.Paths.timeline g.L.LastValues.values) g.W.Partial.sets g.W.Transfer.moves g.R.RowRules.rules g.B.ByteFacts.store c.args.self.now) (record { sets = g.met.W.Partial.lawful; moves = g.met.W.Transfer.covers; rules = g.met.R.RowRules.lawful; legs = (g.met.P.Paths.lawful _).legs; moments = (g.met.P.Paths.lawful _).moments }) c.held.ensures (passage c.args.a c.args.m c.args.w) c.in-Some.value (omega arith) c.requires.bridged (sym c.known_byte.ensures ∙ c.in-Some.is)
 
-pub returns-in-Some-clause-drew : goal.returns-in-Some-clause-drew
-returns-in-Some-clause-drew g c =
+pub returns-in-Some-clause-inferred : goal.returns-in-Some-clause-inferred
+returns-in-Some-clause-inferred g c =
     let s = (state_of (reader g.P.Paths.timeline g.L.LastValues.values) g.W.Partial.sets g.W.Transfer.moves g.R.RowRules.rules g.B.ByteFacts.store c.args.self.now) in
     let x = passage c.args.a c.args.m c.args.w in
-    Drew_if s _ c.tell_across.result (Knows c.args.w (Byte c.args.a) c.in-Some.value) (IsCarriedIf x) c.tell_across.ensures.drew (λ h. same_if s x c.in-Some.value (sym c.known_byte.ensures ∙ c.in-Some.is) h)
+    HasInferred_if s _ c.tell_across.result (Knows c.args.w (Byte c.args.a) c.in-Some.value) (IsCarriedIf x) c.tell_across.ensures.inferred (λ h. same_if s x c.in-Some.value (sym c.known_byte.ensures ∙ c.in-Some.is) h)

@@ -1,7 +1,7 @@
 use Rattle.std.proofs.Common.{◌≡◌, ◌<◌, ◌^◌, sym, subst, arith, false}
 use Rattle.rept_log.specs.Known.{known_of}
 use Rattle.rept_analysis.specs.State.{Whole, state_of, reader}
-use Rattle.rept_analysis.specs.Drawing.{IsRowAddress}
+use Rattle.rept_analysis.specs.Inferring.{IsRowAddress}
 use Rattle.rept_analysis.proofs.Learning.{tracked_byte}
 use Rattle.rept_analysis.proofs.analysis.Analysis.track.Goals as goal
 

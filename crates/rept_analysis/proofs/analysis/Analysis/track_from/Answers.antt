@@ -1,8 +1,8 @@
 use Rattle.std.proofs.Common.{◌+◌, ◌<◌, arith}
 use Rattle.rept_isa.specs.Numbers.{beside}
 use Rattle.rept_analysis.specs.State.{state_of, reader}
-use Rattle.rept_analysis.specs.Drawing.{IsTracked, AreTrackedFrom}
-use Rattle.rept_analysis.proofs.Drawn.{Drew_both, Grows_trans, one_more}
+use Rattle.rept_analysis.specs.Inferring.{IsTracked, AreTrackedFrom}
+use Rattle.rept_analysis.proofs.Conclusion.{HasInferred_both, Grows_trans, one_more}
 use Rattle.rept_analysis.proofs.Following.{addresses_after}
 use Rattle.rept_analysis.proofs.Listing.{writings_after}
 use Rattle.rept_analysis.proofs.analysis.Analysis.track_from.Goals as goal
@@ -11,12 +11,12 @@ pub loop-k-preserved : goal.loop-k-preserved
 loop-k-preserved g c =
     let k = c.loop-k.k in
     let start = c.args.start in
-    let here = c.in_ok-new.ensures.drew in
+    let here = c.in_ok-new.ensures.inferred in
     let there = c.in_ok-new.ensures.tracked in
     record {
       grows = Grows_trans _ _ _ c.loop-k.invariant.grows c.in_ok-new.ensures.grows;
-      drew = Drew_both _ _ _ c.loop-k.learnt c.in_ok-new.new (AreTrackedFrom start k) (IsTracked (beside start k)) (AreTrackedFrom start (k + 1))
-          c.loop-k.invariant.grows c.in_ok-new.ensures.grows c.loop-k.invariant.drew here
+      inferred = HasInferred_both _ _ _ c.loop-k.learnt c.in_ok-new.new (AreTrackedFrom start k) (IsTracked (beside start k)) (AreTrackedFrom start (k + 1))
+          c.loop-k.invariant.grows c.in_ok-new.ensures.grows c.loop-k.invariant.inferred here
           (λ below at_k. one_more (λ j. IsTracked (beside start j) (state_of (reader g.P.Paths.timeline g.L.LastValues.values) g.W.Partial.sets g.W.Transfer.moves g.R.RowRules.rules g.B.ByteFacts.store c.args.self.now)) k below at_k);
       tracked = one_more (λ j. IsTracked (beside start j) (state_of (reader g.P.Paths.timeline g.L.LastValues.values) g.W.Partial.sets g.W.Transfer.moves g.R.RowRules.rules g.B.ByteFacts.store c.track_one.new.self)) k (λ j lt. c.in_ok-new.ensures.grows.tracked (beside start j) (c.loop-k.invariant.tracked j lt)) there;
     }

@@ -1,5 +1,5 @@
 use Rattle.rept_analysis.specs.State.{state_of, reader}
-use Rattle.rept_analysis.specs.Drawing.{Grows, Drew, AreTrackedFrom}
+use Rattle.rept_analysis.specs.Inferring.{Grows, HasInferred, AreTrackedFrom}
 use Rattle.rept_analysis.proofs.analysis.Analysis.track_from.Given as goal
 
 abbrev pub invariant-loop-k : goal.invariant-loop-k
@@ -7,6 +7,6 @@ invariant-loop-k g l =
     let st = state_of (reader g.P.Paths.timeline g.L.LastValues.values) g.W.Partial.sets g.W.Transfer.moves g.R.RowRules.rules g.B.ByteFacts.store in
     record {
       grows : Grows (st l.fn.self) (st l.self);
-      drew : Drew (st l.fn.self) (st l.self) l.learnt (AreTrackedFrom l.start l.k);
+      inferred : HasInferred (st l.fn.self) (st l.self) l.learnt (AreTrackedFrom l.start l.k);
       tracked : AreTrackedFrom l.start l.k (st l.self);
     }

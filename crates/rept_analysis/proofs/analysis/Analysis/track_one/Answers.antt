@@ -1,28 +1,28 @@
 use Rattle.std.proofs.Common.{true}
 use Rattle.rept_analysis.specs.State.{AnalysisState, state_of, reader}
-use Rattle.rept_analysis.specs.Drawing.{IsTracked}
-use Rattle.rept_analysis.proofs.Drawn.{Drew_new, Drew_both, Grows_same, Grows_trans}
+use Rattle.rept_analysis.specs.Inferring.{IsTracked}
+use Rattle.rept_analysis.proofs.Conclusion.{HasInferred_new, HasInferred_both, Grows_same, Grows_trans}
 use Rattle.rept_analysis.proofs.Listing.{writings_after}
 use Rattle.rept_analysis.proofs.analysis.Analysis.track_one.Goals as goal
 
-pub draw_dump-requires-clause-tracked : goal.draw_dump-requires-clause-tracked
-draw_dump-requires-clause-tracked g c = let told = rw c.in-Ok-true.field-0-test at c.in-Ok-true.ensures in told.2
+pub infer_dump-requires-clause-tracked : goal.infer_dump-requires-clause-tracked
+infer_dump-requires-clause-tracked g c = let told = rw c.in-Ok-true.field-0-test at c.in-Ok-true.ensures in told.2
 
-pub draw_dump-requires-clause-writings : goal.draw_dump-requires-clause-writings
-draw_dump-requires-clause-writings g c = let told = rw c.in-Ok-true.field-0-test at c.in-Ok-true.ensures in writings_after (state_of (reader g.P.Paths.timeline g.L.LastValues.values) g.W.Partial.sets g.W.Transfer.moves g.R.RowRules.rules g.B.ByteFacts.store c.args.self.now) (state_of (reader g.P.Paths.timeline g.L.LastValues.values) g.W.Partial.sets g.W.Transfer.moves g.R.RowRules.rules g.B.ByteFacts.store c.track.new.self) told.0 c.requires.writings
+pub infer_dump-requires-clause-writings : goal.infer_dump-requires-clause-writings
+infer_dump-requires-clause-writings g c = let told = rw c.in-Ok-true.field-0-test at c.in-Ok-true.ensures in writings_after (state_of (reader g.P.Paths.timeline g.L.LastValues.values) g.W.Partial.sets g.W.Transfer.moves g.R.RowRules.rules g.B.ByteFacts.store c.args.self.now) (state_of (reader g.P.Paths.timeline g.L.LastValues.values) g.W.Partial.sets g.W.Transfer.moves g.R.RowRules.rules g.B.ByteFacts.store c.track.new.self) told.0 c.requires.writings
 
 pub returns-in_err-_told-in-Ok-true-clause-grows : goal.returns-in_err-_told-in-Ok-true-clause-grows
-returns-in_err-_told-in-Ok-true-clause-grows g c = let told = rw c.in-Ok-true.field-0-test at c.in-Ok-true.ensures in Grows_trans _ _ _ told.0 c.draw_dump.ensures.grows
+returns-in_err-_told-in-Ok-true-clause-grows g c = let told = rw c.in-Ok-true.field-0-test at c.in-Ok-true.ensures in Grows_trans _ _ _ told.0 c.infer_dump.ensures.grows
 
 pub returns-in_ok-_told-in-Ok-true-clause-grows : goal.returns-in_ok-_told-in-Ok-true-clause-grows
 returns-in_ok-_told-in-Ok-true-clause-grows g c = let told = rw c.in-Ok-true.field-0-test at c.in-Ok-true.ensures in Grows_trans _ _ _ told.0 c.in_ok-_told-in-Ok-true.ensures.grows
 
-pub returns-in_ok-_told-in-Ok-true-clause-drew : goal.returns-in_ok-_told-in-Ok-true-clause-drew
-returns-in_ok-_told-in-Ok-true-clause-drew g c =
+pub returns-in_ok-_told-in-Ok-true-clause-inferred : goal.returns-in_ok-_told-in-Ok-true-clause-inferred
+returns-in_ok-_told-in-Ok-true-clause-inferred g c =
     let told = rw c.in-Ok-true.field-0-test at c.in-Ok-true.ensures in
     let a = (state_of (reader g.P.Paths.timeline g.L.LastValues.values) g.W.Partial.sets g.W.Transfer.moves g.R.RowRules.rules g.B.ByteFacts.store c.args.self.now) in
     let b = (state_of (reader g.P.Paths.timeline g.L.LastValues.values) g.W.Partial.sets g.W.Transfer.moves g.R.RowRules.rules g.B.ByteFacts.store c.track.new.self) in
-    Drew_both a b (state_of (reader g.P.Paths.timeline g.L.LastValues.values) g.W.Partial.sets g.W.Transfer.moves g.R.RowRules.rules g.B.ByteFacts.store c.draw_dump.new.self) true c.in_ok-_told-in-Ok-true._told (IsTracked c.args.a) (λ (x : AnalysisState g.row.W.Denot). Unit {0}) (IsTracked c.args.a) told.0 c.in_ok-_told-in-Ok-true.ensures.grows (Drew_new a b (IsTracked c.args.a) told.1 told.5) c.in_ok-_told-in-Ok-true.ensures.drew (λ p q. p)
+    HasInferred_both a b (state_of (reader g.P.Paths.timeline g.L.LastValues.values) g.W.Partial.sets g.W.Transfer.moves g.R.RowRules.rules g.B.ByteFacts.store c.infer_dump.new.self) true c.in_ok-_told-in-Ok-true._told (IsTracked c.args.a) (λ (x : AnalysisState g.row.W.Denot). Unit {0}) (IsTracked c.args.a) told.0 c.in_ok-_told-in-Ok-true.ensures.grows (HasInferred_new a b (IsTracked c.args.a) told.1 told.5) c.in_ok-_told-in-Ok-true.ensures.inferred (λ p q. p)
 
 pub returns-in_ok-_told-in-Ok-true-clause-tracked : goal.returns-in_ok-_told-in-Ok-true-clause-tracked
 returns-in_ok-_told-in-Ok-true-clause-tracked g c = let told = rw c.in-Ok-true.field-0-test at c.in-Ok-true.ensures in c.in_ok-_told-in-Ok-true.ensures.grows.tracked c.args.a told.2

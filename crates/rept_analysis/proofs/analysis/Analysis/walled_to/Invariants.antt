@@ -1,6 +1,6 @@
 use Rattle.std.proofs.Common.{◌≤◌, ◌+◌, ◌-◌}
 use Rattle.rept_analysis.specs.State.{state_of, reader}
-use Rattle.rept_analysis.specs.Drawing.{IsCarriedUpTo}
+use Rattle.rept_analysis.specs.Inferring.{IsCarriedUpTo}
 use Rattle.rept_analysis.proofs.analysis.Analysis.walled_to.Given as goal
 
 abbrev pub invariant-loop-number : goal.invariant-loop-number

@@ -4,7 +4,7 @@ use Rattle.rept_reason.specs.Facts.{told}
 use Rattle.rept_report.specs.Log.{oldest}
 use Rattle.rept_report.specs.Conflicts.{IsWrongTurn, Shows}
 use Rattle.rept_analysis.specs.State.{setting_of, reader}
-use Rattle.rept_analysis.proofs.Drawn.{one_more}
+use Rattle.rept_analysis.proofs.Conclusion.{one_more}
 use Rattle.rept_analysis.proofs.analysis.Analysis.wrong_turn.Goals as goal
 
 pub returns-clause-none : goal.returns-clause-none

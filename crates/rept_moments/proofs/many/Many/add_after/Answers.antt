@@ -3,7 +3,7 @@ use Rattle.std.proofs.lemmas.Bool.{false≢true}
 use Rattle.std.proofs.lemmas.Result.{on_ok_weaker}
 use Rattle.rept_steps.specs.Course.{Course}
 use Rattle.rept_course.specs.Numbered.{row_on}
-use Rattle.rept_moments.specs.declared.side.Side.{Side}
+use Rattle.rept_moments.specs.declared.side.PointSide.{PointSide}
 use Rattle.rept_moments.specs.Begins.{following_at}
 use Rattle.rept_moments.specs.Nexts.{offers_at, AddsOthers, Member}
 use Rattle.rept_moments.specs.Tables.{AreTables}
@@ -31,5 +31,5 @@ returns c =
     let t : AreTables c.args.self.now c.self.inside.begins c.self.inside.numbers c.self.inside.merged.items = subst (λ (D : Course). AreTables D c.self.inside.begins c.self.inside.numbers c.self.inside.merged.items) c.self.view_is c.self.invariant in
     let own : c.following.result ≡ following_at c.args.self.now c.args.side = c.following.ensures.value ∙ ap (λ (D : Course). following_at D c.args.side) c.self.view_is in
     nexts_found c.args.self.now t.sound c.args.side (there_row c.args.self.now (row_on c.args.self.now c.args.side.point) c.requires) c.later-later.result c.later-later.ensures c.args.own c.args.list.now.items c.add_first.new.list.items c.add_begun.new.list.items (is_on c.later-later.result.some c.if-not-later.false)
-    (subst (λ (o : Option Side). AddsOthers c.args.own (Member (offers_at c.args.self.now c.later-later.result.last o)) c.args.list.now.items c.add_first.new.list.items) own c.in_ok-add_first.ensures)
+    (subst (λ (o : Option PointSide). AddsOthers c.args.own (Member (offers_at c.args.self.now c.later-later.result.last o)) c.args.list.now.items c.add_first.new.list.items) own c.in_ok-add_first.ensures)
     c.in_ok-add_begun.ensures

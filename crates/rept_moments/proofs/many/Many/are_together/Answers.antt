@@ -4,7 +4,7 @@ use Rattle.rept_steps.specs.Course.{Course}
 use Rattle.rept_moments.specs.Tables.{AreTables}
 use Rattle.rept_moments.specs.Numbers.{numbers_of}
 use Rattle.rept_moments.specs.Ordering.{moment_at_side}
-use Rattle.rept_moments.proofs.Falls.{leads_placed}
+use Rattle.rept_moments.proofs.MayAct.{leads_placed}
 use Rattle.rept_moments.proofs.Together.{end_apart, last_told, together_from}
 use Rattle.rept_moments.proofs.many.Many.are_together.Goals as goal
 

@@ -1,5 +1,5 @@
 use Rattle.std.proofs.Common.{Some, None, refl, sym, ◌∙◌}
-use Rattle.rept_moments.proofs.Falls.{leads_placed}
+use Rattle.rept_moments.proofs.MayAct.{leads_placed}
 use Rattle.rept_moments.proofs.Told.{ahead_told}
 use Rattle.rept_moments.proofs.many.Many.is_ahead.Goals as goal
 

@@ -2,7 +2,7 @@ use Rattle.std.proofs.Common.{◌≡◌, Bool, true, false, not, sym, subst, ◌
 use Rattle.std.proofs.lemmas.Bool.{false≢true}
 use Rattle.rept_steps.specs.Course.{Course}
 use Rattle.rept_moments.specs.Tables.{AreTables}
-use Rattle.rept_moments.proofs.Falls.{row_here, no_row_after, no_row_end}
+use Rattle.rept_moments.proofs.MayAct.{row_here, no_row_after, no_row_end}
 use Rattle.rept_moments.proofs.many.Many.row_at.Goals as goal
 
 is_off : (b : Bool) → not b ≡ true → b ≡ false

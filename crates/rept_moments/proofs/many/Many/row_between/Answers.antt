@@ -3,7 +3,7 @@ use Rattle.std.proofs.lemmas.Bool.{false≢true}
 use Rattle.rept_steps.specs.Course.{Course}
 use Rattle.rept_moments.specs.Between.{IsOwnBetween}
 use Rattle.rept_moments.specs.Tables.{AreTables}
-use Rattle.rept_moments.proofs.Falls.{leads_placed, between_own, between_after, between_end}
+use Rattle.rept_moments.proofs.MayAct.{leads_placed, between_own, between_after, between_end}
 use Rattle.rept_moments.proofs.many.Many.row_between.Goals as goal
 
 is_off : (b : Bool) → not b ≡ true → b ≡ false

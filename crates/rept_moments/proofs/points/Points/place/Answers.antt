@@ -1,13 +1,13 @@
 use Rattle.std.proofs.Common.{◌≡◌, List, length, refl, ap, ◌∙◌, arith}
 use Rattle.rept_steps.specs.Course.{Course}
-use Rattle.rept_moments.specs.declared.side.Place.{Place}
+use Rattle.rept_moments.specs.declared.side.PointOfThread.{PointOfThread}
 use Rattle.rept_moments.specs.Points.{points_in}
 use Rattle.rept_moments.proofs.Places.{places_count, place_here, place_value}
 use Rattle.rept_moments.proofs.points.Points.place.Goals as goal
 
 pub bounds-places-point : goal.bounds-places-point
 bounds-places-point c =
-    let count : length c.as_slice-places.result.now ≡ points_in c.args.self.now = ap (λ (xs : List Place). length xs) c.as_slice-places.ensures.value ∙ places_count _ _ _ _ c.self.invariant ∙ ap (λ (D : Course). points_in D) c.self.view_is in
+    let count : length c.as_slice-places.result.now ≡ points_in c.args.self.now = ap (λ (xs : List PointOfThread). length xs) c.as_slice-places.ensures.value ∙ places_count _ _ _ _ c.self.invariant ∙ ap (λ (D : Course). points_in D) c.self.view_is in
     let less = c.requires in
     omega arith
 

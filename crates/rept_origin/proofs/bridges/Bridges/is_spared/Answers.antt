@@ -1,5 +1,5 @@
 use Rattle.std.proofs.Common.{sym, ◌∙◌, arith}
-use Rattle.rept_origin.proofs.Carrying.{spared_first, spared_more, none_falls, one_writes, all_spared}
+use Rattle.rept_origin.proofs.Carrying.{spared_first, spared_more, none_may_act, one_writes, all_spared}
 use Rattle.rept_origin.proofs.bridges.Bridges.is_spared.Goals as goal
 
 pub loop-least-init : goal.loop-least-init
@@ -12,7 +12,7 @@ loop-least-preserved g c = record {
 }
 
 pub returns-in_default : goal.returns-in_default
-returns-in_default g c = none_falls (g.P.Paths.timeline c.args.self.now.paths.now) (g.S.Sources.byte c.args.self.now.sources.now) c.args.number c.args.next c.loop-least.least c.in_default.ensures c.loop-least.invariant.before
+returns-in_default g c = none_may_act (g.P.Paths.timeline c.args.self.now.paths.now) (g.S.Sources.byte c.args.self.now.sources.now) c.args.number c.args.next c.loop-least.least c.in_default.ensures c.loop-least.invariant.before
 
 pub returns-then-may_write : goal.returns-then-may_write
 returns-then-may_write g c = one_writes (g.P.Paths.timeline c.args.self.now.paths.now) (g.S.Sources.byte c.args.self.now.sources.now) c.args.number c.args.next c.loop-least.least c.in-Some.row c.in-Some.ensures (sym c.may_write.ensures ∙ c.if-may_write.true)

@@ -1,4 +1,4 @@
-use Rattle.rept_origin.specs.declared.step.Way.TheVariants.{Onward, Back}
+use Rattle.rept_origin.specs.declared.step.Direction.TheVariants.{Onward, Back}
 use Rattle.rept_origin.proofs.Carrying.{carries}
 use Rattle.rept_origin.proofs.bridges.BridgesNet.next_linked.Goals as goal
 

@@ -1,5 +1,5 @@
 use Rattle.std.proofs.Common.{arith}
-use Rattle.rept_ports.proofs.LineLemmas.{one_more, at_newline, at_its_end, at_fault, pushed, overflowed, falls}
+use Rattle.rept_ports.proofs.LineLemmas.{one_more, at_newline, at_its_end, at_fault, pushed, overflowed, may_act}
 use Rattle.rept_ports.proofs.lines.read_line.read_line.Goals as goal
 
 pub returns-in-Ok-None : goal.returns-in-Ok-None
@@ -12,7 +12,7 @@ returns-then-byte-eq10 g c =
 
 pub loop-line-smaller-then-is_err : goal.loop-line-smaller-then-is_err
 loop-line-smaller-then-is_err g c =
-    falls c.loop-line.intake c.take.new.self (g.S.Source.port c.loop-line.source) (g.S.Source.port c.take.new.source) c.in-Ok-Some.byte
+    may_act c.loop-line.intake c.take.new.self (g.S.Source.port c.loop-line.source) (g.S.Source.port c.take.new.source) c.in-Ok-Some.byte
     (rw c.in-Ok-Some.field-0-is at c.in-Ok-Some.ensures)
 
 pub loop-line-preserved-then-is_err : goal.loop-line-preserved-then-is_err
@@ -22,7 +22,7 @@ loop-line-preserved-then-is_err g c =
 
 pub loop-line-smaller : goal.loop-line-smaller
 loop-line-smaller g c =
-    falls c.loop-line.intake c.take.new.self (g.S.Source.port c.loop-line.source) (g.S.Source.port c.take.new.source) c.in-Ok-Some.byte
+    may_act c.loop-line.intake c.take.new.self (g.S.Source.port c.loop-line.source) (g.S.Source.port c.take.new.source) c.in-Ok-Some.byte
     (rw c.in-Ok-Some.field-0-is at c.in-Ok-Some.ensures)
 
 pub loop-line-preserved : goal.loop-line-preserved

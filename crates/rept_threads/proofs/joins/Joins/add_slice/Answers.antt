@@ -2,10 +2,10 @@ use Rattle.std.proofs.Common.{◌≡◌, ◌++◌, List, length, reverse, take, 
 use Rattle.std.proofs.lemmas.List.{length-reverse, reverse-reverse}
 use Rattle.std.specs.Prelude.{option_map}
 use Rattle.rept_slices.specs.Stamps.{clock_of}
-use Rattle.rept_slices.specs.declared.telling.Entry.{Entry}
+use Rattle.rept_slices.specs.declared.telling.StreamSlice.{StreamSlice}
 use Rattle.rept_isa.specs.declared.row.StepRow.{StepRow}
 use Rattle.rept_slices.specs.Order.{head_of}
-use Rattle.rept_threads.specs.declared.walks.Kept.{Kept}
+use Rattle.rept_threads.specs.declared.walks.FinishedWalk.{FinishedWalk}
 use Rattle.rept_threads.proofs.Joinery.{first_walked, next_ran, next_clock, there_within, there_is, slice_added, goes_to}
 use Rattle.rept_steps.specs.Linked.{EndBefore}
 use Rattle.rept_slices.specs.Stamps.{address_of}
@@ -30,7 +30,7 @@ part-rows-requires c =
     let all = c.args.self.now.stretches.items in
     let i = first_walked all c.args.walked.now c.in-Some.slice.now q.0 q.1 q.2 c.in-Some.ensures.value in
     let kept_is : c.index.result.now ≡ i.stretch = c.index.ensures ∙ there_is all c.in-Some.slice.now.stretch i.stretch _ i.there in
-    let rows = ap (length {A = StepRow}) (c.rows-rows.ensures.list ∙ ap (λ (k : Kept). k.rows) kept_is) in
+    let rows = ap (length {A = StepRow}) (c.rows-rows.ensures.list ∙ ap (λ (k : FinishedWalk). k.rows) kept_is) in
     let fits = i.fits in
     omega (arith, rows, fits)
 
@@ -40,7 +40,7 @@ returns-clause-ok c = λ r rs a.
     let slice = c.in-Some.slice.now in
     let i = first_walked all c.args.walked.now slice r rs a c.in-Some.ensures.value in
     let kept_is : c.index.result.now ≡ i.stretch = c.index.ensures ∙ there_is all slice.stretch i.stretch _ i.there in
-    let own : c.part-rows.result.now ≡ r.rows = c.part-rows.ensures ∙ ap (λ (xs : List StepRow). take slice.count (drop slice.first xs)) (c.rows-rows.ensures.list ∙ ap (λ (k : Kept). k.rows) kept_is) ∙ i.rows in
+    let own : c.part-rows.result.now ≡ r.rows = c.part-rows.ensures ∙ ap (λ (xs : List StepRow). take slice.count (drop slice.first xs)) (c.rows-rows.ensures.list ∙ ap (λ (k : FinishedWalk). k.rows) kept_is) ∙ i.rows in
     let b = c.in-Ok.ensures.ok r rs a in
     let steps : c.add_rows-2.new.steps ≡ (c.args.thread.now.steps ++ r.rows) ++ c.in-Ok.more =
     c.in_ok-add_rows-2.ensures.ok ∙ ap (λ (xs : List StepRow). c.add_rows.new.steps ++ xs) c.rows.ensures.list ∙ ap (λ (xs : List StepRow). xs ++ c.in-Ok.more) (c.in_ok-add_rows.ensures.ok ∙ ap (λ (xs : List StepRow). c.args.thread.now.steps ++ xs) own) in
@@ -54,7 +54,7 @@ returns-clause-ok c = λ r rs a.
       b,
       goes_to c.args.self.now c.bridge.new.self _ _ count (let m = count.count in omega (arith, m, back)),
       omega (arith, few, back),
-      slice_added c.args.thread.now r rs c.in-Ok.more c.add_rows-2.new.steps c.push.new.self c.slice_of-slice.result _ c.len-first.result c.len.result steps first (len ∙ ap (length {A = StepRow}) steps) (c.slice_of-slice.ensures r.told i.told) (ap (option_map (λ (e : Entry). clock_of e.start)) c.second.ensures ∙ n) c.in_default-push.ensures.ok,
+      slice_added c.args.thread.now r rs c.in-Ok.more c.add_rows-2.new.steps c.push.new.self c.slice_of-slice.result _ c.len-first.result c.len.result steps first (len ∙ ap (length {A = StepRow}) steps) (c.slice_of-slice.ensures r.told i.told) (ap (option_map (λ (e : StreamSlice). clock_of e.start)) c.second.ensures ∙ n) c.in_default-push.ensures.ok,
     )
 
 pub add_rows-requires : goal.add_rows-requires
@@ -64,7 +64,7 @@ add_rows-requires c =
     let slice = c.in-Some.slice.now in
     let i = first_walked all c.args.walked.now slice q.0 q.1 q.2 c.in-Some.ensures.value in
     let kept_is : c.index.result.now ≡ i.stretch = c.index.ensures ∙ there_is all slice.stretch i.stretch _ i.there in
-    let own : c.part-rows.result.now ≡ (q.0).rows = c.part-rows.ensures ∙ ap (λ (xs : List StepRow). take slice.count (drop slice.first xs)) (c.rows-rows.ensures.list ∙ ap (λ (k : Kept). k.rows) kept_is) ∙ i.rows in
+    let own : c.part-rows.result.now ≡ (q.0).rows = c.part-rows.ensures ∙ ap (λ (xs : List StepRow). take slice.count (drop slice.first xs)) (c.rows-rows.ensures.list ∙ ap (λ (k : FinishedWalk). k.rows) kept_is) ∙ i.rows in
     (address_of (q.0).told.start, onward_to q.0 (head_of q.1), q.3, subst (λ (xs : List StepRow). GoesFromTo xs (address_of (q.0).told.start) (onward_to q.0 (head_of q.1))) (sym own) q.4)
 
 pub add_rows-requires-2 : goal.add_rows-requires-2
@@ -74,7 +74,7 @@ add_rows-requires-2 c =
     let slice = c.in-Some.slice.now in
     let i = first_walked all c.args.walked.now slice q.0 q.1 q.2 c.in-Some.ensures.value in
     let kept_is : c.index.result.now ≡ i.stretch = c.index.ensures ∙ there_is all slice.stretch i.stretch _ i.there in
-    let own : c.part-rows.result.now ≡ (q.0).rows = c.part-rows.ensures ∙ ap (λ (xs : List StepRow). take slice.count (drop slice.first xs)) (c.rows-rows.ensures.list ∙ ap (λ (k : Kept). k.rows) kept_is) ∙ i.rows in
+    let own : c.part-rows.result.now ≡ (q.0).rows = c.part-rows.ensures ∙ ap (λ (xs : List StepRow). take slice.count (drop slice.first xs)) (c.rows-rows.ensures.list ∙ ap (λ (k : FinishedWalk). k.rows) kept_is) ∙ i.rows in
     let steps : c.add_rows.new.steps ≡ c.args.thread.now.steps ++ (q.0).rows = c.in_ok-add_rows.ensures.ok ∙ ap (λ (xs : List StepRow). c.args.thread.now.steps ++ xs) own in
     let e = ending_of c.args.self.now c.args.pc in
     let goes = bridge_goes e c.args.self.now.count q.0 (head_of q.1) (reverse c.in-Ok.more) (c.in-Ok.ensures.ok q.0 q.1 q.2) in
@@ -88,7 +88,7 @@ returns-clause-ready c = λ r rs a end goes_own.
     let slice = c.in-Some.slice.now in
     let i = first_walked all c.args.walked.now slice r rs a c.in-Some.ensures.value in
     let kept_is : c.index.result.now ≡ i.stretch = c.index.ensures ∙ there_is all slice.stretch i.stretch _ i.there in
-    let own : c.part-rows.result.now ≡ r.rows = c.part-rows.ensures ∙ ap (λ (xs : List StepRow). take slice.count (drop slice.first xs)) (c.rows-rows.ensures.list ∙ ap (λ (k : Kept). k.rows) kept_is) ∙ i.rows in
+    let own : c.part-rows.result.now ≡ r.rows = c.part-rows.ensures ∙ ap (λ (xs : List StepRow). take slice.count (drop slice.first xs)) (c.rows-rows.ensures.list ∙ ap (λ (k : FinishedWalk). k.rows) kept_is) ∙ i.rows in
     let steps : c.add_rows-2.new.steps ≡ (c.args.thread.now.steps ++ r.rows) ++ c.in-Ok.more =
     c.in_ok-add_rows-2.ensures.ok ∙ ap (λ (xs : List StepRow). c.add_rows.new.steps ++ xs) c.rows.ensures.list ∙ ap (λ (xs : List StepRow). xs ++ c.in-Ok.more) (c.in_ok-add_rows.ensures.ok ∙ ap (λ (xs : List StepRow). c.args.thread.now.steps ++ xs) own) in
     let e = ending_of c.args.self.now c.args.pc in

@@ -4,8 +4,8 @@ use Rattle.rept_isa.specs.declared.row.StepRow.{StepRow}
 use Rattle.rept_path.specs.State.{Counts}
 use Rattle.rept_path.specs.Program.{code_of}
 use Rattle.rept_slices.specs.Order.{head_of}
-use Rattle.rept_threads.specs.declared.walks.Kept.{Kept}
-use Rattle.rept_slices.specs.declared.telling.Entry.{Entry}
+use Rattle.rept_threads.specs.declared.walks.FinishedWalk.{FinishedWalk}
+use Rattle.rept_slices.specs.declared.telling.StreamSlice.{StreamSlice}
 use Rattle.std.specs.Prelude.{Option}
 use Rattle.rept_threads.proofs.Joinery.{NextRan, first_walked, next_ran, there_within, there_is, set_same, leads_on, leads_nowhere, leads_fit}
 use Rattle.rept_threads.proofs.joins.Joins.bridge.Goals as goal
@@ -25,7 +25,7 @@ returns-in_default-onward-clause-ok c = λ r rs a.
     let i = first_walked all c.args.walked.now c.in-Some.first.now r rs a c.in-Some.ensures.value in
     let kept = c.index_mut-kept.result.now in
     let kept_is : kept ≡ i.stretch = c.index_mut-kept.ensures.value ∙ there_is all c.in-Some.first.now.stretch i.stretch _ i.there in
-    let n = subst (λ (o : Option Entry). NextRan o (head_of rs)) (sym c.second.ensures) (next_ran all c.args.walked.now r rs a) in
+    let n = subst (λ (o : Option StreamSlice). NextRan o (head_of rs)) (sym c.second.ensures) (next_ran all c.args.walked.now r rs a) in
     leads_nowhere c.args.self.now c.args.pc all c.in-Some.first.now r i kept kept_is c.second.result (head_of rs) n (sym c.onward.ensures ∙ c.in_default-onward.is) ∙ ap (λ (xs : List StepRow). Ok (reverse xs)) (sym c.new-in_default-onward.ensures)
 
 pub returns-in_default-onward-clause-count : goal.returns-in_default-onward-clause-count
@@ -44,7 +44,7 @@ cross-requires-clause-walk c =
     let all = c.args.self.now.stretches.items in
     let i = first_walked all c.args.walked.now c.in-Some.first.now q.0 q.1 q.2 c.in-Some.ensures.value in
     let kept_is : c.index_mut-kept.result.now ≡ i.stretch = c.index_mut-kept.ensures.value ∙ there_is all c.in-Some.first.now.stretch i.stretch _ i.there in
-    subst (λ (k : Kept). Counts k.walk) (sym kept_is) i.counts
+    subst (λ (k : FinishedWalk). Counts k.walk) (sym kept_is) i.counts
 
 pub cross-requires-clause-empty : goal.cross-requires-clause-empty
 cross-requires-clause-empty c =
@@ -52,7 +52,7 @@ cross-requires-clause-empty c =
     let all = c.args.self.now.stretches.items in
     let i = first_walked all c.args.walked.now c.in-Some.first.now q.0 q.1 q.2 c.in-Some.ensures.value in
     let kept_is : c.index_mut-kept.result.now ≡ i.stretch = c.index_mut-kept.ensures.value ∙ there_is all c.in-Some.first.now.stretch i.stretch _ i.there in
-    ap (λ (k : Kept). k.walk.steps) kept_is ∙ i.empty
+    ap (λ (k : FinishedWalk). k.walk.steps) kept_is ∙ i.empty
 
 pub returns-in-Err-clause-err : goal.returns-in-Err-clause-err
 returns-in-Err-clause-err c = λ r rs a.
@@ -60,7 +60,7 @@ returns-in-Err-clause-err c = λ r rs a.
     let i = first_walked all c.args.walked.now c.in-Some.first.now r rs a c.in-Some.ensures.value in
     let kept = c.index_mut-kept.result.now in
     let kept_is : kept ≡ i.stretch = c.index_mut-kept.ensures.value ∙ there_is all c.in-Some.first.now.stretch i.stretch _ i.there in
-    let n = subst (λ (o : Option Entry). NextRan o (head_of rs)) (sym c.second.ensures) (next_ran all c.args.walked.now r rs a) in
+    let n = subst (λ (o : Option StreamSlice). NextRan o (head_of rs)) (sym c.second.ensures) (next_ran all c.args.walked.now r rs a) in
     let same = leads_on c.args.self.now c.args.pc all c.in-Some.first.now r i kept kept_is c.saturating_sub-room.result c.in-Some-onward.lead c.second.result (head_of rs) n c.saturating_sub-room.ensures (sym c.onward.ensures ∙ c.in-Some-onward.is) in
     elim c.in-Err.ensures.err [ inl m ↦ inl m | inr e ↦ inr (sym same ∙ e) ]
 
@@ -70,7 +70,7 @@ returns-clause-ok c = λ r rs a.
     let i = first_walked all c.args.walked.now c.in-Some.first.now r rs a c.in-Some.ensures.value in
     let kept = c.index_mut-kept.result.now in
     let kept_is : kept ≡ i.stretch = c.index_mut-kept.ensures.value ∙ there_is all c.in-Some.first.now.stretch i.stretch _ i.there in
-    let n = subst (λ (o : Option Entry). NextRan o (head_of rs)) (sym c.second.ensures) (next_ran all c.args.walked.now r rs a) in
+    let n = subst (λ (o : Option StreamSlice). NextRan o (head_of rs)) (sym c.second.ensures) (next_ran all c.args.walked.now r rs a) in
     let same = leads_on c.args.self.now c.args.pc all c.in-Some.first.now r i kept kept_is c.saturating_sub-room.result c.in-Some-onward.lead c.second.result (head_of rs) n c.saturating_sub-room.ensures (sym c.onward.ensures ∙ c.in-Some-onward.is) in
     sym same ∙ c.in-Ok.ensures.ok
 

@@ -4,7 +4,7 @@ use Rattle.rept_path.specs.declared.fault.PathFault.TheVariants.{OutOfMemory}
 use Rattle.rept_slices.specs.Joins.{ThreadGround, ThreadNote, join, of_thread, threads}
 use Rattle.rept_threads.specs.Joining.{ground_of}
 use Rattle.rept_threads.specs.Notes.{known_by}
-use Rattle.rept_threads.specs.declared.notes.Note.{Note as KeptNote}
+use Rattle.rept_threads.specs.declared.notes.KeptNote.{KeptNote}
 use Rattle.rept_threads.proofs.Joinery.{Left, one_thread, one_thread_fails, all_threads, asked_thread, same_ending, goes_on, note_left}
 use Rattle.rept_threads.proofs.joins.Joins.threads.Goals as goal
 

@@ -1,5 +1,5 @@
 use Rattle.std.proofs.Common.{◌<◌, ◌≤◌, ℕ, length, sym, subst, ◌∙◌}
-use Rattle.rept_moments.specs.declared.course.Course.{Course}
+use Rattle.rept_moments.specs.declared.course.NumberedRun.{NumberedRun}
 use Rattle.rept_report.specs.Timeline.{IsLeastFrom}
 use Rattle.rept_timeline.specs.Times.{time_of, IsCloseFrom}
 use Rattle.rept_timeline.proofs.Lists.{sound_of}
@@ -12,4 +12,4 @@ close_from-requires-clause-sound c = sound_of c.in-Many.many c.args.self.now.sto
 pub returns-in-One : goal.returns-in-One
 returns-in-One c =
     let low : IsLeastFrom (λ (i : ℕ). (i < length c.in-One.steps.now) × (c.args.row ≤ i)) c.args.least c.least_below.result = subst (λ (n : ℕ). IsLeastFrom (λ (i : ℕ). (i < n) × (c.args.row ≤ i)) c.args.least c.least_below.result) c.len.ensures.value c.least_below.ensures in
-    subst (λ (d : Course). IsCloseFrom (time_of d) c.args.row c.args.least c.least_below.result) (sym (sym c.course.ensures.value ∙ c.in-One.is)) (close_alone c.in-One.steps.now c.args.row c.args.least c.least_below.result low)
+    subst (λ (d : NumberedRun). IsCloseFrom (time_of d) c.args.row c.args.least c.least_below.result) (sym (sym c.course.ensures.value ∙ c.in-One.is)) (close_alone c.in-One.steps.now c.args.row c.args.least c.least_below.result low)

@@ -1,5 +1,5 @@
 use Rattle.std.proofs.Common.{◌<◌, ◌≤◌, ℕ, length, sym, subst, ◌∙◌}
-use Rattle.rept_moments.specs.declared.course.Course.{Course}
+use Rattle.rept_moments.specs.declared.course.NumberedRun.{NumberedRun}
 use Rattle.rept_report.specs.Timeline.{IsLeastFrom}
 use Rattle.rept_timeline.specs.Times.{time_of, IsOpenFrom}
 use Rattle.rept_timeline.proofs.Making.{many_storing, open_alone}
@@ -11,4 +11,4 @@ open_from-requires-clause-listed c = (many_storing c.args.self.now.ways c.in-Man
 pub returns-in-One : goal.returns-in-One
 returns-in-One c =
     let low : IsLeastFrom (λ (i : ℕ). (i < length c.in-One.steps.now) × (c.args.number ≤ i)) c.args.least c.least_below.result = subst (λ (n : ℕ). IsLeastFrom (λ (i : ℕ). (i < n) × (c.args.number ≤ i)) c.args.least c.least_below.result) c.len.ensures.value c.least_below.ensures in
-    subst (λ (d : Course). IsOpenFrom (time_of d) c.args.number c.args.least c.least_below.result) (sym (sym c.course.ensures.value ∙ c.in-One.is)) (open_alone c.in-One.steps.now c.args.number c.args.least c.least_below.result low)
+    subst (λ (d : NumberedRun). IsOpenFrom (time_of d) c.args.number c.args.least c.least_below.result) (sym (sym c.course.ensures.value ∙ c.in-One.is)) (open_alone c.in-One.steps.now c.args.number c.args.least c.least_below.result low)

@@ -1,5 +1,5 @@
 use Rattle.std.proofs.Common.{◌≡◌}
-use Rattle.rept_writing.specs.Falling.{AreTaken, room_of}
+use Rattle.rept_writing.specs.Acting.{AreTaken, room_of}
 use Rattle.rept_writing.proofs.columns.Columns.take_all.Given as goal
 
 abbrev pub invariant-loop-k : goal.invariant-loop-k

@@ -1,5 +1,5 @@
 use Rattle.std.proofs.Common.{◌≡◌, ℕ, ◌+◌, ◌++◌, List, sym, ◌∙◌, ap, arith, append-nil}
-use Rattle.rept_weave.specs.declared.stretch.Stretch.{Stretch}
+use Rattle.rept_weave.specs.declared.stretch.HartStretch.{HartStretch}
 use Rattle.test_threads.specs.Maderuns.Harts.{harts_of}
 use Rattle.test_threads.proofs.MaderunsLemmas.Gathering.{harts_more}
 use Rattle.test_threads.proofs.maderuns.harts.harts_of.Goals as goal
@@ -7,7 +7,7 @@ use Rattle.test_threads.proofs.maderuns.harts.harts_of.Goals as goal
 pub loop-stream-init : goal.loop-stream-init
 loop-stream-init c = λ n sum.
     let all : n ≡ c.args.streams = omega (arith, sum) in
-    ap (λ (hs : List (List Stretch)). hs ++ harts_of c.args.threads.now c.args.turns.now n 0) c.new-harts.ensures
+    ap (λ (hs : List (List HartStretch)). hs ++ harts_of c.args.threads.now c.args.turns.now n 0) c.new-harts.ensures
     ∙ ap (λ (k : ℕ). harts_of c.args.threads.now c.args.turns.now k 0) all
 
 pub loop-stream-preserved : goal.loop-stream-preserved

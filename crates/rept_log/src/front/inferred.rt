@@ -1,0 +1,257 @@
+//! Reasons by what rows let one infer in a prefix of a log.
+
+ghost use Rattle.std.specs.Prelude.{◌≡◌, ◌-◌, ◌<◌, ◌≤◌, length, map, Some, IsSome, IfOk, IfSome, IfNone, Contains};
+ghost use Rattle.rept_reason.specs.declared.fact.Cell.TheVariants.{Register, Byte};
+ghost use Rattle.rept_view.specs.declared.inferred.Conclusion.{Conclusion};
+ghost use Rattle.rept_view.specs.Seen.{seen_cell};
+ghost use Rattle.rept_report.specs.Why.{premise_of, IsInferredBecause};
+ghost use Rattle.rept_log.specs.Fronts.{basis_of, front_of, stands, told_by, IsInPlace, IsNotInferred, IsNotInferredBy, AreNotInferredBefore, AreNotInferredAfter, Gives, setting_in};
+
+use super::Front;
+use super::views::Standing;
+use crate::last::LastValues;
+use rept_isa::{Reg, StepRow};
+use rept_partial::Partial;
+use rept_reason::{Cell, Fact, Reason};
+use rept_report::Paths;
+use rept_span::Transfer;
+use rept_versions::ByteFacts;
+use rept_view::{Conclusion, Premise, RowRules, RowView, When};
+use smallvec::SmallVec;
+use std::alloc::{AllocError as OutOfMemory, Global};
+
+/// What is seen of a cell before or after a row.
+fn seen_by<V: RowView>(view: &V, when: When, cell: &Cell) -> Option<u32>
+    ensures { result ≡ seen_cell (V.seen view.now) when cell.now }
+{
+    match cell {
+        Cell::Register(r) => view.reg(when, *r).as_exact(),
+        Cell::Byte(a) => match view.byte(when, *a) {
+            Some(v) => Some(u32::from(v)),
+            None => None,
+        },
+    }
+}
+
+impl<'k, 'd, P: Paths, L: LastValues, B: ByteFacts, W: Transfer, R: RowRules> Front<
+    'k,
+    'd,
+    P,
+    L,
+    B,
+    W,
+    R,
+> {
+    /// Of conclusions of row i the first one that says what the fact says.
+    fn matching(&self, list: &[Conclusion], i: u32, fact: &Fact) -> Option<Conclusion>
+        requires { IsSome ((P.timeline self.now.paths).legs.row i) }
+        ensures found { IfSome result (λ d. Contains list.now d × Gives (P.timeline self.now.paths).moments i d fact.now) }
+        ensures none { IfNone result ((d : Conclusion) → Contains list.now d → Gives (P.timeline self.now.paths).moments i d fact.now → ⊥) }
+    {
+        for inferred in list {
+            if fact.point == self.instant(i, inferred.when, &inferred.cell)
+                && fact.cell == inferred.cell
+                && fact.value == inferred.value
+            {
+                return Some(*inferred);
+            }
+        }
+        None
+    }
+
+    /// What a conclusion of row i rests on, as a fact.
+    fn premise<V: RowView>(&self, view: &V, i: u32, need: &Premise) -> Fact
+        requires { IsSome ((P.timeline self.now.paths).legs.row i) }
+        ensures { result ≡ premise_of (P.timeline self.now.paths).moments (V.seen view.now) i need.now }
+    {
+        let cell = need.cell;
+        let value = match seen_by(view, need.when, &cell) {
+            Some(value) => value,
+            None => 0,
+        };
+        Fact {
+            point: self.instant(i, need.when, &cell),
+            cell,
+            value,
+        }
+    }
+
+    /// What conclusions of row i rest on, as facts.
+    fn premises<V: RowView>(
+        &self,
+        alloc: Global,
+        view: &V,
+        i: u32,
+        needs: &[Premise],
+    ) -> SmallVec<Fact, 10>
+        requires row { IsSome ((P.timeline self.now.paths).legs.row i) }
+        requires few { length needs.now ≤ 10 }
+        ensures facts { result.items ≡ map (premise_of (P.timeline self.now.paths).moments (V.seen view.now) i) needs.now }
+        ensures room { result.capacity ≡ 10 }
+    {
+        let mut premises = SmallVec::new(alloc);
+        for need in needs {
+            let premise = self.premise(view, i, need);
+            premises.push_reserved(premise);
+        }
+        premises
+    }
+
+    /// The reason by what row i lets one infer.
+    fn inferred_by(
+        &self,
+        rules: &mut R,
+        alloc: Global,
+        i: u32,
+        row: &StepRow,
+        fact: &Fact,
+    ) -> Result<Option<Reason>, OutOfMemory>
+        requires { (P.timeline self.now.paths).legs.row i ≡ Some row.now }
+        ensures found { IfOk result (λ found. IfSome found (λ reason. IsInferredBecause (setting_in (front_of W.sets W.moves R.rules (basis_of P.timeline L.values self.now))) (stands (front_of W.sets W.moves R.rules (basis_of P.timeline L.values self.now))) fact.now (told_by reason))) }
+        ensures none { IfOk result (λ found. IfNone found (IsNotInferredBy (front_of W.sets W.moves R.rules (basis_of P.timeline L.values self.now)) i fact.now)) }
+        ensures room { IfOk result (λ found. IfSome found IsInPlace) }
+    {
+        let _count = self.count();
+        let bytes = self.row_bytes(alloc, i, row)?;
+        let view = Standing {
+            front: self,
+            row: i,
+            bytes: bytes.as_slice(),
+        };
+        let list = rules.infer(alloc, row, &view);
+        match self.matching(list.as_slice(), i, fact) {
+            None => Ok(None),
+            Some(inferred) => {
+                let needs = R::needs(alloc, row, &view, &inferred);
+                let premises = self.premises(alloc, &view, i, needs.as_slice());
+                Ok(Some(Reason {
+                    rule: inferred.rule,
+                    premises,
+                    ranges: SmallVec::new(alloc),
+                }))
+            }
+        }
+    }
+
+    /// The reason by what row i lets one infer, if there is such a row.
+    fn inferred_at(
+        &self,
+        rules: &mut R,
+        alloc: Global,
+        i: u32,
+        fact: &Fact,
+    ) -> Result<Option<Reason>, OutOfMemory>
+        ensures found { IfOk result (λ found. IfSome found (λ reason. IsInferredBecause (setting_in (front_of W.sets W.moves R.rules (basis_of P.timeline L.values self.now))) (stands (front_of W.sets W.moves R.rules (basis_of P.timeline L.values self.now))) fact.now (told_by reason))) }
+        ensures none { IfOk result (λ found. IfNone found (IsNotInferredBy (front_of W.sets W.moves R.rules (basis_of P.timeline L.values self.now)) i fact.now)) }
+        ensures room { IfOk result (λ found. IfSome found IsInPlace) }
+    {
+        match self.row(i) {
+            None => Ok(None),
+            Some(row) => self.inferred_by(rules, alloc, i, &row, fact),
+        }
+    }
+
+    /// The reason by what the row that leads to the fact's point lets one infer.
+    fn inferred_to(
+        &self,
+        rules: &mut R,
+        alloc: Global,
+        fact: &Fact,
+    ) -> Result<Option<Reason>, OutOfMemory>
+        ensures found { IfOk result (λ found. IfSome found (λ reason. IsInferredBecause (setting_in (front_of W.sets W.moves R.rules (basis_of P.timeline L.values self.now))) (stands (front_of W.sets W.moves R.rules (basis_of P.timeline L.values self.now))) fact.now (told_by reason))) }
+        ensures none { IfOk result (λ found. IfNone found (0 < fact.now.point → IsNotInferredBy (front_of W.sets W.moves R.rules (basis_of P.timeline L.values self.now)) (fact.now.point - 1) fact.now)) }
+        ensures room { IfOk result (λ found. IfSome found IsInPlace) }
+    {
+        if fact.point == 0 {
+            return Ok(None);
+        }
+        self.inferred_at(rules, alloc, fact.point - 1, fact)
+    }
+
+    /// The reason of a register's fact by what a row beside its point lets one infer, the one that
+    /// leads there first.
+    pub(super) fn inferred_register(
+        &self,
+        rules: &mut R,
+        alloc: Global,
+        fact: &Fact,
+        r: Reg,
+    ) -> Result<Option<Reason>, OutOfMemory>
+        requires { fact.now.cell ≡ Register r }
+        ensures found { IfOk result (λ found. IfSome found (λ reason. IsInferredBecause (setting_in (front_of W.sets W.moves R.rules (basis_of P.timeline L.values self.now))) (stands (front_of W.sets W.moves R.rules (basis_of P.timeline L.values self.now))) fact.now (told_by reason))) }
+        ensures none { IfOk result (λ found. IfNone found (IsNotInferred (front_of W.sets W.moves R.rules (basis_of P.timeline L.values self.now)) fact.now)) }
+        ensures room { IfOk result (λ found. IfSome found IsInPlace) }
+    {
+        let found = self.inferred_to(rules, alloc, fact)?;
+        if found.is_some() {
+            return Ok(found);
+        }
+        self.inferred_at(rules, alloc, fact.point, fact)
+    }
+
+    /// The reason of a byte's fact by what a row after which its moment lies lets one infer.
+    fn inferred_before(
+        &self,
+        rules: &mut R,
+        alloc: Global,
+        fact: &Fact,
+    ) -> Result<Option<Reason>, OutOfMemory>
+        ensures found { IfOk result (λ found. IfSome found (λ reason. IsInferredBecause (setting_in (front_of W.sets W.moves R.rules (basis_of P.timeline L.values self.now))) (stands (front_of W.sets W.moves R.rules (basis_of P.timeline L.values self.now))) fact.now (told_by reason))) }
+        ensures none { IfOk result (λ found. IfNone found (AreNotInferredBefore (front_of W.sets W.moves R.rules (basis_of P.timeline L.values self.now)) (P.timeline self.now.paths).legs.count fact.now)) }
+        ensures room { IfOk result (λ found. IfSome found IsInPlace) }
+    {
+        let count = self.count();
+        let mut least = 0;
+        while least < count {
+            let Some(i) = self.row_to(fact.point, least) else {
+                return Ok(None);
+            };
+            let found = self.inferred_at(rules, alloc, i, fact)?;
+            if found.is_some() {
+                return Ok(found);
+            }
+            least = i + 1;
+        }
+        Ok(None)
+    }
+
+    /// The reason of a byte's fact by what the row before which its moment lies lets one infer.
+    fn inferred_after(
+        &self,
+        rules: &mut R,
+        alloc: Global,
+        fact: &Fact,
+    ) -> Result<Option<Reason>, OutOfMemory>
+        ensures found { IfOk result (λ found. IfSome found (λ reason. IsInferredBecause (setting_in (front_of W.sets W.moves R.rules (basis_of P.timeline L.values self.now))) (stands (front_of W.sets W.moves R.rules (basis_of P.timeline L.values self.now))) fact.now (told_by reason))) }
+        ensures none { IfOk result (λ found. IfNone found (AreNotInferredAfter (front_of W.sets W.moves R.rules (basis_of P.timeline L.values self.now)) fact.now)) }
+        ensures room { IfOk result (λ found. IfSome found IsInPlace) }
+    {
+        match self.row_at(fact.point) {
+            None => Ok(None),
+            Some(i) => self.inferred_at(rules, alloc, i, fact),
+        }
+    }
+
+    /// The reason of a byte's fact by what a row beside its moment lets one infer, one after which
+    /// it lies first. `OutOfMemory` says that the room for finding the bytes that a row's rules
+    /// look at can't be had; the reason takes none.
+    pub fn of_inferred_byte(
+        &self,
+        rules: &mut R,
+        alloc: Global,
+        fact: &Fact,
+        a: u32,
+    ) -> Result<Option<Reason>, OutOfMemory>
+        requires { fact.now.cell ≡ Byte a }
+        ensures found { IfOk result (λ found. IfSome found (λ reason. IsInferredBecause (setting_in (front_of W.sets W.moves R.rules (basis_of P.timeline L.values self.now))) (stands (front_of W.sets W.moves R.rules (basis_of P.timeline L.values self.now))) fact.now (told_by reason))) }
+        ensures none { IfOk result (λ found. IfNone found (IsNotInferred (front_of W.sets W.moves R.rules (basis_of P.timeline L.values self.now)) fact.now)) }
+        ensures room { IfOk result (λ found. IfSome found IsInPlace) }
+    {
+        let _count = self.count();
+        let found = self.inferred_before(rules, alloc, fact)?;
+        if found.is_some() {
+            return Ok(found);
+        }
+        self.inferred_after(rules, alloc, fact)
+    }
+}
