@@ -20,7 +20,7 @@ use Rattle.rept_found.proofs.Enders.{points_fit}
 use Rattle.rept_found.proofs.Settings.{points_are, seen_same}
 
 -- the first points of threads
-pub first_same : (C : Course) (c : courses.Course) → IsCourseOf C c → (t : ℕ) → t < length C.threads → first_in c t ≡ points_before C.threads t
+pub first_same : (C : Course) (c : courses.NumberedRun) → IsCourseOf C c → (t : ℕ) → t < length C.threads → first_in c t ≡ points_before C.threads t
 first_same C (courses.TheVariants.One steps) its t below =
     let only = is_only C.threads C.untraced steps.now its in
     let one : length C.threads ≡ 1 = ap (λ (xs : List ThreadRows). length xs) only.is in
@@ -40,7 +40,7 @@ within_by : (legs : Legs) (moments : Moments) → AreMoments legs moments → (p
 within_by legs moments laws p None e = omega arith
 within_by legs moments laws p (Some row) e = laws.rows_before p row e
 
-pub moment_within : (C : Course) (c : courses.Course) → IsCourseOf C c → AreMoments (seen_in c).legs (seen_in c).moments → (p : ℕ) → moment_in (seen C) p < (seen C).moments.end + 1
+pub moment_within : (C : Course) (c : courses.NumberedRun) → IsCourseOf C c → AreMoments (seen_in c).legs (seen_in c).moments → (p : ℕ) → moment_in (seen C) p < (seen C).moments.end + 1
 moment_within C c its laws p =
     let here = subst (λ (x : SeenMoments). moment_in x p ≤ x.moments.end) (seen_same C c its) (within_by (seen_in c).legs (seen_in c).moments laws p ((seen_in c).legs.row p) refl) in
     omega arith

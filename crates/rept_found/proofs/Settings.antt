@@ -99,7 +99,7 @@ pub scene_is : {W R : Type 0} (v : CrashView W R) (notes : List (List ℕ)) → 
 scene_is v notes noted same = ap (λ (xs : List ThreadEnd). record { threads = xs; program = v.program }) (ended_are notes v.ends.statuses noted same)
 
 -- the rows and moments of a course of the code are those of its run
-pub seen_same : (C : Course) (c : courses.Course) → IsCourseOf C c → seen_in c ≡ seen C
+pub seen_same : (C : Course) (c : courses.NumberedRun) → IsCourseOf C c → seen_in c ≡ seen C
 seen_same C (courses.TheVariants.One steps) its = ap (seen_by C) (sym its)
 seen_same C (courses.TheVariants.Many many) its = ap (λ (D : Course). seen_by D None) its.0 ∙ ap (seen_by C) (sym its.1)
 

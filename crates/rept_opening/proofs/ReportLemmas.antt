@@ -64,7 +64,7 @@ module _ {W : Type 0} (m : Means W) (dump : Dump) (run : Run) (ends_of : Ends) (
   pub sound_ends : IsSoundCourse ends_of.course
   sound_ends = subst (λ (C : Course). IsSoundCourse C) (sym its.course) fits.sound
 
-  pub course_ends : (c : courses.Course) → IsCourseOf (course_of run) c → IsCourseOf ends_of.course c
+  pub course_ends : (c : courses.NumberedRun) → IsCourseOf (course_of run) c → IsCourseOf ends_of.course c
   course_ends c is = subst (λ (C : Course). IsCourseOf C c) (sym its.course) is
 
   pub prepared_for : {R : Type 0} (notes : List (List ℕ)) → AreNotesOf dump notes → (p : CrashView W R)

@@ -53,7 +53,7 @@ past_points (thread ∷ threads) g past =
 
 -- what a course's code has is what its run has
 module _ (C : Course) where
-  pub threads_same : (c : courses.Course) → IsCourseOf C c → threads_in c ≡ length C.threads
+  pub threads_same : (c : courses.NumberedRun) → IsCourseOf C c → threads_in c ≡ length C.threads
   threads_same (courses.TheVariants.One steps) its = sym (ap (λ (xs : List ThreadRows). length xs) (is_only C.threads C.untraced steps.now its).is)
   threads_same (courses.TheVariants.Many many) its = ap (λ (D : Course). length D.threads) its.0
 

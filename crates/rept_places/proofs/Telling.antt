@@ -11,7 +11,7 @@ use Rattle.rept_places.specs.Places.{thread_point, point_on}
 use Rattle.rept_places.proofs.Naming.{is_only, past_points, threads_same}
 
 -- a point up to the last one is a point of the course
-pub inside : (c : courses.Course) (number last : ℕ) → last ≡ (seen_in c).legs.count → threads_in c ≢ 0 → number ≤ last → number < count_in c
+pub inside : (c : courses.NumberedRun) (number last : ℕ) → last ≡ (seen_in c).legs.count → threads_in c ≢ 0 → number ≤ last → number < count_in c
 inside (courses.TheVariants.One steps) number last e some few = omega arith
 inside (courses.TheVariants.Many many) number last e some few =
     let each = few_threads many.threads in
@@ -20,7 +20,7 @@ inside (courses.TheVariants.Many many) number last e some few =
 
 module _ (C : Course) where
   -- the last point of all
-  last_is : (c : courses.Course) → IsCourseOf C c → threads_in c ≢ 0 → suc (seen_in c).legs.count ≡ points_before C.threads (length C.threads)
+  last_is : (c : courses.NumberedRun) → IsCourseOf C c → threads_in c ≢ 0 → suc (seen_in c).legs.count ≡ points_before C.threads (length C.threads)
   last_is (courses.TheVariants.One steps) its some =
       let only = is_only C.threads C.untraced steps.now its in
       let own : length only.only.steps ≡ length steps.now = ap (λ (xs : List StepRow). length xs) only.own in
@@ -32,7 +32,7 @@ module _ (C : Course) where
       let whole : suc (points_before many.threads (length many.threads) - 1) ≡ points_before many.threads (length many.threads) = omega arith in
       whole ∙ ap (λ (D : Course). points_before D.threads (length D.threads)) its.0
 
-  pub past_point : (c : courses.Course) (number last threads : ℕ) → IsCourseOf C c → last ≡ (seen_in c).legs.count → threads ≡ threads_in c → threads ≢ 0 → last < number → thread_point threads (number - last - 1) ≡ point_on C number
+  pub past_point : (c : courses.NumberedRun) (number last threads : ℕ) → IsCourseOf C c → last ≡ (seen_in c).legs.count → threads ≡ threads_in c → threads ≢ 0 → last < number → thread_point threads (number - last - 1) ≡ point_on C number
   past_point c number last threads its e same some past =
       let count = threads_same C c its in
       let all = last_is c its (λ none. some (same ∙ none)) in

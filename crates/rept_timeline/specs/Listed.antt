@@ -29,11 +29,11 @@ pub record AreStoring (C : Course) (list : List ℕ) : Type 0 where
   pub all : list ≡ storing_in C
 
 -- of several threads; of one thread alone no list is looked at
-abbrev pub AreListed : courses.Course → List ℕ → Type 0
+abbrev pub AreListed : courses.NumberedRun → List ℕ → Type 0
 AreListed (courses.TheVariants.One steps) list = Unit {0}
 AreListed (courses.TheVariants.Many many) list = AreStoring many list
 
-abbrev pub IsSoundIn : courses.Course → Type 0
+abbrev pub IsSoundIn : courses.NumberedRun → Type 0
 IsSoundIn (courses.TheVariants.One steps) = Unit {0}
 IsSoundIn (courses.TheVariants.Many many) = IsSoundCourse many
 

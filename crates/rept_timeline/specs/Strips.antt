@@ -97,6 +97,6 @@ abbrev pub AreManyStrips : Course → List Strip → Type 0
 AreManyStrips C list = AreStripsBelow (as_timeline (seen_of C)) ((seen_of C).moments.end + 1) list
 
 -- of several threads; of one thread alone no list is looked at
-abbrev pub AreStripsOf : courses.Course → List Strip → Type 0
+abbrev pub AreStripsOf : courses.NumberedRun → List Strip → Type 0
 AreStripsOf (courses.TheVariants.One steps) list = Unit {0}
 AreStripsOf (courses.TheVariants.Many many) list = AreManyStrips many list

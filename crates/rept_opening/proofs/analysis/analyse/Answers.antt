@@ -28,6 +28,6 @@ returns-in-Err-Conflict-clause-refused g c = λ notes are.
     let is = c.in-Err-Conflict.is ∙ ap Err c.in-Err-Conflict.field-0-is in
     let has = conflict_here m c.args.dump.now run ends c.requires.fits c.requires.ended notes are c.in-Ok.prepared c.in-Ok.ensures.prepared kind (c.search.ensures.conflict kind is) in
     let none = excluded_here m c.args.dump.now run ends c.requires.fits c.requires.ended notes are c.in-Ok.prepared c.in-Ok.ensures.prepared kind (c.search.ensures.conflict kind is) (c.search.ensures.impossible kind is) c.reports_are_true.ensures.impossible in
-    let at_field = c.name_conflict-conflict.ensures (course_of run) (subst (λ (x : courses.Course). IsCourseOf (course_of run) x) (sym (c.course.ensures.value ∙ c.ways.ensures)) c.requires.course) in
+    let at_field = c.name_conflict-conflict.ensures (course_of run) (subst (λ (x : courses.NumberedRun). IsCourseOf (course_of run) x) (sym (c.course.ensures.value ∙ c.ways.ensures)) c.requires.course) in
     let named : c.name_conflict-conflict.result ≡ contradiction_on (course_of run) kind = at_field in
     inl (kind, has, none, ap refusal.Inconsistent named)
