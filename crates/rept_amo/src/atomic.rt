@@ -32,7 +32,7 @@ pub struct Atomic {
 }
 
 impl Atomic {
-    /// The rules, which nothing was inferred by yet.
+    /// The rules, by which nothing was inferred yet.
     pub fn new() -> Self
         ensures { result.infers ≡ 0 }
     {

@@ -182,7 +182,7 @@ left_most xs = let le = sum_by-le left_of 12 xs (each_few xs) in omega (arith, l
 pub pass_there : {W : Type 0} (s : AnalysisState W) → IsKept s → (i : ℕ) → i < s.path.given.legs.count → (p : Pass) × (slice_get s.work.inferred i ≡ Some p)
 pass_there s kept i inside = let rows = kept.rows in (get_or s.work.inferred i Never, slice_get-get_or s.work.inferred i Never (omega (arith, inside, rows)))
 
--- where more cells are known than when they were, they can be inferred once less afterwards
+-- where more cells are known than when they were, they can be applied once less afterwards
 module _ {W : Type 0} (s : AnalysisState W) (laws : HasLaws (along s.path)) (kept : IsKept s) (words : HasWords (all_known s)) (i cells : ℕ) (row : StepRow) (found : s.path.given.legs.row i ≡ Some row) (is_cells : cells ≡ cells_known s.path.rules row (around s.path.given.moments s.known i)) (few : cells ≤ 11) (more : slice_get s.work.inferred i ≡ Some (With cells) → ⊥) (uncut : IsUncut s) where
   known_fewer : (k : ℕ) → slice_get s.work.inferred i ≡ Some (With k) → k < cells
   known_fewer k at =

@@ -55,7 +55,7 @@ pub record IsInferredWith {W : Type 0} (row : StepRow) (i k : ℕ) (s : Analysis
   pub learnt : (d : Conclusion) → Contains (s.path.rules.infer row view) d → KnowsInferred i d s
   pub less : (w : When) (c : Cell) (v : ℕ) → seen_cell view w c ≡ Some v → seen_cell (around s.path.given.moments s.known i) w c ≡ Some v
 
--- what is kept of how far they were inferred is so
+-- what is kept of how far they were applied is so
 abbrev pub IsPass : {W : Type 0} → StepRow → ℕ → Pass → AnalysisState W → Type 0
 IsPass row i Never s = Unit {0}
 IsPass row i (With k) s = IsInferredWith row i k s

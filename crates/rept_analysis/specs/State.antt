@@ -117,7 +117,7 @@ with_writing s list = with_work s (record { joins = s.work.joins; writing = list
 abbrev pub with_infers : {W : Type 0} → AnalysisState W → ℕ → AnalysisState W
 with_infers s n = with_work s (record { joins = s.work.joins; writing = s.work.writing; room = s.work.room; infers = n; inferred = s.work.inferred })
 
--- the same, where they were inferred so far
+-- the same, where they were applied so far
 abbrev pub with_inferred : {W : Type 0} → AnalysisState W → List Pass → AnalysisState W
 with_inferred s passes = with_work s (record { joins = s.work.joins; writing = s.work.writing; room = s.work.room; infers = s.work.infers; inferred = passes })
 

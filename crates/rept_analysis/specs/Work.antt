@@ -7,7 +7,7 @@ use Rattle.rept_passes.specs.declared.pass.Pass.{Pass}
 use Rattle.rept_passes.specs.declared.pass.Pass.TheVariants.{Never, With, Cut}
 
 -- Whether the store of bytes joins what stands side by side, in room that it took at first; the
--- rows that may write; how often rules were inferred; and how far those of each row were.
+-- rows that may write; how often rules were applied; and how far those of each row were.
 pub record Work : Type 0 where
   pub joins : Bool
   pub writing : List Writing

@@ -102,8 +102,8 @@ macro_rules! records {
 
 /// The calls that are known, by rising number. Any other may change every byte.
 ///
-/// Of openat, write, writev, pwrite64, sendto and sendmsg it is a premise that they change nothing:
-/// their file isn't mapped. Linux shows a write in the pages that map the file, and an openat with
+/// Of openat, write, writev and pwrite64 it is assumed that they change nothing: their file isn't
+/// mapped. Linux shows a write in the pages that map the file, and an openat with
 /// O_TRUNC takes these pages away; here a mapped file doesn't change.
 pub const CALLS: [CallRow; 75] = [
     call!(17, counted!(10, 11)), // getcwd

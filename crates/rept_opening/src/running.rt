@@ -29,7 +29,7 @@ pub fn trace_run(alloc: Global, trace: &[u8], dump: &Dump<'_>, from: u32) -> Res
     stream_run(alloc, trace, dump, from)
 }
 
-/// The same of a trace of one stream.
+/// The run that a trace of one stream tells: the path of one thread.
 fn stream_run(alloc: Global, trace: &[u8], dump: &Dump<'_>, from: u32) -> Result<Run, PathFault>
     requires few { length trace.now < 2 ^ 32 }
     requires one { is_several trace.now ≡ false }

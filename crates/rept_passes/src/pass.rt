@@ -55,7 +55,7 @@ impl RuleProgress {
         Ok(RuleProgress { list })
     }
 
-    /// How far those of a row were inferred.
+    /// How far the rules of a row were applied.
     pub fn at(&self, i: u32) -> Pass
         requires { i < length self.now }
         ensures { slice_get self.now i ≡ Some result }
@@ -64,7 +64,7 @@ impl RuleProgress {
         list[i as usize]
     }
 
-    /// Keeps how far those of a row were inferred.
+    /// Keeps how far the rules of a row were applied.
     pub fn put(&mut self, i: u32, pass: Pass)
         requires { i < length self.old }
         ensures { self.new ≡ set self.old i pass }

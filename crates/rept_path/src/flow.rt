@@ -8,9 +8,9 @@ use rept_isa::number::word;
 pub enum Flow {
     /// To the instruction after it.
     Plain,
-    /// So many bytes on, where it is taken.
+    /// A branch by this many bytes, where it is taken.
     Branch(i32),
-    /// A jump by so many bytes.
+    /// A jump by this many bytes.
     Jump(i32),
     /// To that address.
     Fixed(u32),

@@ -27,7 +27,7 @@ pub struct Base {
 }
 
 impl Base {
-    /// The rules, which nothing was inferred by yet.
+    /// The rules, by which nothing was inferred yet.
     pub fn new() -> Self
         ensures { result.infers ≡ 0 }
     {

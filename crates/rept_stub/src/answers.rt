@@ -335,7 +335,7 @@ fn watch(spots: &mut Spots, region: Region) -> Result<bool, OutOfMemory>
     Ok(true)
 }
 
-/// So many bytes from an address on.
+/// The bytes from an address on, `length` of them, that are watched in this way.
 fn region_of(kind: WatchKind, address: u32, length: u32) -> Region
     ensures { result ≡ region kind address length }
 {

@@ -109,7 +109,7 @@ impl Crash {
         self.told(alloc, line, &mut file_store)
     }
 
-    /// The same over another file store.
+    /// The number of the status and what was written, over a given file store.
     pub fn told<H: FileStore>(
         &self,
         alloc: Global,

@@ -8,7 +8,7 @@ use rept_writing::{StoreIndex, Writing};
 use std::alloc::{AllocError, Global};
 use test_lines::Numbers;
 
-/// So many rows there may be.
+/// How many rows there may be.
 const ROOM: usize = 6;
 
 /// A list of rows that may write, with room for six.

@@ -2,7 +2,7 @@
 
 use rept_number::number_in;
 
-/// So many numbers of a line can be told apart.
+/// How many numbers of a line can be told apart.
 const ROOM: usize = 20;
 
 /// The numbers of a line in their order.

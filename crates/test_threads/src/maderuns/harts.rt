@@ -42,7 +42,7 @@ fn rows_of(threads: &[ThreadRows], thread: u32) -> &[StepRow]
     threads[thread as usize].steps.rows()
 }
 
-/// So many rows, from one on.
+/// The rows from one on, `count` of them.
 fn part(rows: &[StepRow], first: usize, count: usize) -> &[StepRow]
     requires { first + count ≤ length rows.now }
     ensures { result.now ≡ take count (drop first rows.now) }
