@@ -1,0 +1,10 @@
+//! Words of which some differ from others by constants.
+#![tactic(auto)]
+
+pub mod classes;
+pub mod node;
+pub mod shift;
+
+pub use classes::{Classes, Impossible};
+pub use node::{ClassNode, Term};
+pub use shift::shifted;

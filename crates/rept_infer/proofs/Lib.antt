@@ -1,0 +1,11 @@
+pub mod Sentences
+pub mod Placing
+pub mod Combining
+pub mod Frame
+pub mod Calling
+pub mod Loading
+pub mod Listing
+pub mod Carrying
+pub mod Classing
+pub mod Touching
+pub mod Answering

@@ -1,0 +1,13 @@
+use Rattle.std.proofs.Common.{◌≡◌, ℕ, ◌+◌, length}
+use Rattle.rept_machine.specs.State.{State}
+use Rattle.rept_infer.specs.Admitted.{Story}
+use Rattle.rept_infer.specs.Rules.{HasSets}
+use Rattle.rept_classes.specs.Valuations.{IsValued}
+use Rattle.rept_relate.specs.Numbering.{value_in}
+use Rattle.rept_infer.proofs.relating.gather.Given as goal
+
+abbrev pub invariant-loop-i : goal.invariant-loop-i
+invariant-loop-i l = record {
+  len : length l.classes ≡ 32 + l.i;
+  valued : (story : Story) (run : ℕ → State) → story.rows ≡ l.rows → HasSets story l.table run → IsValued l.classes (value_in story.rows run);
+}

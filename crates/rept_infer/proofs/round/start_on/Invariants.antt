@@ -1,0 +1,12 @@
+use Rattle.std.proofs.Common.{◌≡◌, ℕ}
+use Rattle.rept_machine.specs.State.{State}
+use Rattle.rept_lanes.specs.Lanes.{IsTrueSweep}
+use Rattle.rept_infer.specs.Admitted.{Story, IsAdmitted}
+use Rattle.rept_infer.specs.Sweeps.{memory_of}
+use Rattle.rept_infer.proofs.round.start_on.Given as goal
+
+abbrev pub invariant-loop-index : goal.invariant-loop-index
+invariant-loop-index g l = record {
+  point : l.sweep.point ≡ l.fn.sweep.point;
+  holds : (story : Story) (run : ℕ → State) → story.premises ≡ g.P.PathPremises.premises l.premises → IsAdmitted story run → IsTrueSweep (memory_of run) l.fn.sweep → IsTrueSweep (memory_of run) l.sweep;
+}

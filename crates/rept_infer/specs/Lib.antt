@@ -1,0 +1,6 @@
+pub mod Admitted
+pub mod Holding
+pub mod Rules
+pub mod Stores
+pub mod Path
+pub mod Sweeps

@@ -1,0 +1,82 @@
+//! What follows of a path.
+
+ghost use Rattle.std.specs.Prelude.{◌≡◌, ℕ, Some, Option};
+ghost use Rattle.rept_infer.specs.Path.{met, path_reader, told_in};
+
+use crate::known::{KnownPath, PathPremises};
+use crate::table::Table;
+use rept_isa::Reg;
+use rept_known::Both;
+use rept_lanes::Lanes;
+use rept_partial::Partial;
+use std::marker::Model;
+
+/// What follows of a path: a set for each register at each point, and some bytes at points. It is
+/// seen as a `PathView`,
+/// of which `told_in` makes a `Holding`.
+#[derive(Drop)]
+pub struct InferredPath<'a, K: KnownPath, P: PathPremises> {
+    pub(crate) last: u32,
+    pub(crate) known: &'a K,
+    pub(crate) premises: &'a P,
+    pub(crate) table: Table,
+    pub(crate) on: Lanes,
+    pub(crate) back: Lanes,
+    pub(crate) settled: u32,
+}
+
+impl<'a, K: KnownPath, P: PathPremises> Model for InferredPath<'a, K, P> {
+    ghost use Rattle.std.specs.Prelude.{◌≡◌, ◌+◌};
+    ghost use Rattle.rept_infer.specs.Path.{PathView};
+
+    ghost Value = { PathView K P };
+
+    ghost view = { λ t. record { known = t.known.now; premises = t.premises.now; table = t.table; on = t.on; back = t.back; settled = t.settled; last = t.last } };
+
+    ghost invariant = { λ t. t.table.points ≡ t.last + 1 };
+}
+
+/// The values of the one set that the other has, too.
+fn met(a: Both, b: Both) -> Both
+    ensures { result ≡ met a (Some b) }
+{
+    match a.meet(b) {
+        None => a,
+        Some(both) => both,
+    }
+}
+
+impl<'a, K: KnownPath, P: PathPremises> InferredPath<'a, K, P> {
+    /// The set of a register at a point.
+    pub fn set(&self, point: u32, register: Reg) -> Both
+        ensures { (told_in (path_reader K.set K.byte P.premises) self.now).set point register ≡ Some result }
+    {
+        let _number = register.number();
+        let known = self.known.set(point, register);
+        if point < self.table.points() {
+            met(known, self.table.at(point, register))
+        } else {
+            known
+        }
+    }
+
+    /// The byte at a point and an address, if it is known.
+    pub fn byte(&self, point: u32, address: u32) -> Option<u8>
+        ensures { result ≡ (told_in (path_reader K.set K.byte P.premises) self.now).byte point address }
+    {
+        if let Some(v) = self.known.byte(point, address) {
+            return Some(v);
+        }
+        if let Some(v) = self.on.byte(point, address) {
+            return Some(v);
+        }
+        if let Some(v) = self.back.byte(point, address) {
+            return Some(v);
+        }
+        if self.settled <= point && self.premises.is_read_only(address) {
+            self.known.byte(self.last, address)
+        } else {
+            None
+        }
+    }
+}

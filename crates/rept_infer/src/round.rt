@@ -1,0 +1,164 @@
+//! A sweep on and a sweep back.
+
+ghost use Rattle.std.specs.Prelude.{◌≡◌, ◌+◌, ◌<◌, ◌≤◌, ◌^◌, ℕ, length, Some, Err, IfOk, OnOk};
+ghost use Rattle.rept_machine.specs.State.{State};
+ghost use Rattle.rept_lanes.specs.Lanes.{AreTrueSpans, IsTrueSweep};
+ghost use Rattle.rept_infer.specs.Admitted.{Story, IsAdmitted};
+ghost use Rattle.rept_infer.specs.Rules.{HasSets};
+ghost use Rattle.rept_infer.specs.Sweeps.{IsAround, memory_of};
+
+use crate::known::{KnownPath, PathPremises};
+use crate::naming::named;
+use crate::passing::{Earlier, all_back, all_on};
+use crate::stop::InferStop;
+use crate::sweeping::{BytesAround, note_named};
+use crate::table::{Empty, Table};
+use rept_isa::StepRow;
+use rept_lanes::{Lanes, Sweep};
+use std::alloc::AllocError as OutOfMemory;
+
+/// What a sweep found: spans, and whether a set changed.
+#[derive(Drop)]
+pub struct Swept {
+    /// the spans
+    pub lanes: Lanes,
+    /// whether a set changed
+    pub changed: bool,
+}
+
+/// Holds the byte at an address, if there is one, at the first point, if it is told there.
+fn note_first<P: PathPremises>(
+    sweep: &mut Sweep,
+    premises: &P,
+    address: Option<u32>,
+) -> Result<(), OutOfMemory>
+    requires here { sweep.old.point ≡ 0 }
+    ensures point { sweep.new.point ≡ sweep.old.point }
+    ensures holds { OnOk result ((story : Story) (run : ℕ → State) → story.premises ≡ P.premises premises.now → IsAdmitted story run → IsTrueSweep (memory_of run) sweep.old → IsTrueSweep (memory_of run) sweep.new) }
+{
+    match address {
+        None => Ok(()),
+        Some(address) => match premises.first_byte(address) {
+            None => Ok(()),
+            Some(value) => sweep.note(address, value),
+        },
+    }
+}
+
+/// Holds the bytes that a row names at the first point, as far as they are told there.
+fn note_row_first<P: PathPremises>(
+    sweep: &mut Sweep,
+    premises: &P,
+    table: &Table,
+    row: (u32, &StepRow),
+) -> Result<(), OutOfMemory>
+    requires here { sweep.old.point ≡ 0 }
+    requires inside { row.0 + 1 < table.now.points }
+    ensures point { sweep.new.point ≡ sweep.old.point }
+    ensures holds { OnOk result ((story : Story) (run : ℕ → State) → story.premises ≡ P.premises premises.now → IsAdmitted story run → IsTrueSweep (memory_of run) sweep.old → IsTrueSweep (memory_of run) sweep.new) }
+{
+    for k in 0..4u32 {
+        note_first(sweep, premises, named(table, row.0, row.1, k))?;
+    }
+    Ok(())
+}
+
+/// Holds the bytes that rows name at the first point, as far as they are told there.
+fn start_on<P: PathPremises>(
+    sweep: &mut Sweep,
+    premises: &P,
+    table: &Table,
+    rows: &[StepRow],
+) -> Result<(), OutOfMemory>
+    requires here { sweep.old.point ≡ 0 }
+    requires points { table.now.points ≡ length rows.now + 1 }
+    ensures point { sweep.new.point ≡ sweep.old.point }
+    ensures holds { OnOk result ((story : Story) (run : ℕ → State) → story.premises ≡ P.premises premises.now → IsAdmitted story run → IsTrueSweep (memory_of run) sweep.old → IsTrueSweep (memory_of run) sweep.new) }
+{
+    for index in 0..table.points() - 1 {
+        note_row_first(sweep, premises, table, (index, &rows[index as usize]))?;
+    }
+    Ok(())
+}
+
+/// Holds the bytes that rows name at the point of the sweep, as far as they are told.
+fn start_back<K: KnownPath>(
+    earlier: &Earlier<'_, K>,
+    sweep: &mut Sweep,
+    table: &Table,
+) -> Result<(), OutOfMemory>
+    requires points { table.now.points ≡ length earlier.now.rows.now + 1 }
+    ensures point { sweep.new.point ≡ sweep.old.point }
+    ensures holds { OnOk result ((story : Story) (run : ℕ → State) → sweep.old.point ≤ length story.rows → IsAround story run (K.byte earlier.now.known.now) earlier.now.lanes.now earlier.now.image_end → IsTrueSweep (memory_of run) sweep.old → IsTrueSweep (memory_of run) sweep.new) }
+{
+    let around = BytesAround {
+        known: earlier.known,
+        lanes: earlier.lanes,
+        table,
+        image_end: earlier.image_end,
+        most: earlier.most,
+    };
+    let rows = earlier.rows;
+    for index in 0..table.points() - 1 {
+        note_named(sweep, &around, index, &rows[index as usize])?;
+    }
+    Ok(())
+}
+
+/// The spans of a sweep that has ended, for look-up.
+fn finish(sweep: Sweep) -> Result<Lanes, OutOfMemory>
+    ensures { IfOk result (λ l. (memory : ℕ → ℕ → ℕ) → IsTrueSweep memory sweep → AreTrueSpans memory l) }
+{
+    let spans = sweep.spans()?;
+    Lanes::of(spans)
+}
+
+/// A sweep on over all rows, from what is told at the first point.
+pub fn sweep_on<K: KnownPath, P: PathPremises>(
+    earlier: &Earlier<'_, K>,
+    premises: &P,
+    table: &mut Table,
+) -> Result<Swept, InferStop>
+    requires points { table.old.points ≡ length earlier.now.rows.now + 1 }
+    requires small { table.old.points < 2 ^ 32 }
+    ensures points { table.new.points ≡ table.old.points }
+    ensures keeps { IfOk result (λ s. (story : Story) (run : ℕ → State) → story.rows ≡ earlier.now.rows.now → story.premises ≡ P.premises premises.now → IsAround story run (K.byte earlier.now.known.now) earlier.now.lanes.now earlier.now.image_end → HasSets story table.old run → HasSets story table.new run × AreTrueSpans (memory_of run) s.lanes) }
+    ensures refuses { (empty : Empty) → result ≡ Err (InferStop.Contradiction empty) → (story : Story) (run : ℕ → State) → story.rows ≡ earlier.now.rows.now → story.premises ≡ P.premises premises.now → IsAround story run (K.byte earlier.now.known.now) earlier.now.lanes.now earlier.now.image_end → HasSets story table.old run → ⊥ }
+{
+    let mut sweep = Sweep::new(earlier.alloc, 0);
+    match start_on(&mut sweep, premises, table, earlier.rows) {
+        Err(_) => return Err(InferStop::OutOfMemory),
+        Ok(()) => {}
+    }
+    match all_on(earlier, &mut sweep, table) {
+        Err(stop) => Err(stop),
+        Ok(changed) => match finish(sweep) {
+            Err(_) => Err(InferStop::OutOfMemory),
+            Ok(lanes) => Ok(Swept { lanes, changed }),
+        },
+    }
+}
+
+/// A sweep back over all rows, from what is told at the last point.
+pub fn sweep_back<K: KnownPath>(
+    earlier: &Earlier<'_, K>,
+    table: &mut Table,
+) -> Result<Swept, InferStop>
+    requires points { table.old.points ≡ length earlier.now.rows.now + 1 }
+    ensures points { table.new.points ≡ table.old.points }
+    ensures keeps { IfOk result (λ s. (story : Story) (run : ℕ → State) → story.rows ≡ earlier.now.rows.now → IsAround story run (K.byte earlier.now.known.now) earlier.now.lanes.now earlier.now.image_end → HasSets story table.old run → HasSets story table.new run × AreTrueSpans (memory_of run) s.lanes) }
+    ensures refuses { (empty : Empty) → result ≡ Err (InferStop.Contradiction empty) → (story : Story) (run : ℕ → State) → story.rows ≡ earlier.now.rows.now → IsAround story run (K.byte earlier.now.known.now) earlier.now.lanes.now earlier.now.image_end → HasSets story table.old run → ⊥ }
+{
+    let mut sweep = Sweep::new(earlier.alloc, table.points() - 1);
+    match start_back(earlier, &mut sweep, table) {
+        Err(_) => return Err(InferStop::OutOfMemory),
+        Ok(()) => {}
+    }
+    match all_back(earlier, &mut sweep, table) {
+        Err(stop) => Err(stop),
+        Ok(changed) => match finish(sweep) {
+            Err(_) => Err(InferStop::OutOfMemory),
+            Ok(lanes) => Ok(Swept { lanes, changed }),
+        },
+    }
+}

@@ -1,0 +1,4 @@
+pub mod Counting
+pub mod Summing
+pub mod Rowing
+pub mod Remembering

@@ -1,0 +1,50 @@
+-- Words of memory that nodes stand for. Their addresses are terms, known or not.
+use Rattle.std.specs.Prelude.{◌≡◌, ℕ, ◌<◌, ◌≤◌, Bool, true, false, List, Some, slice_get}
+use Rattle.rept_isa.specs.declared.instr.Instr.{Instr}
+use Rattle.rept_isa.specs.declared.instr.Instr.TheVariants.{Store, Amo, Ecall}
+use Rattle.rept_isa.specs.Numbers.{beside}
+use Rattle.rept_machine.specs.Arithmetic.{word_at}
+use Rattle.rept_machine.specs.State.{State}
+use Rattle.rept_classes.specs.Valuations.{word_of}
+use Rattle.rept_relate.specs.declared.words.WordPlace.{WordPlace}
+use Rattle.rept_relate.specs.declared.words.WordSlot.{WordSlot}
+
+-- the place is at this address
+pub record IsPlaceOf (value : ℕ → ℕ) (place : WordPlace) (a : ℕ) : Type 0 where
+  pub stands : word_of value place.address ≡ a
+  pub low : place.lo ≤ a
+  pub high : a ≤ place.hi
+
+-- no byte of the word at the one place is one of so many bytes at the other
+abbrev pub IsApart : WordPlace → WordPlace → ℕ → Type 0
+IsApart held other width = (value : ℕ → ℕ) (a b : ℕ) → IsPlaceOf value held a → IsPlaceOf value other b → (k j : ℕ) → k < 4 → j < width → beside a k ≡ beside b j → ⊥
+
+-- the word at the slot's place is that of its node
+pub record IsWordHeld (value : ℕ → ℕ) (s : State) (slot : WordSlot) : Type 0 where
+  pub place : IsPlaceOf value slot.place (word_of value slot.place.address)
+  pub word : word_at s.memory (word_of value slot.place.address) ≡ value slot.node
+
+abbrev pub AreHeld : List WordSlot → (ℕ → ℕ) → State → Type 0
+AreHeld slots value s = (k : ℕ) (slot : WordSlot) → slice_get slots k ≡ Some slot → slot.live ≡ true → IsWordHeld value s slot
+
+abbrev pub AreNodesBelow : List WordSlot → ℕ → Type 0
+AreNodesBelow slots limit = (k : ℕ) (slot : WordSlot) → slice_get slots k ≡ Some slot → slot.node < limit
+
+-- each live slot of the new list is one of the old list, apart from the bytes at a place
+pub record IsCleared (old : List WordSlot) (k : ℕ) (slot : WordSlot) (place : WordPlace) (width : ℕ) : Type 0 where
+  pub kept : slice_get old k ≡ Some slot
+  pub apart : IsApart slot.place place width
+
+abbrev pub AreCleared : List WordSlot → List WordSlot → WordPlace → ℕ → Type 0
+AreCleared old new place width = (k : ℕ) (slot : WordSlot) → slice_get new k ≡ Some slot → slot.live ≡ true → IsCleared old k slot place width
+
+-- memory but for so many bytes
+abbrev pub KeepsOthers : State → State → ℕ → ℕ → Type 0
+KeepsOthers s t base width = (a : ℕ) → ((j : ℕ) → j < width → a ≡ beside base j → ⊥) → t.memory a ≡ s.memory a
+
+-- an instruction that writes no memory
+abbrev pub is_quiet : Instr → Bool
+is_quiet (Store op rs1 rs2 imm) = false
+is_quiet (Amo op rd rs1 rs2) = false
+is_quiet Ecall = false
+is_quiet _ = true
