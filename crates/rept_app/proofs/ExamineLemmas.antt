@@ -113,7 +113,7 @@ module _ (t : CrashTrace) (status : ExitStatus) where
 
   -- a call that stopped ends so whatever the run is
   stopped_rows : Stopped status → (run : Run) → RunYields (run_in t run) status
-  stopped_rows s run = record { conflict = λ _ _. inr s; report = λ _. inr (inr (inr s)) }
+  stopped_rows s run = record { conflict = λ _ _. inr s; report = λ _. inl (inr (inr (inr s))) }
 
   pub memory_yields : Stopped status → WalkYields t status
   memory_yields s = record {

@@ -5,6 +5,7 @@ pub mod StudyLemmas
 pub mod ToldLemmas
 pub mod TopLemmas
 pub mod MadeLemmas
+pub mod Narrower
 pub mod WordsLemmas
 pub mod PromiseLemmas
 pub mod Counted

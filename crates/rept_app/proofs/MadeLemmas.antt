@@ -1,5 +1,5 @@
 -- What is written of a made run, and how it ends the call.
-use Rattle.std.proofs.Common.{◌≡◌, ℕ, zero, suc, ◌+◌, ◌*◌, ◌<◌, ◌≤◌, eqb, List, [], ◌∷◌, length, map, slice_index, get_or, Option, None, Some, Result, Ok, Err, MatchOption, inl, inr, refl, sym, ap, subst, ◌∙◌, arith, Bool, false}
+use Rattle.std.proofs.Common.{◌≡◌, ℕ, zero, suc, ◌+◌, ◌*◌, ◌<◌, ◌≤◌, eqb, List, [], ◌∷◌, length, map, slice_index, get_or, Option, None, Some, Result, Ok, Err, MatchOption, inl, inr, refl, sym, ap, subst, ◌∙◌, arith, Bool, true, false}
 use Rattle.std.specs.List.{range_with_len}
 use Rattle.std.proofs.lemmas.Bool.{cond-false, ne_eqb}
 use Rattle.std.proofs.lemmas.List.FromFn.{length-range_with_len, get_or-range_with_len}
@@ -33,6 +33,7 @@ use Rattle.rept_make.specs.declared.made.Made.{Made}
 use Rattle.rept_words.specs.declared.request.Domain.TheVariants as domain
 use Rattle.rept_opening.specs.Delivered.{Delivers, SaysOrNoMemory, SaysRefusal}
 use Rattle.rept_opening.specs.Domains.{means_of}
+use Rattle.rept_app.specs.Conflict.{EndsReport}
 use Rattle.rept_app.specs.Ends.{Yields, EndsSession, PortsEnd}
 use Rattle.rept_app.specs.Examine.{Examines, WalkYields, NoteYields, FilesEnd}
 use Rattle.rept_opening.specs.Forms.{program_fault, core_image_fault, crash_in}
@@ -136,7 +137,11 @@ module _ (seed steps : ℕ) (made : Made) (m : IsMade seed steps made) where
       let notes : (said : Result (List (List ℕ)) CoreFault) → CoreSays (made_bytes made) said → NoteYields (made_bytes made) said status =
       subst (AfterCore status) m.core_read (subst (AfterExe status) m.exe_read h) in
       let walk : WalkYields (trace_in (made_bytes made) (m.status ∷ [])) status = notes (Ok (m.status ∷ [])) says_made in
-      (walk.walked run_made told_made).report (consistent_made none)
+      held ((walk.walked run_made told_made).report (consistent_made none))
+    where
+      held : EndsReport (run_at opening_made) status → EndsSession status
+      held (inl so) = so
+      held (inr (refuted, so)) = let bad : false ≡ true = refuted.asked in let no : ⊥ = cc in absurd no
 
 pub made_holds : (seed steps : ℕ) → TrueOf (means_of domain.Ranges) → MadeHolds seed steps
 made_holds seed steps true_of made m =
@@ -174,7 +179,8 @@ no_path_status fault.OutOfMemory e = cc
 module _ (bytes : CrashBytes) (text : List ℕ) where
   walked_short : (t : CrashTrace) → WalkedTrace t summary_line text ends.TooMuchInput → ⊥
   walked_short t (inl (f, has, says)) = no_path_status f (sym says.ending)
-  walked_short t (inr (run, is, inl (kind, has, says))) = let bad : ends.TooMuchInput ≡ ends.Inconsistent = says.ending in cc
+  walked_short t (inr (run, is, inl (inl (kind, has, says)))) = let bad : ends.TooMuchInput ≡ ends.Inconsistent = says.ending in cc
+  walked_short t (inr (run, is, inl (inr (point, reg, refuted, says)))) = let bad : ends.TooMuchInput ≡ ends.Inconsistent = says.ending in cc
   walked_short t (inr (run, is, inr (a, account, (answered, over, e)))) = let long : 1048576 < 8 = over.long in omega arith
 
   notes_short : NotesTold bytes summary_line text ends.TooMuchInput → ⊥

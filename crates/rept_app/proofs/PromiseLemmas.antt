@@ -29,6 +29,7 @@ use Rattle.rept_opening.specs.declared.status.ExitStatus.{ExitStatus}
 use Rattle.rept_opening.specs.declared.status.ExitStatus.TheVariants as ends
 use Rattle.rept_opening.specs.declared.load.OpenOptions.{OpenOptions}
 use Rattle.rept_app.proofs.Failing.{load_ending}
+use Rattle.rept_opening.proofs.BeyondLemmas.{told_beyond}
 use Rattle.rept_opening.proofs.RunLemmas.{IsWhole}
 use Rattle.rept_opening.proofs.TrueLemmas.{ReportsAreTrue, opened_whole}
 use Rattle.rept_words.specs.Words.{CoreNames, Names, Meaning, meaning_of}
@@ -71,6 +72,7 @@ refused_badly (refusal.Path f) e = by_path (path_status f)
     by_path (inl h) = let bad : ends.Trace ≡ ends.Ok = sym h ∙ e in cc
     by_path (inr h) = let bad : ends.OutOfMemory ≡ ends.Ok = sym h ∙ e in cc
 refused_badly (refusal.Inconsistent kind) e = cc
+refused_badly (refusal.Refuted point reg) e = cc
 refused_badly refusal.InputFault e = cc
 refused_badly refusal.OutOfMemory e = cc
 refused_badly refusal.TooMuchInput e = cc
@@ -233,9 +235,11 @@ module _ (true_of : ReportsAreTrue) (g : CallInput) (out : PortMove Port) where
   whole_of o lines (inr (seed, steps, made, asked, is, opens, same)) = opened_whole o opens.read opens.told
 
   answered_by : (text : List ℕ) → Appends out.before.bytes out.after.bytes text → IsOf g text ends.Ok → IsAnswered g out
-  answered_by text written (o, lines, opened, inl (kind, has, says)) = let bad : ends.Ok ≡ ends.Inconsistent = says.ending in let no : ⊥ = cc in absurd no
+  answered_by text written (o, lines, opened, inl (inl (kind, has, says))) = let bad : ends.Ok ≡ ends.Inconsistent = says.ending in let no : ⊥ = cc in absurd no
+  answered_by text written (o, lines, opened, inl (inr (point, reg, refuted, says))) = let bad : ends.Ok ≡ ends.Inconsistent = says.ending in let no : ⊥ = cc in absurd no
   answered_by text written (o, lines, opened, inr (a, is, answers)) =
-      record { opening = o; lines = lines; opened = opened; account = a; report = is; text = text; answers = answers; written = written; holds = true_of (domain_at o) (crash_at o) o.run a.known (whole_of o lines opened) is.report }
+      let holds = true_of (domain_at o) (crash_at o) o.run a.known (whole_of o lines opened) is.report in
+      record { opening = o; lines = lines; opened = opened; account = a; report = is; text = text; answers = answers; written = written; holds = holds; beyond = told_beyond (run_at o) a holds is.beyond }
 
   -- a made run isn't inconsistent
   made_ends_well : (l : Loading) (seed steps : ℕ) → l ≡ MadeRun seed steps → EndsAt g.files l ends.Inconsistent → ⊥

@@ -5,7 +5,6 @@ use Rattle.rept_ports.specs.Port.{Port, PortMove, move}
 use Rattle.rept_ports.specs.Shelves.{Files, Shelved, IsOver}
 use Rattle.rept_steps.specs.declared.run.Run.{Run}
 use Rattle.rept_session.specs.Shown.{SessionTold}
-use Rattle.rept_found.specs.Telling.{told_on}
 use Rattle.rept_serve.specs.Serving.{Reading}
 use Rattle.rept_opening.specs.Delivered.{Delivers, SaysOrNoMemory, SaysRefusal}
 use Rattle.rept_app.specs.Ends.{Stopped, Yields, EndsSession, FaultEnds, PortsEnd}
@@ -18,7 +17,7 @@ use Rattle.rept_opening.specs.Mapped.{mapped_crash}
 use Rattle.rept_app.specs.MadeRun.{Sums}
 use Rattle.rept_app.specs.Claims.{ComeToReport, MadeHolds, AskedHolds, NoExecution}
 use Rattle.rept_app.specs.Told.{CallInput, call_input, ToldOf, summary_line, CallWrites}
-use Rattle.rept_opening.specs.Opened.{IsCrashOf, Opening, route_at}
+use Rattle.rept_opening.specs.Opened.{IsCrashOf, Opening, run_at, told_in}
 use Rattle.rept_app.specs.Top.{TopCauses, FileStoreCauses, LacksFile, LoadEnds, LoadsOf, EndsAt, EndsByFiles, AskedEnds, NoneFails, Completes}
 use Rattle.rept_words.specs.Words.{Meaning, meaning_of}
 use Rattle.rept_words.specs.Words.Meaning.{Open, Maps, Made}
@@ -149,9 +148,9 @@ completed g file_store source sink status c (inl (text, inl h, appended, calm)) 
 completed g file_store source sink status c (inl (text, inr (inl failed), appended, calm)) calm_ports = absurd (calm_ports.loaded (c.load (load_ending g text status failed)))
 completed g file_store source sink status c (inl (text, inr (inr (inl says)), appended, calm)) calm_ports = inl says.ending
 completed g file_store source sink status c (inl (text, inr (inr (inr (inl (o, a, opens, account, cut)))), appended, calm)) calm_ports =
-    elim (cut_ends (told_on (route_at o) a) g.reading text status cut) [ inl e ↦ absurd (calm_ports.read (c.ports.input e).rose) | inr e ↦ inl e ]
+    elim (cut_ends (told_in (run_at o) a) g.reading text status cut) [ inl e ↦ absurd (calm_ports.read (c.ports.input e).rose) | inr e ↦ inl e ]
 completed g file_store source sink status c (inl (text, inr (inr (inr (inr (seed, steps, named, (made, is, o, opens, a, account, left, cut))))), appended, calm)) calm_ports =
-    elim (cut_ends (told_on (route_at o) a) (record { input = summary_line; left = left }) text status cut) [ inl e ↦ absurd (calm_ports.read (c.ports.input e).rose) | inr e ↦ inl e ]
+    elim (cut_ends (told_in (run_at o) a) (record { input = summary_line; left = left }) text status cut) [ inl e ↦ absurd (calm_ports.read (c.ports.input e).rose) | inr e ↦ inl e ]
 
 -- what is said of a call of which one fault of the file store at most was counted
 pub record AllCauses (file_store : PortMove Shelved) (source sink : PortMove Port) (status : ExitStatus) : Type 0 where

@@ -1,18 +1,20 @@
 -- What holds of the report of the files that words name, where a conflict is told, and of a made
 -- run. This project's own.
-use Rattle.std.specs.Prelude.{ℕ, List, Option, None, Some}
+use Rattle.std.specs.Prelude.{ℕ, ◌<◌, ◌≤◌, List, Option, None, Some}
 use Rattle.rept_ports.specs.Shelves.{Files}
 use Rattle.rept_reason.specs.Facts.{Knowledge}
 use Rattle.rept_report.specs.Knowing.{Extends}
 use Rattle.rept_report.specs.Closure.{IsConsistent, IsReport}
-use Rattle.rept_found.specs.Telling.{Account}
+use Rattle.rept_session.specs.Shown.{Shown}
+use Rattle.rept_found.specs.Telling.{shown_on}
 use Rattle.rept_make.specs.Made.{IsMade}
 use Rattle.rept_make.specs.declared.made.Made.{Made}
 use Rattle.rept_words.specs.Words.{Meaning}
 use Rattle.rept_words.specs.Words.Meaning.{Open, Maps, Made as MadeWords}
+use Rattle.rept_words.specs.declared.request.Domain.{Domain}
 use Rattle.rept_words.specs.declared.request.Domain.TheVariants as domain
 use Rattle.rept_opening.specs.Domains.{means_of}
-use Rattle.rept_opening.specs.Opened.{Opening, Opens, IsAccountOf, crash_at, crash_run, run_at, setting_at}
+use Rattle.rept_opening.specs.Opened.{Opening, Opens, IsAccountOf, RunAccount, crash_at, crash_run, route_of, run_at, setting_at}
 use Rattle.rept_app.specs.Told.{OpensMade}
 use Rattle.rept_opening.specs.True.{IsExcluded, IsExecuted, IsTrue}
 
@@ -43,11 +45,23 @@ AskedHolds (Some (Maps names from)) = Unit {0}
 AskedHolds (Some (Open d names from)) = Unit {0}
 AskedHolds (Some (MadeWords seed steps)) = MadeHolds seed steps
 
+-- the range of a register isn't wider in what is shown second
+abbrev pub IsNoWider : Shown → Shown → ℕ → ℕ → Type 0
+IsNoWider old new p r = ((old.range p r).lo ≤ (new.range p r).lo) × ((new.range p r).hi ≤ (old.range p r).hi)
+
+-- what is shown of the report of a run, with values followed so
+abbrev pub shown_by : Domain → Opening → RunAccount → Shown
+shown_by d o a = shown_on (route_of (crash_run (means_of d) (crash_at o) o.run)) a.known a.scene
+
 -- Of one run and crash: each fact of the report by ranges stands in the report by ranges and known
--- bits.
+-- bits, and no range is wider there.
+pub record BitsTellMore (o : Opening) (by_ranges by_bits : RunAccount) : Type 0 where
+  pub facts : Extends by_ranges.known by_bits.known
+  pub ranges : (p r : ℕ) → p < (shown_by domain.Ranges o by_ranges).points → r < 32 → IsNoWider (shown_by domain.Ranges o by_ranges) (shown_by domain.KnownBits o by_bits) p r
+
 abbrev pub BitsKnowMore : List (List ℕ) → Files → Type 0
 BitsKnowMore words files =
-    (o : Opening) (by_ranges by_bits : Account) → Opens words files o
+    (o : Opening) (by_ranges by_bits : RunAccount) → Opens words files o
     → IsAccountOf (crash_run (means_of domain.Ranges) (crash_at o) o.run) by_ranges
     → IsAccountOf (crash_run (means_of domain.KnownBits) (crash_at o) o.run) by_bits
-    → Extends by_ranges.known by_bits.known
+    → BitsTellMore o by_ranges by_bits

@@ -6,14 +6,14 @@ use Rattle.rept_steps.specs.declared.run.Run.{Run}
 use Rattle.rept_ports.specs.Port.{Port, PortMove}
 use Rattle.rept_report.specs.Closure.{ClosureHas, IsConsistent}
 use Rattle.rept_report.specs.declared.conflict.ConflictKind.{ConflictKind}
-use Rattle.rept_found.specs.Telling.{Account, told_on}
 use Rattle.rept_serve.specs.Serving.{Reading}
 use Rattle.rept_opening.specs.Delivered.{SaysRefusal}
 use Rattle.rept_app.specs.Ends.{Yields, EndsSession, PortsEnd}
 use Rattle.rept_opening.specs.Forms.{program_fault, core_image_fault, crash_in}
 use Rattle.rept_app.specs.Held.{CutOff}
 use Rattle.rept_opening.specs.Loading.{CrashBytes}
-use Rattle.rept_opening.specs.Opened.{CrashRun, CoreSays, route_of, run_setting, CrashTrace, trace_in, run_in, ReadsNotes, IsAccountOf}
+use Rattle.rept_app.specs.Conflict.{EndsReport}
+use Rattle.rept_opening.specs.Opened.{CrashRun, CoreSays, RunAccount, run_setting, told_in, CrashTrace, trace_in, run_in, ReadsNotes, IsAccountOf}
 use Rattle.rept_app.specs.Told.{WalkedTrace, Examined}
 use Rattle.rept_opening.specs.TraceRun.{IsRunOf, HasNoRunOf}
 use Rattle.rept_opening.specs.True.{IsExcluded}
@@ -24,7 +24,7 @@ use Rattle.rept_opening.specs.declared.status.ExitStatus.TheVariants as ends
 -- the session over the run's report was cut short
 abbrev pub WalkCut : CrashTrace → Reading → List ℕ → ExitStatus → Type 0
 WalkCut t reading text status =
-    (run : Run) × (a : Account) × IsRunOf t.crash t.trace t.manner.from run × IsAccountOf (run_in t run) a × CutOff (told_on (route_of (run_in t run)) a) reading text status
+    (run : Run) × (a : RunAccount) × IsRunOf t.crash t.trace t.manner.from run × IsAccountOf (run_in t run) a × CutOff (told_in (run_in t run) a) reading text status
 
 -- all of it; or memory ran out; or the session was cut short
 abbrev pub WalksTrace : CrashTrace → Reading → List ℕ → ExitStatus → Type 0
@@ -38,7 +38,7 @@ Examines bytes reading text status =
 -- how the analysis of a run ends the call
 pub record RunYields {W : Type 0} (p : CrashRun W) (status : ExitStatus) : Type 0 where
   pub conflict : (kind : ConflictKind) → ClosureHas (run_setting p) kind → Yields ends.Inconsistent status
-  pub report : IsConsistent (run_setting p) → EndsSession status
+  pub report : IsConsistent (run_setting p) → EndsReport p status
 
 -- How a trace ends the call, whatever the input is. Its status comes only where it tells no run.
 pub record WalkYields (t : CrashTrace) (status : ExitStatus) : Type 0 where

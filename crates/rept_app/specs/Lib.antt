@@ -1,4 +1,5 @@
 pub mod Claims
+pub mod Conflict
 pub mod Ends
 pub mod Examine
 pub mod Held

@@ -6,9 +6,6 @@ use Rattle.rept_path.specs.declared.fault.PathFault.{PathFault}
 use Rattle.rept_steps.specs.declared.run.Run.{Run}
 use Rattle.rept_ports.specs.Port.{PortMove, move}
 use Rattle.rept_ports.specs.Shelves.{Files, Shelved}
-use Rattle.rept_report.specs.Closure.{ClosureHas}
-use Rattle.rept_report.specs.declared.conflict.ConflictKind.{ConflictKind}
-use Rattle.rept_found.specs.Telling.{Account, told_on}
 use Rattle.rept_serve.specs.Serving.{Reading}
 use Rattle.rept_make.specs.Made.{IsMade}
 use Rattle.rept_make.specs.declared.made.Made.{Made}
@@ -27,14 +24,14 @@ use Rattle.rept_opening.specs.declared.refusal.FileKind.{FileKind}
 use Rattle.rept_opening.specs.declared.refusal.FileKind.TheVariants as file
 use Rattle.rept_opening.specs.declared.refusal.Refusal.TheVariants as refusal
 use Rattle.rept_opening.specs.declared.status.ExitStatus.{ExitStatus}
-use Rattle.rept_opening.specs.Opened.{CrashRun, route_of, run_setting, contradiction_in, IsAccountOf, CrashTrace, run_in, trace_in, CoreSays, ReadsNotes, Opening, crash_at, run_at, route_at, Opens}
+use Rattle.rept_app.specs.Conflict.{TellsConflict}
+use Rattle.rept_opening.specs.Opened.{CrashRun, IsAccountOf, RunAccount, CrashTrace, run_in, told_in, trace_in, CoreSays, ReadsNotes, Opening, crash_at, run_at, Opens}
 
--- The closure of the run and the crash has a conflict, of which the line tells one; or its report
--- answers the input.
+-- A conflict is told; or the report answers the input, with what was inferred beyond it.
 abbrev pub Analysed : {W : Type 0} → CrashRun W → List ℕ → List ℕ → ExitStatus → Type 0
 Analysed p input text status =
-    ((kind : ConflictKind) × ClosureHas (run_setting p) kind × SaysRefusal (refusal.Inconsistent (contradiction_in p kind)) text status)
-    ⊎ ((a : Account) × IsAccountOf p a × Replies (told_on (route_of p) a) input text status)
+    TellsConflict p text status
+    ⊎ ((a : RunAccount) × IsAccountOf p a × Replies (told_in p a) input text status)
 
 -- The trace tells no run, for a reason that the line tells; or the one that it tells is analysed.
 abbrev pub WalkedTrace : CrashTrace → List ℕ → List ℕ → ExitStatus → Type 0
@@ -84,8 +81,8 @@ pub record OpensMade (made : Made) (o : Opening) : Type 0 where
 -- the session over the report of a made run was cut short
 abbrev pub SumCut : ℕ → ℕ → List ℕ → ExitStatus → Type 0
 SumCut seed steps text status =
-    (made : Made) × IsMade seed steps made × (o : Opening) × OpensMade made o × (a : Account) × IsAccountOf (run_at o) a
-    × (left : Option (List ℕ)) × CutOff (told_on (route_at o) a) (record { input = summary_line; left = left }) text status
+    (made : Made) × IsMade seed steps made × (o : Opening) × OpensMade made o × (a : RunAccount) × IsAccountOf (run_at o) a
+    × (left : Option (List ℕ)) × CutOff (told_in (run_at o) a) (record { input = summary_line; left = left }) text status
 
 -- What a call was given, where its ports tell it: its words, the files, how many loads the file
 -- store was asked for before the call and after it, and the bytes of the input with those that are
@@ -133,7 +130,7 @@ abbrev pub Interrupted : CallInput → List ℕ → ExitStatus → Type 0
 Interrupted g text status =
     LoadFailed g text status
     ⊎ SaysRefusal refusal.OutOfMemory text status
-    ⊎ ((o : Opening) × (a : Account) × Opens g.words g.files o × IsAccountOf (run_at o) a × CutOff (told_on (route_at o) a) g.reading text status)
+    ⊎ ((o : Opening) × (a : RunAccount) × Opens g.words g.files o × IsAccountOf (run_at o) a × CutOff (told_in (run_at o) a) g.reading text status)
     ⊎ ((seed : ℕ) × (steps : ℕ) × (meaning_of g.words ≡ Some (MadeWords seed steps)) × SumCut seed steps text status)
 
 -- what is written where the output doesn't fail

@@ -19,8 +19,8 @@ use rept_dump::Dump;
 use rept_elf::Image;
 use rept_maps::{Images, Maps};
 use rept_opening::{
-    CoreFiles, ExitStatus, ListStop, Refusal, images_in, load_listed, tell, tell_failed,
-    tell_no_memory,
+    CoreFiles, CrashImages, ExitStatus, ListStop, Refusal, images_in, load_listed, tell,
+    tell_failed, tell_no_memory,
 };
 use rept_ports::{FileStore, Sink, Source};
 use rept_runs::is_several;
@@ -74,7 +74,13 @@ fn examine_images<S: Source, K: Sink>(
 {
     let trace = files.trace.as_slice();
     match Dump::mapped(maps, images, core, is_several(trace)) {
-        Ok(dump) => walk(alloc, &dump, trace, files.manner, input, out),
+        Ok(dump) => {
+            let images = CrashImages {
+                core,
+                executable: None,
+            };
+            walk(alloc, &dump, images, trace, files.manner, input, out)
+        }
         Err(fault) => tell(alloc, out, &Refusal::Core(fault)),
     }
 }

@@ -21,7 +21,7 @@ use crate::made_run::tell_made_run;
 use crate::mapped::examine_mapped;
 use rept_amo::{Atomic, conclusions_are_listed};
 use rept_found::{reports_are_true, trips_are_true};
-use rept_known::Both;
+use rept_known::{Both, bits_are_finer};
 use rept_opening::{ExitStatus, LoadedRequest, load_files, tell};
 use rept_partial::Range;
 use rept_ports::{FileStore, Sink, Source};
@@ -108,7 +108,7 @@ pub fn rept<H: FileStore, S: Source, K: Sink>(
     // conclusion by one of them, and no other.
     ensures rules { (row : StepRow) (s : Seen) (d : Conclusion) → Contains (atomic_rules.infer row s) d ↔ RowConcludes row s d }
 
-    // Each fact of the report of `open` is told by `bits` of the same files.
+    // Each fact of the report of `open` is told by `bits` of the same files, and no range is wider.
     ensures bits { IfSome (H.port file_store.old).files (λ files. BitsKnowMore (map string_bytes words.now) files) }
 {
     conclusions_are_listed();
@@ -116,6 +116,7 @@ pub fn rept<H: FileStore, S: Source, K: Sink>(
     reports_are_true::<Both, Atomic>();
     trips_are_true::<Range, Atomic>();
     trips_are_true::<Both, Atomic>();
+    bits_are_finer();
     finer_sets_know_more::<Both, Range, Atomic>();
     match load_files(alloc, words, file_store) {
         Ok(LoadedRequest::Files(files)) => {

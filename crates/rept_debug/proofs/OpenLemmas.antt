@@ -8,12 +8,14 @@ use Rattle.rept_runs.specs.Kind.{is_several}
 use Rattle.rept_opening.proofs.Notes.{some_said}
 use Rattle.rept_opening.proofs.RunLemmas.{IsWhole, whole_run}
 use Rattle.rept_opening.proofs.LoadingLemmas.{Stops}
+use Rattle.rept_opening.proofs.BeyondLemmas.{told_beyond}
 use Rattle.rept_opening.proofs.TrueLemmas.{ReportsAreTrue}
 use Rattle.rept_opening.specs.Lines.{status_of}
 use Rattle.rept_opening.specs.Loading.{CoreBytes, CrashBytes, Loading, core_loads_to, crash_bytes, loading}
 use Rattle.rept_opening.specs.Loading.Loading.{Loaded, LoadedCore}
 use Rattle.rept_opening.specs.Mapped.{mapped_crash}
-use Rattle.rept_opening.specs.Opened.{IsCrashOf, trace_in}
+use Rattle.rept_opening.specs.Opened.{IsCrashOf, run_in, trace_in}
+use Rattle.rept_opening.specs.True.{IsTrue}
 use Rattle.rept_opening.specs.declared.refusal.FileKind.TheVariants as file
 use Rattle.rept_opening.specs.declared.load.OpenOptions.{OpenOptions}
 use Rattle.rept_opening.specs.declared.refusal.Refusal.{Refusal}
@@ -32,13 +34,18 @@ same_bytes exe exe' core core' trace trace' manner P e k t h =
 held_whole : (bytes : CrashBytes) (io : Streams) (talk : GdbSession) (h : IsHeld bytes io talk) → IsWhole (trace_in bytes h.notes).crash h.held.run
 held_whole bytes io talk h = whole_run (trace_in bytes h.notes).crash bytes.trace talk.from h.held.run (some_said (is_several bytes.trace) bytes.core h.notes h.read.noted) h.held.is
 
+-- its report is true
+held_true : (bytes : CrashBytes) (io : Streams) (talk : GdbSession) → ReportsAreTrue → (h : IsHeld bytes io talk) → IsTrue (run_in (trace_in bytes h.notes) h.held.run) h.held.over.account.known
+held_true bytes io talk true_of h = true_of bytes.manner.domain (trace_in bytes h.notes).crash h.held.run h.held.over.account.known (held_whole bytes io talk h) h.held.over.report.report
+
 -- what was held over the files is true
 pub debugged : (words : List (List ℕ)) (files : Files) (bytes : CrashBytes) (io : Streams) (talk : GdbSession) → ReportsAreTrue → IsCrashOf files (loading words files) bytes → IsHeld bytes io talk → IsDebugged words files io talk
 debugged words files bytes io talk true_of loaded h = record {
   bytes = bytes;
   loaded = loaded;
   held = h;
-  holds = true_of bytes.manner.domain (trace_in bytes h.notes).crash h.held.run h.held.over.account.known (held_whole bytes io talk h) h.held.over.report.report;
+  holds = held_true bytes io talk true_of h;
+  beyond = told_beyond (run_in (trace_in bytes h.notes) h.held.run) h.held.over.account (held_true bytes io talk true_of h) h.held.over.report.beyond;
 }
 
 pub debugged_files : (words : List (List ℕ)) (files : Files) (bytes : CrashBytes) (io : Streams) (talk : GdbSession) → ReportsAreTrue → loading words files ≡ Loaded bytes → IsHeld bytes io talk → IsDebugged words files io talk

@@ -12,7 +12,6 @@ use Rattle.rept_path.specs.declared.fault.PathFault.{PathFault}
 use Rattle.rept_steps.specs.declared.run.Run.{Run}
 use Rattle.rept_runs.specs.Kind.{is_several}
 use Rattle.rept_found.specs.Crash.{note_at}
-use Rattle.rept_found.specs.Telling.{Account, told_on}
 use Rattle.rept_session.specs.Shown.{SessionTold}
 use Rattle.rept_dialog.specs.Converse.{Parties, Converses, parties_over}
 use Rattle.rept_dialog.specs.declared.conversation.SessionEnd.{SessionEnd}
@@ -23,9 +22,9 @@ use Rattle.rept_opening.specs.Loading.Loading.{Loaded, LoadedCore, MadeRun, Refu
 use Rattle.rept_opening.specs.Mapped.{IsMappedAs, ListSays, MappedCrash, mapped_bytes, mapped_crash}
 use Rattle.rept_opening.specs.Reading.{HasNoCrash}
 use Rattle.rept_opening.specs.Report.{HasNoReport}
-use Rattle.rept_opening.specs.Opened.{CrashRun, CrashTrace, IsAccountOf, IsCrashOf, ReadsNotes, route_of, run_in, trace_in}
+use Rattle.rept_opening.specs.Opened.{CrashRun, CrashTrace, IsAccountOf, IsCrashOf, ReadsNotes, RunAccount, run_in, told_in, trace_in}
 use Rattle.rept_opening.specs.TraceRun.{IsRunOf}
-use Rattle.rept_opening.specs.True.{IsTrue}
+use Rattle.rept_opening.specs.True.{IsTrue, IsTrueBeyond}
 use Rattle.rept_opening.specs.declared.refusal.FileKind.{FileKind}
 use Rattle.rept_opening.specs.declared.refusal.FileKind.TheVariants as file
 use Rattle.rept_opening.specs.declared.refusal.Refusal.{Refusal}
@@ -70,8 +69,8 @@ Notices errors = (errors.after ≡ errors.before) ⊎ ((from : ℕ) × IsWritten
 -- who talks: what a session tells of an account of the run; the signal of the first thread's
 -- register note (`pr_cursig` of `struct elf_prstatus`, at 12); and a debugger that stands at the
 -- end
-abbrev pub dialog_over : {W : Type 0} → CrashRun W → Account → Parties
-dialog_over p a = parties_over (told_on (route_of p) a) (half_at (note_at p.crash 0) 12)
+abbrev pub dialog_over : {W : Type 0} → CrashRun W → RunAccount → Parties
+dialog_over p a = parties_over (told_in p a) (half_at (note_at p.crash 0) 12)
 
 -- a dialog over what a session tells, with the signal of the crash, and how it ended
 abbrev pub HoldsDialog : SessionTold → ℕ → PortMove Port → PortMove Port → HeldDialog → Type 0
@@ -79,7 +78,7 @@ HoldsDialog t signal source sink held = Converses (parties_over t signal) source
 
 -- what arrived was answered over an account of the run
 pub record TalksOver {W : Type 0} (p : CrashRun W) (source sink : PortMove Port) (end : SessionEnd) : Type 0 where
-  pub account : Account
+  pub account : RunAccount
   pub report : IsAccountOf p account
   pub talks : Converses (dialog_over p account) source sink end
 
@@ -146,13 +145,15 @@ abbrev pub status_of_no_talk : GdbError → ExitStatus
 status_of_no_talk (no_talk.Refused r) = status_of r
 status_of_no_talk (no_talk.LoadFault name) = ends.LoadFault
 
--- the words and the files come to a crash; what arrived was answered over its report; and all that
--- the report tells holds in every execution of the run that ends in the crash
+-- the words and the files come to a crash; what arrived was answered over its report; all that the
+-- report tells holds in every execution of the run that ends in the crash; and so does what was
+-- inferred beyond it in every admitted one
 pub record IsDebugged (words : List (List ℕ)) (files : Files) (io : Streams) (talk : GdbSession) : Type 0 where
   pub bytes : CrashBytes
   pub loaded : IsCrashOf files (loading words files) bytes
   pub held : IsHeld bytes io talk
   pub holds : IsTrue (run_in (trace_in bytes held.notes) held.held.run) held.held.over.account.known
+  pub beyond : IsTrueBeyond (run_in (trace_in bytes held.notes) held.held.run) held.held.over.account
 
 -- why nothing is answered of what was loaded: it is refused; or the words ask for a made run
 abbrev pub IsRefusedLoading : Files → Loading → Refusal → Type 0

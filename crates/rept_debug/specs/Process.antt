@@ -1,6 +1,6 @@
 -- A process that opens a crash for a debugger: its words, its ports, and the number that it ends
 -- with. This project's own.
-use Rattle.std.specs.Prelude.{◌≡◌, ◌⊎◌, ℕ, List, [], ◌∷◌, ◌++◌, Bool, false, Result, Ok, Err, IfSome, codes, string_bytes, MatchResult, if◌then◌else◌}
+use Rattle.std.specs.Prelude.{◌≡◌, ◌⊎◌, ℕ, List, [], ◌∷◌, ◌++◌, Bool, false, ◌||◌, Result, Ok, Err, IfSome, codes, string_bytes, MatchResult, if◌then◌else◌}
 use Rattle.std.specs.Str.{bytes_eq}
 use Rattle.rept_ports.specs.Port.{Port, PortMove, move}
 use Rattle.rept_ports.specs.Shelves.{Shelved}
@@ -31,15 +31,15 @@ pub record DebugProcess : Type 0 where
 abbrev pub process : Result (List (List ℕ)) Unreadable → PortMove Shelved → PortMove Port → PortMove Port → PortMove Port → DebugProcess
 process words file_store input output errors = record { words = words; file_store = file_store; input = input; output = output; errors = errors }
 
--- the first word is `maps`
-abbrev pub asks_for_maps : List (List ℕ) → Bool
-asks_for_maps [] = false
-asks_for_maps (first ∷ words) = bytes_eq first (codes "maps")
+-- the first word is `maps` or `infer`
+abbrev pub names_way : List (List ℕ) → Bool
+names_way [] = false
+names_way (first ∷ words) = bytes_eq first (codes "maps") || bytes_eq first (codes "infer")
 
--- the words of a session over the same crash: these, where the first is `maps`, and else `open` and
--- these
+-- the words of a session over the same crash: these, where the first is `maps` or `infer`, and else
+-- `open` and these
 abbrev pub session_words : List (List ℕ) → List (List ℕ)
-session_words words = if asks_for_maps words then words else codes "open" ∷ words
+session_words words = if names_way words then words else codes "open" ∷ words
 
 -- the status of a dialog that was held; a debugger that is gone is no fault
 abbrev pub status_of_end : SessionEnd → ExitStatus
@@ -53,7 +53,7 @@ status_of_end conversed.OutOfMemory = ends.OutOfMemory
 
 -- the line of a refusal: that of a session, or, of words, this program's own
 abbrev pub TellsRefusal : Refusal → List ℕ → ExitStatus → Type 0
-TellsRefusal refusal.Usage text status = text ≡ codes "usage: rept_gdb EXE CORE TRACE [FROM] | rept_gdb maps CORE TRACE [FROM]" ++ 10 ∷ []
+TellsRefusal refusal.Usage text status = text ≡ codes "usage: rept_gdb [infer] EXE CORE TRACE [FROM] | rept_gdb maps CORE TRACE [FROM]" ++ 10 ∷ []
 TellsRefusal r text status = SaysOrNoMemory r text status
 
 -- why no dialog is held

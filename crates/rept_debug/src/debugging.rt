@@ -12,7 +12,7 @@ use crate::talk::{GdbSession, debug_trace};
 use rept_amo::Atomic;
 use rept_found::{reports_are_true, trips_are_true};
 use rept_known::Both;
-use rept_opening::{CrashFiles, LoadedRequest, Refusal, load_files, read_dump};
+use rept_opening::{CrashFiles, LoadedRequest, Refusal, crash_images, load_files, read_dump};
 use rept_partial::Range;
 use rept_ports::{FileStore, Sink, Source};
 use rept_runs::is_several;
@@ -86,5 +86,15 @@ fn debug_files<S: Source, K: Sink, E: Sink>(
         Ok(dump) => dump,
         Err(refusal) => return Err(refusal),
     };
-    debug_trace(alloc, trace, &dump, files.manner, input, out, errors)
+    let images = crash_images(files.exe.as_slice(), files.core.as_slice());
+    debug_trace(
+        alloc,
+        trace,
+        &dump,
+        images,
+        files.manner,
+        input,
+        out,
+        errors,
+    )
 }

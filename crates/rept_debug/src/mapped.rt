@@ -16,7 +16,7 @@ use crate::talk::{GdbSession, debug_trace};
 use rept_dump::Dump;
 use rept_elf::Image;
 use rept_maps::{Images, Maps};
-use rept_opening::{CoreFiles, ListStop, Refusal, images_in, load_listed};
+use rept_opening::{CoreFiles, CrashImages, ListStop, Refusal, images_in, load_listed};
 use rept_ports::{FileStore, Sink, Source};
 use rept_runs::is_several;
 use std::alloc::Global;
@@ -87,7 +87,22 @@ fn debug_images<S: Source, K: Sink, E: Sink>(
 {
     let trace = files.trace.as_slice();
     match Dump::mapped(maps, images, core, is_several(trace)) {
-        Ok(dump) => debug_trace(alloc, trace, &dump, files.manner, input, out, errors),
+        Ok(dump) => {
+            let images = CrashImages {
+                core,
+                executable: None,
+            };
+            debug_trace(
+                alloc,
+                trace,
+                &dump,
+                images,
+                files.manner,
+                input,
+                out,
+                errors,
+            )
+        }
         Err(fault) => Err(Refusal::Core(fault)),
     }
 }

@@ -4,7 +4,7 @@ ghost use Rattle.std.specs.Prelude.{◌≡◌, map, string_bytes, IfOk};
 ghost use Rattle.std.specs.Process.{exit_status};
 ghost use Rattle.std.specs.Result.{result_map_both};
 ghost use Rattle.rept_ports.specs.Port.{move};
-ghost use Rattle.rept_debug.specs.Process.{AnswersDebugging, OpensTalk, asks_for_maps, process, session_words, status_of_end};
+ghost use Rattle.rept_debug.specs.Process.{AnswersDebugging, OpensTalk, names_way, process, session_words, status_of_end};
 
 use crate::debugging::debug;
 use crate::no_talk::GdbError;
@@ -21,22 +21,22 @@ use std::alloc::Global;
 use std::process::ExitCode;
 use std::{env, io};
 
-/// Whether the first word is `maps`.
-fn asks_for_maps(words: &[String]) -> bool
-    ensures { result ≡ asks_for_maps (map string_bytes words.now) }
+/// Whether the first word is `maps` or `infer`.
+fn names_way(words: &[String]) -> bool
+    ensures { result ≡ names_way (map string_bytes words.now) }
 {
     match words {
         [] => false,
-        [first, ..] => first.as_str() == "maps",
+        [first, ..] => first.as_str() == "maps" || first.as_str() == "infer",
     }
 }
 
-/// The words of a session over the crash that these words name: these, where the first is `maps`,
-/// and else `open` and these.
+/// The words of a session over the crash that these words name: these, where the first is `maps` or
+/// `infer`, and else `open` and these.
 fn session_words(alloc: Global, words: Vec<String>) -> Result<Vec<String>, OutOfMemory>
     ensures { IfOk result (λ all. map string_bytes all.items ≡ session_words (map string_bytes words.items)) }
 {
-    if asks_for_maps(words.as_slice()) {
+    if names_way(words.as_slice()) {
         return Ok(words);
     }
     let open = String::from_str(alloc, "open")?;

@@ -2,8 +2,12 @@
 
 ghost use Rattle.std.specs.Prelude.{◌≡◌, ◌<◌, ◌^◌, ℕ, List, length, IfOk, IfErr};
 ghost use Rattle.rept_runs.specs.Kind.{is_several};
+ghost use Rattle.std.specs.Option.{option_map};
+ghost use Rattle.rept_elf.specs.Image.{file_of, segments_of};
+ghost use Rattle.rept_dump.specs.Dump.{core_of, exe_of};
 ghost use Rattle.rept_ports.specs.Port.{move};
 ghost use Rattle.rept_found.specs.Crash.{crash_of};
+ghost use Rattle.rept_opening.specs.Beyond.{executable_of};
 ghost use Rattle.rept_opening.specs.Reading.{AreNotesOf, HasNotes};
 ghost use Rattle.rept_opening.specs.Opened.{crash_trace};
 ghost use Rattle.rept_debug.specs.Debugged.{HoldsDialog, IsHeldTrace, IsRefusedTrace, Notices, streams};
@@ -12,7 +16,7 @@ use crate::begin::begin_run;
 use crate::notice::noticed;
 use rept_dialog::{SessionEnd, converse};
 use rept_dump::Dump;
-use rept_opening::{Asking, Circumstances, OpenOptions, Refusal, open_report};
+use rept_opening::{Asking, Circumstances, CrashImages, OpenOptions, Refusal, open_report};
 use rept_ports::{Sink, Source};
 use rept_session::Findings;
 use rept_stub::Setting;
@@ -28,11 +32,13 @@ pub struct GdbSession {
 }
 
 /// Rebuilds the run of a trace over the dump in which it ends, and answers a debugger over its
-/// report. A trace of several streams wants the registers of each thread.
+/// report; `images` are the files of the dump. A trace of several streams wants the registers of
+/// each thread.
 pub fn debug_trace<S: Source, K: Sink, E: Sink>(
     alloc: Global,
     trace: &[u8],
     dump: &Dump<'_>,
+    images: CrashImages<'_>,
     manner: OpenOptions,
     input: &mut S,
     out: &mut K,
@@ -40,6 +46,8 @@ pub fn debug_trace<S: Source, K: Sink, E: Sink>(
 ) -> Result<GdbSession, Refusal>
     requires small { length trace.now < 2 ^ 32 }
     requires noted { HasNotes (is_several trace.now) dump.now }
+    requires core { segments_of images.core ≡ core_of dump.now }
+    requires exe { option_map file_of images.executable ≡ executable_of (exe_of dump.now) }
     ensures held { (notes : List (List ℕ)) → AreNotesOf dump.now notes → IfOk result (IsHeldTrace (crash_trace (crash_of dump.now notes) trace.now manner) (streams (move (S.port input.old) (S.port input.new)) (move (K.port out.old) (K.port out.new)) (move (E.port errors.old) (E.port errors.new)))) }
     ensures refused { (notes : List (List ℕ)) → AreNotesOf dump.now notes → IfErr result (IsRefusedTrace (crash_trace (crash_of dump.now notes) trace.now manner)) }
     ensures unread { IfErr result (λ _. (input.new ≡ input.old) × (out.new ≡ out.old)) }
@@ -53,7 +61,15 @@ pub fn debug_trace<S: Source, K: Sink, E: Sink>(
         Ok(()) => {}
         Err(_) => return Err(Refusal::OutOfMemory),
     }
-    match open_report::<HeldDialog, S, K>(alloc, manner.domain, &begun.run, dump, input, out) {
+    match open_report::<HeldDialog, S, K>(
+        alloc,
+        manner.domain,
+        &begun.run,
+        dump,
+        images,
+        input,
+        out,
+    ) {
         Ok(held) => Ok(GdbSession {
             from: begun.from,
             end: held.end,

@@ -1,5 +1,6 @@
 -- What is said by one account of reasons is said by the same account.
 use Rattle.std.proofs.Common.{◌≡◌, ℕ, List, Option, None, Some, subst}
+use Rattle.std.specs.Prelude.{codes}
 use Rattle.rept_reason.specs.declared.fact.Fact.{Fact}
 use Rattle.rept_report.specs.Why.{Because}
 use Rattle.rept_remote.specs.Frames.{Arrived}
@@ -11,9 +12,8 @@ use Rattle.rept_session.specs.Session.{said_at}
 use Rattle.rept_session.specs.SessionLaws.{reply_same}
 use Rattle.rept_session.specs.Shown.{SameReasons, Shown, session_told}
 use Rattle.rept_session.specs.declared.place.ThreadPoint.{ThreadPoint}
-use Rattle.rept_stub.specs.Answers.{IsAnswerTo, IsChanged, IsLineAnswered, IsMonitored, IsStillAnswer, IsStubAnswer, Still, spots_after}
+use Rattle.rept_stub.specs.Answers.{IsAnswerTo, IsLineAnswered, IsMonitored, IsStubAnswer, Still}
 use Rattle.rept_stub.specs.Monitoring.{asked_of}
-use Rattle.rept_stub.specs.Spots.{Spots}
 use Rattle.rept_stub.specs.Standing.{here}
 use Rattle.rept_stub.specs.declared.monitoring.MonitorRequest.{MonitorRequest}
 use Rattle.rept_stub.specs.declared.monitoring.MonitorRequest.TheVariants as asked
@@ -25,6 +25,7 @@ module _ (s : Shown) (skipped : ℕ) (old new : Fact → Because → Type 0) (sa
   line_same : (signal : ℕ) (c : ThreadPoint) (line said : List ℕ) (a : MonitorRequest) → IsLineAnswered (session_told s skipped new) signal c line a said → IsLineAnswered (session_told s skipped old) signal c line a said
   line_same signal c line said asked.Signal h = h
   line_same signal c line said asked.Help h = h
+  line_same signal c line said asked.When h = reply_same s skipped old new same c (said_at s c (codes "where")) said h
   line_same signal c line said (asked.Writers address) h = h
   line_same signal c line said asked.Session h = reply_same s skipped old new same c (said_at s c line) said h
 
@@ -32,17 +33,10 @@ module _ (s : Shown) (skipped : ℕ) (old new : Fact → Because → Type 0) (sa
   monitored signal c None text h = h
   monitored signal c (Some line) text h = (h.0, line_same signal c line h.0 (asked_of line) h.1, h.2)
 
-  still_same : (still : Still) (r : GdbRequest) (text : List ℕ) → IsStillAnswer (session_told s skipped new) still r text → IsStillAnswer (session_told s skipped old) still r text
-  still_same still request.Monitor text h = monitored still.signal (here still.stand) _ text h
-  still_same still r text h = h
-
-  changed_same : (still : Still) (r : GdbRequest) (spots : Option Spots) (text : List ℕ) → IsChanged (session_told s skipped new) still r spots text → IsChanged (session_told s skipped old) still r spots text
-  changed_same still r (Some spots) text h = h
-  changed_same still r None text h = still_same still r text h
-
   answer_same : (still : Still) (r : GdbRequest) (text : List ℕ) → IsAnswerTo (session_told s skipped new) still r text → IsAnswerTo (session_told s skipped old) still r text
   answer_same still (request.Move way name) text h = h
-  answer_same still r text h = changed_same still r (spots_after still.stand.spots r) text h
+  answer_same still request.Monitor text h = monitored still.signal (here still.stand) _ text h
+  answer_same still r text h = h
 
   answered : (signal : ℕ) (stand : Stand) (bytes text : List ℕ) → IsStubAnswer (session_told s skipped new) signal stand bytes text → IsStubAnswer (session_told s skipped old) signal stand bytes text
   answered signal stand bytes text h = answer_same (record { signal = signal; stand = stand; packet = bytes }) (request_of bytes) text h

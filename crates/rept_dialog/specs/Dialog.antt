@@ -1,6 +1,6 @@
 -- A dialog with a debugger: each arrival is answered before the next one is read (GDB manual,
 -- appendix Remote Serial Protocol, sections Overview and Packet Acknowledgment).
-use Rattle.std.specs.Prelude.{◌≡◌, ℕ, List, [], ◌++◌, Bool, true, false, codes, if◌then◌else◌}
+use Rattle.std.specs.Prelude.{◌≡◌, ℕ, List, [], ◌∷◌, ◌++◌, Bool, true, false, codes, if◌then◌else◌}
 use Rattle.rept_remote.specs.Escapes.{packet_of}
 use Rattle.rept_remote.specs.Frames.{Arrived, Arrives}
 use Rattle.rept_remote.specs.Frames.Arrived.{packet, broken, large, again, interrupt}
@@ -8,8 +8,8 @@ use Rattle.rept_request.specs.Requests.{request_of}
 use Rattle.rept_request.specs.declared.request.GdbRequest.{GdbRequest}
 use Rattle.rept_request.specs.declared.request.GdbRequest.TheVariants as request
 use Rattle.rept_session.specs.Shown.{SessionTold, Shown}
-use Rattle.rept_stub.specs.Answers.{IsStubAnswer, stand_after}
-use Rattle.rept_stub.specs.Replies.{error}
+use Rattle.rept_stub.specs.Answers.{IsStubAnswer, line_before, stand_after}
+use Rattle.rept_stub.specs.Replies.{digits_of, error}
 use Rattle.rept_stub.specs.Standing.{start_of}
 use Rattle.rept_dialog.specs.declared.turn.Dialog.{Dialog}
 
@@ -28,10 +28,16 @@ is_last request.Detach = true
 is_last request.Kill = true
 is_last _ = false
 
--- what is written in reply to a packet; nothing to `k`
-abbrev pub written_to : GdbRequest → List ℕ → List ℕ
-written_to request.Kill reply = []
-written_to _ reply = packet_of reply
+-- a line for gdb's console, as pairs of digits in a packet that begins with `O`; an empty one isn't
+-- written
+abbrev pub console_packet : List ℕ → List ℕ
+console_packet [] = []
+console_packet line = packet_of (79 ∷ digits_of line)
+
+-- what is written in reply to a packet, after a line for gdb's console; nothing to `k`
+abbrev pub written_to : GdbRequest → List ℕ → List ℕ → List ℕ
+written_to request.Kill line reply = []
+written_to _ line reply = console_packet line ++ packet_of reply
 
 abbrev pub sign : Dialog → List ℕ → List ℕ
 sign d text = if d.acknowledges then text else []
@@ -41,7 +47,7 @@ abbrev pub after_packet : SessionTold → Dialog → List ℕ → List ℕ → D
 after_packet t d bytes reply = record {
   stand = stand_after t.shown d.stand bytes;
   acknowledges = acknowledges_after d.acknowledges (request_of bytes);
-  last = written_to (request_of bytes) reply;
+  last = written_to (request_of bytes) (line_before t.shown d.stand bytes) reply;
   is_over = is_last (request_of bytes);
 }
 
@@ -49,7 +55,7 @@ after_packet t d bytes reply = record {
 -- `k`, answered; one that is broken is refused; the last reply is written again where it is wished
 -- for.
 abbrev pub IsTurn : SessionTold → ℕ → Dialog → Arrived → List ℕ → Dialog → Type 0
-IsTurn t signal d (packet bytes) text new = (reply : List ℕ) × IsStubAnswer t signal d.stand bytes reply × (text ≡ sign d (codes "+") ++ written_to (request_of bytes) reply) × (new ≡ after_packet t d bytes reply)
+IsTurn t signal d (packet bytes) text new = (reply : List ℕ) × IsStubAnswer t signal d.stand bytes reply × (text ≡ sign d (codes "+") ++ written_to (request_of bytes) (line_before t.shown d.stand bytes) reply) × (new ≡ after_packet t d bytes reply)
 IsTurn t signal d broken text new = (text ≡ sign d (codes "-")) × (new ≡ d)
 IsTurn t signal d large text new = (text ≡ sign d (codes "+") ++ packet_of error) × (new ≡ record d { last = packet_of error })
 IsTurn t signal d again text new = (text ≡ d.last) × (new ≡ d)

@@ -6,12 +6,12 @@ ghost use Rattle.rept_remote.specs.Frames.{arrived};
 ghost use Rattle.rept_remote.specs.Frames.Arrived.{packet};
 ghost use Rattle.rept_session.specs.Shown.{SameReasons, session_told};
 ghost use Rattle.rept_stub.specs.Standing.{IsStandLawful};
-ghost use Rattle.rept_dialog.specs.Dialog.{IsTurn, acknowledges_after, is_last, sign, start_at, written_to};
+ghost use Rattle.rept_dialog.specs.Dialog.{IsTurn, acknowledges_after, console_packet, is_last, sign, start_at, written_to};
 
 use rept_remote::{Arrival, push_packet};
 use rept_request::{GdbRequest, parse};
 use rept_session::Findings;
-use rept_stub::{Setting, Stand, answer_packet, start};
+use rept_stub::{PacketReply, Setting, Stand, answer_packet, push_digits, start};
 use rept_word::{OutOfMemory, Text};
 use std::alloc::Global;
 
@@ -84,7 +84,7 @@ fn answer<F: Findings>(
 {
     let request = parse(carried);
     let reply = answer_packet(alloc, findings, setting, &mut dialog.stand, carried)?;
-    let written = written_to(alloc, request, reply.bytes())?;
+    let written = written_to(alloc, request, &reply)?;
     let text = replied(alloc, dialog.acknowledges, written.bytes())?;
     dialog.acknowledges = acknowledges_after(dialog.acknowledges, request);
     dialog.is_over = is_last(request);
@@ -92,14 +92,36 @@ fn answer<F: Findings>(
     Ok(text)
 }
 
-/// What is written in reply to a packet; nothing to `k`.
-fn written_to(alloc: Global, request: GdbRequest, reply: &[u8]) -> Result<Text, OutOfMemory>
-    ensures { IfOk result (λ text. text ≡ written_to request reply.now) }
+/// What is written in reply to a packet, after a line for gdb's console; nothing to `k`.
+fn written_to(alloc: Global, request: GdbRequest, reply: &PacketReply) -> Result<Text, OutOfMemory>
+    ensures { IfOk result (λ text. text ≡ written_to request reply.now.line reply.now.text) }
 {
     match request {
         GdbRequest::Kill => Ok(Text::new(alloc)),
-        _ => packed(alloc, reply),
+        _ => packets_of(alloc, reply.line.bytes(), reply.text.bytes()),
     }
+}
+
+/// The packet of a line for gdb's console, if there is one, and that of a reply.
+fn packets_of(alloc: Global, line: &[u8], reply: &[u8]) -> Result<Text, OutOfMemory>
+    ensures { IfOk result (λ text. text ≡ console_packet line.now ++ packet_of reply.now) }
+{
+    let mut text = console_packet(alloc, line)?;
+    push_packet(alloc, &mut text, reply)?;
+    Ok(text)
+}
+
+/// A line for gdb's console; nothing of an empty one.
+fn console_packet(alloc: Global, line: &[u8]) -> Result<Text, OutOfMemory>
+    ensures { IfOk result (λ text. text ≡ console_packet line.now) }
+{
+    if line.is_empty() {
+        return Ok(Text::new(alloc));
+    }
+    let mut words = Text::new(alloc);
+    words.push(b"O")?;
+    push_digits(&mut words, line)?;
+    packed(alloc, words.bytes())
 }
 
 /// The answer to a packet that is too large.

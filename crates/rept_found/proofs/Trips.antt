@@ -5,16 +5,16 @@ use Rattle.std.proofs.lemmas.Bool.{false≢true}
 use Rattle.std.proofs.lemmas.List.Elements.{All-weaker}
 use Rattle.rept_isa.specs.declared.row.StepRow.{StepRow}
 use Rattle.rept_partial.specs.Sets.{AreLawful as AreLawfulSets}
-use Rattle.rept_steps.specs.Course.{Course, IsSoundCourse}
+use Rattle.rept_steps.specs.Course.{Course, IsSoundCourse, rows_of}
 use Rattle.rept_order.specs.History.{History, Ending}
-use Rattle.rept_order.specs.Legs.{registers_on}
+use Rattle.rept_order.specs.Legs.{number_of, registers_on}
 use Rattle.rept_order.specs.Moments.{Moment}
-use Rattle.rept_order.specs.Points.{memory_at}
+use Rattle.rept_order.specs.Points.{memory_at, moment_of_point}
 use Rattle.rept_order.specs.Writers as order
 use Rattle.rept_course.specs.Numbered.{row_on}
 use Rattle.rept_course.proofs.Naming.{row_inside}
-use Rattle.rept_moments.specs.Seen.{alone_by, seen_by}
-use Rattle.rept_places.specs.Places.{last_by, last_on, place_on}
+use Rattle.rept_moments.specs.Seen.{alone_by, moment_in, seen, seen_by}
+use Rattle.rept_places.specs.Places.{last_by, last_on, place_on, point_on, thread_point}
 use Rattle.rept_reason.specs.declared.fact.Fact.{Fact}
 use Rattle.rept_reason.specs.declared.fact.Cell.{Cell}
 use Rattle.rept_reason.specs.declared.fact.Cell.TheVariants.{Register, Byte}
@@ -43,6 +43,7 @@ use Rattle.rept_trip.proofs.Naming.{place_named}
 use Rattle.rept_trip.proofs.Paths.{is_sound}
 use Rattle.rept_trip.proofs.Seeing.{history_runs}
 use Rattle.rept_trip.proofs.Telling.{IsTold, told_by}
+use Rattle.rept_found.specs.Chains.{RestsOn}
 use Rattle.rept_found.specs.Crash.{Means, Scene, trip_by}
 use Rattle.rept_found.specs.Telling.{shown_on}
 use Rattle.rept_found.specs.Histories.{IsRowReached, IsTrueIn, RangeHoldsInAll, IsTrueBecause, IsTrueTrip, WriterReaches}
@@ -116,10 +117,15 @@ module _ {W : Type 0} (m : Means W) (sets : AreLawfulSets m.sets) (moves : AreMo
 
   pub trip_true : IsSoundReport Here K
       → ((es : List Entry) (tracked : ℕ → Bool) (f : Fact) (why : Because) → HasEnded Here es tracked → IsReason Here (logged_of es) f why → All (IsGiven (known_at_end Here es tracked)) why.premises)
-      → ((es : List Entry) (tracked : ℕ → Bool) (f : Fact) (why : Because) → HasEnded Here es tracked → IsReason Here (logged_of es) f why → All (RangeHoldsInRuns Here) why.ranges) → IsTrueTrip There K
-  trip_true report premises ranges = record {
+      → ((es : List Entry) (tracked : ℕ → Bool) (f : Fact) (why : Because) → HasEnded Here es tracked → IsReason Here (logged_of es) f why → All (RangeHoldsInRuns Here) why.ranges)
+      → ((es : List Entry) (tracked : ℕ → Bool) (f : Fact) → HasEnded Here es tracked → RestsOn Here (logged_of es) f f → ⊥)
+      → ((t p : ℕ) → t < length C.threads → p ≤ length (rows_of C t) → point_on C (number_of C t p) ≡ thread_point t p)
+      → ((t p : ℕ) → t < length C.threads → p ≤ length (rows_of C t) → moment_named C (place_on C (moment_in (seen C) (number_of C t p))) ≡ moment_of_point C t p) → IsTrueTrip There K
+  trip_true report premises ranges circles named moments = record {
     answers = answers_true report;
     reasons = λ log f why l is.
         let here : IsReason Here (logged_of l.entries) f why = subst (λ (fs : List Fact). IsReason Here fs f why) (sym l.logged) is in
         because_true l.entries l.tracked why l.knows (premises l.entries l.tracked f why l.ended here) (ranges l.entries l.tracked f why l.ended here);
+    circles = λ log f l rests. circles l.entries l.tracked f l.ended (subst (λ (fs : List Fact). RestsOn Here fs f f) (sym l.logged) rests);
+    points = λ scene c is. record { point = named c.thread c.point is.0 is.1; moment = moments c.thread c.point is.0 is.1 };
   }

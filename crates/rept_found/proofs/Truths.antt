@@ -30,6 +30,7 @@ use Rattle.rept_report.specs.Implied.{HasEnded, known_at_end}
 use Rattle.rept_report.specs.Log.{Entry, logged_of}
 use Rattle.rept_report.proofs.OneThread.{rows_within, are_points, execution_runs, none_later, writes_told}
 use Rattle.rept_report.specs.OneThread.{ThreadPath, path_setting}
+use Rattle.rept_found.specs.Chains.{RestsOn}
 use Rattle.rept_found.specs.Crash.{Crash, Means, path_of, Scene}
 use Rattle.rept_trip.specs.Alone.{trip_of}
 use Rattle.rept_trip.specs.Last.{writer_found}
@@ -120,12 +121,15 @@ module _ {W : Type 0} (m : Means W) (sets : AreLawfulSets m.sets) (moves : AreMo
 
   pub report_true : IsSound Here K
       → ((es : List Entry) (tracked : ℕ → Bool) (f : Fact) (why : Because) → HasEnded Here es tracked → IsReason Here (logged_of es) f why → All (IsGiven (known_at_end Here es tracked)) why.premises)
-      → ((es : List Entry) (tracked : ℕ → Bool) (f : Fact) (why : Because) → HasEnded Here es tracked → IsReason Here (logged_of es) f why → All (RangeHoldsInRuns Here) why.ranges) → IsTrueReport There K
-  report_true sound premises ranges = record {
+      → ((es : List Entry) (tracked : ℕ → Bool) (f : Fact) (why : Because) → HasEnded Here es tracked → IsReason Here (logged_of es) f why → All (RangeHoldsInRuns Here) why.ranges)
+      → ((es : List Entry) (tracked : ℕ → Bool) (f : Fact) → HasEnded Here es tracked → RestsOn Here (logged_of es) f f → ⊥) → IsTrueReport There K
+  report_true sound premises ranges circles = record {
+    sets = λ run x p r set early is. sound.ranges p r set early is (run_of_states run) (runs There run x);
     answers = answers_true sound;
     reasons = λ log f why l is.
         let here : IsReason Here (logged_of l.entries) f why = subst (λ (fs : List Fact). IsReason Here fs f why) (sym l.logged) is in
         reason_true l.entries l.tracked log why l.knows (premises l.entries l.tracked f why l.ended here) (ranges l.entries l.tracked f why l.ended here);
+    circles = λ log f l rests. circles l.entries l.tracked f l.ended (subst (λ (fs : List Fact). RestsOn Here fs f f) (sym l.logged) rests);
   }
 
 pub uses_here : {W : Type 0} (m : Means W) (crash : Crash) (rows : List StepRow) → Uses (path_setting (path_of m crash rows)) m.sets m.moves m.rules

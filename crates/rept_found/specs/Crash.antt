@@ -1,6 +1,6 @@
 -- What a crash leaves, and the analysis of a run that ends in it (ELF-32 Object File Format; Linux
 -- core notes of RISC-V).
-use Rattle.std.specs.Prelude.{ℕ, ◌+◌, ◌*◌, List, [], map, ◌==◌, if◌then◌else◌, Option, Some, None, unwrap_or, slice_get}
+use Rattle.std.specs.Prelude.{ℕ, Bool, true, false, ◌+◌, ◌*◌, List, [], map, ◌==◌, if◌then◌else◌, Option, Some, None, unwrap_or, slice_get}
 use Rattle.std.specs.List.{range_with_len}
 use Rattle.rept_elf.specs.Header.{word_at}
 use Rattle.rept_elf.specs.Segments.{ElfSegment}
@@ -71,14 +71,20 @@ last_value note r = if r == 0 then 0 else word_at note (72 + 4 * r)
 unfoldable pub last_values : List ℕ → List ℕ
 last_values note = map (last_value note) (range_with_len 0 32)
 
--- the sets as which values are followed, and what the rows let one infer
+-- the sets as which values are followed, what the rows let one infer, and whether more is inferred
+-- beyond the report
 pub record Means (W : Type 0) : Type 0 where
   pub sets : Sets W
   pub moves : Moves W
   pub rules : Rules
+  pub beyond : Bool
 
 abbrev pub means : {W : Type 0} → Sets W → Moves W → Rules → Means W
-means sets moves rules = record { sets = sets; moves = moves; rules = rules }
+means sets moves rules = record { sets = sets; moves = moves; rules = rules; beyond = false }
+
+-- the same where more is inferred
+abbrev pub means_beyond : {W : Type 0} → Means W → Means W
+means_beyond m = record { sets = m.sets; moves = m.moves; rules = m.rules; beyond = true }
 
 -- a run of any number of threads that ended so
 abbrev pub trip_by : {W : Type 0} → Means W → Course → Ending → Trip W

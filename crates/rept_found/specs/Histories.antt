@@ -5,7 +5,7 @@ use Rattle.rept_steps.specs.Course.{Course, Row, IsRow}
 use Rattle.rept_order.specs.History.{History}
 use Rattle.rept_order.specs.Moments.{WhollyAfter}
 use Rattle.rept_order.specs.Moments.Act.{row}
-use Rattle.rept_order.specs.Points.{thread_registers, memory_at}
+use Rattle.rept_order.specs.Points.{thread_registers, memory_at, moment_of_point}
 use Rattle.rept_order.specs.Writers.{CourseSpot, Writer, WriterHoldsInHistory}
 use Rattle.rept_order.specs.Writers.Writer.{writes, may_write, several, none}
 use Rattle.rept_reason.specs.declared.fact.Fact.{Fact}
@@ -13,11 +13,12 @@ use Rattle.rept_reason.specs.declared.reason.RangePremise.{RangePremise}
 use Rattle.rept_reason.specs.Facts.{Knowledge}
 use Rattle.rept_report.specs.Why.{Because, IsReason, IsGiven}
 use Rattle.rept_analysis.specs.Logged.{IsLogOf}
-use Rattle.rept_session.specs.Shown.{Shown}
+use Rattle.rept_session.specs.Shown.{IsThreadPoint, Shown, moment_at, number}
 use Rattle.rept_places.specs.Places.{point_on}
 use Rattle.rept_session.specs.declared.place.ThreadPoint.{ThreadPoint}
 use Rattle.rept_trip.specs.Trip.{Trip, setting_on}
 use Rattle.rept_trip.specs.Executed.{IsHistoryOf, moment_named, writer_on}
+use Rattle.rept_found.specs.Chains.{RestsOn}
 use Rattle.rept_found.specs.Crash.{Scene}
 use Rattle.rept_found.specs.Telling.{shown_on}
 
@@ -67,7 +68,16 @@ pub record IsTrueBecause {W : Type 0} (t : Trip W) (K : Knowledge) (why : Becaus
   pub premises : All (IsGiven K) why.premises
   pub ranges : All (RangeHoldsInAll t) why.ranges
 
--- all that a session tells of a report of a trip, whatever the order in which it was learnt
+-- The number of a thread's point stands for that point. The number of the moment there stands for
+-- the moment before the thread's row, or for the end after its last one.
+pub record IsPointOf {W : Type 0} (t : Trip W) (s : Shown) (c : ThreadPoint) : Type 0 where
+  pub point : s.point (number s c) ≡ c
+  pub moment : moment_named t.course (s.place (moment_at s c)) ≡ moment_of_point t.course c.thread c.point
+
+-- All that a session tells of a report of a trip, whatever the order in which it was learnt. No
+-- chain of reasons leads back to its own fact, and numbers stand for points and moments.
 pub record IsTrueTrip {W : Type 0} (t : Trip W) (K : Knowledge) : Type 0 where
   pub answers : (scene : Scene) (h : History) → IsHistoryOf t h → IsTrueIn t (shown_on t K scene) h
   pub reasons : (log : List Fact) (fact : Fact) (why : Because) → IsLogOf (setting_on t) K log → IsReason (setting_on t) log fact why → IsTrueBecause t K why
+  pub circles : (log : List Fact) (fact : Fact) → IsLogOf (setting_on t) K log → RestsOn (setting_on t) log fact fact → ⊥
+  pub points : (scene : Scene) (c : ThreadPoint) → IsThreadPoint (shown_on t K scene) c → IsPointOf t (shown_on t K scene) c

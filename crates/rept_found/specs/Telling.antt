@@ -24,6 +24,7 @@ use Rattle.rept_trip.specs.Trip.{Trip, setting_on}
 use Rattle.rept_trip.specs.Alone.{trip_of}
 use Rattle.rept_trip.specs.Last.{writer_found}
 use Rattle.rept_found.specs.Crash.{Scene, ended_at}
+use Rattle.rept_found.specs.ProgramCode.{code_byte}
 
 -- the bits in which all values that are left are alike
 abbrev pub noted : {W : Type 0} → Moves W → Option W → Option (ℕ × ℕ)
@@ -61,6 +62,8 @@ shown_on t K scene = record {
   note = λ p r. noted t.moves (range (way_of (setting_on t)) K p r);
   byte = λ m a. K m (Byte a);
   writer = λ m a. writer_found (setting_on t) K (spot m a);
+  is_inferred = λ p c. false;
+  code = code_byte t.course (contents scene.program);
   counts = counts_of (setting_on t) K;
   symbol = (contents scene.program).symbol;
 }

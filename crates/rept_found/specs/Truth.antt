@@ -1,6 +1,6 @@
 -- What is told of a report holds in every execution of the path that ends in the dump. This
 -- project's own.
-use Rattle.std.specs.Prelude.{◌≡◌, ℕ, ◌+◌, ◌<◌, ◌≤◌, ◌^◌, ⊤, All, List, length, Some, slice_get, bit_and}
+use Rattle.std.specs.Prelude.{◌≡◌, ℕ, true, ◌+◌, ◌<◌, ◌≤◌, ◌^◌, ⊤, All, List, length, Some, slice_get, bit_and}
 use Rattle.rept_isa.specs.declared.row.StepRow.{StepRow}
 use Rattle.rept_machine.specs.State.{State}
 use Rattle.rept_machine.specs.Execution.{Execution}
@@ -14,7 +14,10 @@ use Rattle.rept_report.specs.Spots.{Spot, spot}
 use Rattle.rept_report.specs.Why.{Because, IsReason, IsGiven}
 use Rattle.rept_analysis.specs.Logged.{IsLogOf}
 use Rattle.rept_report.specs.OneThread.{ThreadPath, path_setting}
+use Rattle.rept_report.specs.Setting.{way_of}
+use Rattle.rept_span.specs.Ranges.{range}
 use Rattle.rept_session.specs.Shown.{Shown}
+use Rattle.rept_found.specs.Chains.{RestsOn}
 use Rattle.rept_found.specs.Crash.{Scene}
 use Rattle.rept_found.specs.Telling.{shown_of}
 
@@ -67,7 +70,14 @@ pub record IsTrueReason {W : Type 0} (P : ThreadPath W) (K : Knowledge) (why : B
   pub premises : All (IsGiven K) why.premises
   pub ranges : All (RangeAlwaysHoldsOnPath P) why.ranges
 
--- all that a session tells of a report, whatever the order in which it was learnt
+-- Of one execution: each register has one of the values that are left of it.
+abbrev pub SetsHold : {W : Type 0} → ThreadPath W → Knowledge → (ℕ → State) → Type 0
+SetsHold {W} P K run = (p r : ℕ) (set : W) → p ≤ length P.given.rows → range (way_of (path_setting P)) K p r ≡ Some set → P.sets.has set ((run p).register r) ≡ true
+
+-- all that a session tells of a report, whatever the order in which it was learnt, and the sets
+-- that are left of registers; and no chain of reasons leads back to its own fact
 pub record IsTrueReport {W : Type 0} (P : ThreadPath W) (K : Knowledge) : Type 0 where
+  pub sets : (run : ℕ → State) → ExecutesPath P run → SetsHold P K run
   pub answers : (scene : Scene) (run : ℕ → State) → ExecutesPath P run → IsTrueOf P (shown_of P K scene) run
   pub reasons : (log : List Fact) (fact : Fact) (why : Because) → IsLogOf (path_setting P) K log → IsReason (path_setting P) log fact why → IsTrueReason P K why
+  pub circles : (log : List Fact) (fact : Fact) → IsLogOf (path_setting P) K log → RestsOn (path_setting P) log fact fact → ⊥

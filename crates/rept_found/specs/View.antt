@@ -1,12 +1,14 @@
 -- An analysis that is prepared, or has ended, as contracts see it. This project's own.
-use Rattle.std.specs.Prelude.{◌≡◌, ◌<◌, List, length, map}
+use Rattle.std.specs.Prelude.{◌≡◌, ℕ, ◌<◌, List, length, map, Option}
 use Rattle.rept_elf.specs.Segments.{ElfSegment}
 use Rattle.rept_dump.specs.Memory.{crash_byte}
 use Rattle.rept_dump.specs.Program.{Program, contents}
 use Rattle.rept_dump.specs.declared.status.Status.{Status}
 use Rattle.rept_steps.specs.Course.{IsSoundCourse}
 use Rattle.rept_order.specs.History.{Ending}
+use Rattle.rept_span.specs.Ranges.{range}
 use Rattle.rept_report.specs.Closure.{IsReport}
+use Rattle.rept_report.specs.Setting.{way_of}
 use Rattle.rept_timeline.specs.Times.{time_of}
 use Rattle.rept_versions.specs.OnLine.{LineParts, store}
 use Rattle.rept_analysis.specs.State.{AnalysisState, Whole, Reader, reader, given_of, state_of}
@@ -52,6 +54,10 @@ scene_in v = record { threads = map ended_as v.ends.statuses; program = v.progra
 -- the analysis, as definitions speak of it
 abbrev pub state_in : {W R : Type 0} → Means W → CrashView W R → AnalysisState W
 state_in m v = state_of read_in m.sets m.moves m.rules store v.analysis
+
+-- the set of values that is left of a register at a point
+abbrev pub set_in : {W R : Type 0} → Means W → CrashView W R → ℕ → ℕ → Option W
+set_in m v p r = range (way_of (setting_on (trip_in m v))) (answers (state_in m v)) p r
 
 -- it goes over the rows and moments of a sound run of at least one thread, and ends as that does
 pub record IsOfRun {W R : Type 0} (v : CrashView W R) : Type 0 where

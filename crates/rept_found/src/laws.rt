@@ -21,14 +21,16 @@ ghost use Rattle.rept_found.specs.Single.{IsOneThread};
 ghost use Rattle.rept_found.specs.Telling.{shown_of, shown_on};
 ghost use Rattle.rept_found.specs.Truth.{HasNoExecutionOfPath, IsTrueReport};
 
+use rept_places::places_are_names;
 use rept_report::{facts_have_reasons, reports_are_sound};
 use rept_span::Transfer;
+use rept_trip::points_are_moments;
 use rept_view::RowRules;
 
 /// What a session tells of a report holds in every execution of the path that ends in the crash,
-/// and its reasons rest on the report. Where the closure has a conflict, there is no such
-/// execution. The run of one thread is the trip of its path, so that the same is found and shown of
-/// it.
+/// and its reasons rest on the report. No chain of them leads back to its own fact. Where the
+/// closure has a conflict, there is no such execution. The run of one thread is the trip of its
+/// path, so that the same is found and shown of it.
 pub fn reports_are_true<W: Transfer, R: RowRules>()
     ensures report { (crash : Crash) (rows : List StepRow) (K : Knowledge) → IsReport (path_setting (path_of (means W.sets W.moves R.rules) crash rows)) K → IsTrueReport (path_of (means W.sets W.moves R.rules) crash rows) K }
     ensures impossible { (crash : Crash) (rows : List StepRow) (kind : ConflictKind) → ClosureHas (path_setting (path_of (means W.sets W.moves R.rules) crash rows)) kind → HasNoExecutionOfPath (path_of (means W.sets W.moves R.rules) crash rows) }
@@ -39,9 +41,10 @@ pub fn reports_are_true<W: Transfer, R: RowRules>()
 }
 
 /// Of a sound run of any number of threads: what a session tells of a report holds in every
-/// execution of all threads that ends so, and its reasons rest on the report. Where the closure has
-/// a conflict, there is no such execution. A row that is told as the last writer at a point of a
-/// thread came before it, and is told at each point since it came.
+/// execution of all threads that ends so, and its reasons rest on the report. No chain of them leads
+/// back to its own fact. Where the closure has a conflict, there is no such execution. A row that is
+/// told as the last writer at a point of a thread came before it, and is told at each point since it
+/// came.
 pub fn trips_are_true<W: Transfer, R: RowRules>()
     ensures report { (C : Course) (D : Ending) (K : Knowledge) → IsSoundCourse C → 0 < length C.threads → IsReport (setting_on (trip_by (means W.sets W.moves R.rules) C D)) K → IsTrueTrip (trip_by (means W.sets W.moves R.rules) C D) K }
     ensures conflict { (C : Course) (D : Ending) (kind : ConflictKind) → IsSoundCourse C → 0 < length C.threads → ClosureHas (setting_on (trip_by (means W.sets W.moves R.rules) C D)) kind → HasNoHistory (trip_by (means W.sets W.moves R.rules) C D) }
@@ -49,6 +52,8 @@ pub fn trips_are_true<W: Transfer, R: RowRules>()
 {
     reports_are_sound::<W, R>();
     facts_have_reasons::<W, R>();
+    places_are_names();
+    points_are_moments();
 }
 
 /// What is shown of a path is what its one thread's own words say: its points and moments are one.

@@ -2,6 +2,7 @@
 //! the session that tells it.
 #![tactic(auto)]
 
+mod code;
 pub mod contradiction;
 pub mod ends;
 pub mod found;

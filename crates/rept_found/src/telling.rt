@@ -1,10 +1,11 @@
 //! What a session asks of an analysis that has ended.
 
-ghost use Rattle.std.specs.Prelude.{◌≡◌, ◌≤◌, true};
+ghost use Rattle.std.specs.Prelude.{◌≡◌, ◌≤◌, true, Some};
 ghost use Rattle.rept_reason.specs.Facts.{register_known};
 ghost use Rattle.rept_analysis.specs.Kept.{answers};
 ghost use Rattle.rept_analysis.specs.State.{reader, state_of};
 
+use crate::code::code_byte;
 use crate::found::AnalysedCrash;
 use rept_analysis::Analysis;
 use rept_elf::Symbol;
@@ -14,7 +15,7 @@ use rept_moments::NumberedRun;
 use rept_partial::{Partial, Range};
 use rept_places::{place_of, point_of};
 use rept_reach::Reaches;
-use rept_reason::{Fact, Reason};
+use rept_reason::{Cell, Fact, Reason};
 use rept_report::{Counts, Paths, Writer, bounds};
 use rept_session::{Findings, ThreadPlace, ThreadPoint};
 use rept_span::Transfer;
@@ -28,6 +29,10 @@ impl<'a, W: Transfer, R: RowRules> AnalysedCrash<'a, W, R> {
     ghost use Rattle.rept_moments.specs.Courses.{seen_in, IsCourseOf};
     ghost use Rattle.rept_moments.specs.Points.{points_in};
     ghost use Rattle.rept_report.specs.Moments.{AreMoments};
+    ghost use Rattle.rept_analysis.specs.Kept.{answers};
+    ghost use Rattle.rept_found.specs.Telling.{shown_on};
+    ghost use Rattle.rept_found.specs.Crash.{means};
+    ghost use Rattle.rept_found.specs.View.{scene_in, set_in, state_in, trip_in};
 
     /// The rows and moments of the run, by their numbers.
     fn course(&self) -> &NumberedRun<'a>
@@ -38,6 +43,14 @@ impl<'a, W: Transfer, R: RowRules> AnalysedCrash<'a, W, R> {
     {
         self.ends.account();
         self.paths.ways().course()
+    }
+
+    /// The set of values that is left of a register at a point.
+    pub fn set(&self, point: u32, register: Reg) -> W
+        requires { point < (shown_on (trip_in (means W.sets W.moves R.rules) self.now) (answers (state_in (means W.sets W.moves R.rules) self.now)) (scene_in self.now)).points }
+        ensures { set_in (means W.sets W.moves R.rules) self.now point register ≡ Some result }
+    {
+        self.analysis.range(point, register)
     }
 }
 
@@ -105,6 +118,10 @@ impl<'a, W: Transfer, R: RowRules> Findings for AnalysedCrash<'a, W, R> {
         self.analysis.byte(moment, address)
     }
 
+    fn code(&self, address: u32) -> Option<u8> {
+        code_byte(self.ends.run(), self.dump, address)
+    }
+
     fn writer(&self, moment: u32, address: u32) -> Writer {
         self.analysis.writer(moment, address)
     }
@@ -119,6 +136,10 @@ impl<'a, W: Transfer, R: RowRules> Findings for AnalysedCrash<'a, W, R> {
         addresses: &[u32],
     ) -> Result<Vec<Option<Symbol<'_>>>, OutOfMemory> {
         self.dump.symbols(alloc, addresses)
+    }
+
+    fn is_inferred(&self, _number: u32, _cell: Cell) -> bool {
+        false
     }
 
     fn why(&mut self, alloc: Global, fact: Fact) -> Result<Option<Reason>, OutOfMemory> {

@@ -1,7 +1,6 @@
 -- A range with known bits is never wider than the range alone.
-use Rattle.std.proofs.Common.{◌≡◌, ℕ, ◌≤◌, ◌⊎◌, Bool, true, false, Option, Some, None, inl, inr, refl, sym, ap, subst, ◌∙◌}
+use Rattle.std.proofs.Common.{◌≡◌, ℕ, Bool, true, false, Option, Some, None, inl, inr, refl, sym, ap, subst}
 use Rattle.std.specs.Prelude.{◌==◌, ◌||◌, ◌+◌, ◌-◌, ◌^◌, if◌then◌else◌, ℤ}
-use Rattle.std.proofs.lemmas.Bool.{cases_Bool}
 use Rattle.rept_isa.specs.declared.instr.Instr.{Instr}
 use Rattle.rept_isa.specs.declared.instr.Instr.TheVariants.{Branch, Jalr}
 use Rattle.rept_isa.specs.declared.row.StepRow.{StepRow}
@@ -19,8 +18,8 @@ use Rattle.rept_known.specs.declared.bits.Bits.{Bits}
 use Rattle.rept_known.specs.declared.both.Both.{Both}
 use Rattle.rept_known.specs.Operations.{applied_bits, narrowed_bits}
 use Rattle.rept_known.specs.Both.{both_has, reduced, both_sets}
-use Rattle.rept_known.specs.Laws.BothLaws.{both_parts, lowest_has, highest_has, reduced_common, reduced_none}
-use Rattle.rept_known.specs.BothMoves.{both_moves, both_common, first_common, left_both, narrowed_both, or_all, reduced_cases, applied_common, pair_is, second_is, none_pair, some_pair}
+use Rattle.rept_known.specs.Laws.BothLaws.{lowest_has, highest_has, reduced_common, reduced_none}
+use Rattle.rept_known.specs.BothMoves.{both_moves, both_common, first_common, left_both, narrowed_both, reduced_cases, applied_common, pair_is, second_is, none_pair, some_pair}
 
 -- each word of the first is one of the second
 abbrev Inside : Both → Range → Type 0

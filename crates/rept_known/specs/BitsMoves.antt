@@ -3,7 +3,7 @@ use Rattle.std.proofs.Common.{◌≡◌, ◌≢◌, ℕ, ◌-◌, ◌*◌, ◌/�
 use Rattle.std.specs.Prelude.{◌==◌, nat_lt, if◌then◌else◌}
 use Rattle.std.specs.Int.{bit_at, int_shr}
 use Rattle.std.proofs.lemmas.Nat.Bits.{bit_at-zero, bit_at_ones, bit_at_above, same_from_bits_below}
-use Rattle.std.proofs.lemmas.Bool.{cases_eq, cases_lt, cases_Bool, eq-eqb, ne_eqb, eqb-true}
+use Rattle.std.proofs.lemmas.Bool.{cases_eq, cases_lt, eq-eqb, ne_eqb, eqb-true}
 use Rattle.std.specs.Prelude.{bit_and}
 use Rattle.rept_isa.specs.declared.instr.Instr.{Instr}
 use Rattle.rept_isa.specs.declared.instr.Instr.TheVariants.{Lui, Auipc, Jal, Jalr, Branch, Load, Imm, Op}
@@ -18,7 +18,7 @@ use Rattle.rept_isa.specs.declared.class.Turn.{Turn}
 use Rattle.rept_isa.specs.declared.class.Turn.TheVariants.{Taken, NotTaken, Either, NoBranch}
 use Rattle.rept_isa.specs.Numbers.{plus, following, beside}
 use Rattle.rept_isa.specs.Numbers as numbers
-use Rattle.rept_isa.specs.Operands.{written_by, unless_zero, first_read, second_read, way, turn_of, turn_by}
+use Rattle.rept_isa.specs.Operands.{written_by, unless_zero, first_read, second_read, turn_of, turn_by}
 use Rattle.rept_isa.specs.Rows.{Addresses, from_of, addresses_of}
 use Rattle.rept_machine.specs.Arithmetic.{computed, computed_imm, register_form, branch_holds, loaded, signed_word, below_signed}
 use Rattle.rept_machine.specs.State.{State, IsState}

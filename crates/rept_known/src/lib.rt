@@ -4,6 +4,7 @@
 pub mod bits;
 pub mod both;
 mod both_transfer;
+pub mod laws;
 pub mod nearest;
 mod operation;
 mod outside;
@@ -12,4 +13,5 @@ mod transfer;
 
 pub use bits::Bits;
 pub use both::Both;
+pub use laws::bits_are_finer;
 pub use nearest::least_from;

@@ -33,6 +33,7 @@ module _ (old mid new : Shelved) (name : List ℕ) (kind : FileKind) (files : mi
   refuses_before (refusal.Maps f) h = absurd h
   refuses_before (refusal.Path f) h = absurd h
   refuses_before (refusal.Inconsistent k) h = absurd h
+  refuses_before (refusal.Refuted p r) h = absurd h
   refuses_before refusal.InputFault h = absurd h
 
 -- the bytes that a file store gave are those of a file that fits

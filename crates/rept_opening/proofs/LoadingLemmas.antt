@@ -37,6 +37,7 @@ why old new name kind (refusal.Core f) h = absurd h
 why old new name kind (refusal.Maps f) h = absurd h
 why old new name kind (refusal.Path f) h = absurd h
 why old new name kind (refusal.Inconsistent k) h = absurd h
+why old new name kind (refusal.Refuted p r) h = absurd h
 why old new name kind refusal.InputFault h = absurd h
 
 -- what holds where files are told

@@ -1,5 +1,5 @@
 -- From what was prepared and found to the report of a run.
-use Rattle.std.proofs.Common.{◌≡◌, ℕ, ◌≤◌, List, [], length, Option, unwrap_or, refl, sym, ap, subst, ◌∙◌, arith}
+use Rattle.std.proofs.Common.{◌≡◌, ℕ, ◌≤◌, List, [], length, Option, None, unwrap_or, refl, sym, ap, subst, ◌∙◌, arith}
 use Rattle.rept_elf.specs.Header.{half_at}
 use Rattle.rept_dump.specs.Dump.{registers_of}
 use Rattle.rept_dump.specs.declared.dump.Dump.{Dump}
@@ -21,7 +21,6 @@ use Rattle.rept_trip.specs.Executed.{HasNoHistory}
 use Rattle.rept_trip.specs.Trip.{Trip, setting_on}
 use Rattle.rept_found.specs.Crash.{Crash, Means, Scene, crash_of, note_at, path_of, scene_of, setting, route}
 use Rattle.rept_found.specs.Ends.{AreNoted, Ends}
-use Rattle.rept_found.specs.Telling.{Account, told_on}
 use Rattle.rept_found.specs.Truth.{HasNoExecutionOfPath}
 use Rattle.rept_found.specs.View.{CrashView, IsFoundIn, IsPreparedFor, scene_in, state_in, trip_in}
 use Rattle.rept_found.proofs.Alone.{alone_setting}
@@ -32,23 +31,23 @@ use Rattle.rept_session.specs.Shown.{SessionTold}
 use Rattle.rept_opening.specs.Report.{AreEndsOf, IsAsked}
 use Rattle.rept_words.specs.declared.request.Domain.{Domain}
 use Rattle.rept_opening.specs.Domains.{SetsOf, means_of}
-use Rattle.rept_opening.specs.Opened.{CrashRun, crash_run}
+use Rattle.rept_opening.specs.Opened.{CrashRun, IsBeyond, RunAccount, crash_run, told_by}
 use Rattle.rept_opening.specs.TraceRun.{FitsDump}
-use Rattle.rept_opening.specs.True.{IsExcluded}
+use Rattle.rept_opening.specs.True.{HasNoExecutionToCrash}
 use Rattle.rept_opening.proofs.RunLemmas.{IsWhole, some_first}
 
 -- what is told of an analysis that has ended, and of which it is the account
 module _ {W R : Type 0} (m : Means W) (v : CrashView W R) (crash : Crash) (run : Run) (found : IsFoundIn m (route m crash (course_of run)) (scene_of crash) v) where
-  abbrev pub account_of : Account
-  account_of = record { known = answers (state_in m v); log = (state_in m v).known.log; scene = scene_in v; skipped = run.skipped }
+  abbrev pub account_of : RunAccount
+  account_of = record { known = answers (state_in m v); log = (state_in m v).known.log; scene = scene_in v; skipped = run.skipped; beyond = None }
 
   -- what was asked of it was asked over that account
   pub asked_over : {E : Type 0} (Asks : SessionTold → ℕ → PortMove Port → PortMove Port → E → Type 0) (signal : ℕ) (source sink : PortMove Port) (end : E) → signal ≡ half_at (note_at crash 0) 12
-      → Asks (told_on (trip_in m v) account_of) signal source sink end → IsAsked Asks (crash_run m crash run) source sink end
+      → Asks (told_by (trip_in m v) account_of) signal source sink end → IsAsked Asks (crash_run m crash run) source sink end
   asked_over {E} Asks signal source sink end is h = record {
     account = account_of;
-    report = record { report = found.report; log = found.log; scene = found.same_scene; skipped = refl };
-    asked = subst (λ (s : ℕ). Asks (told_on (route m crash (course_of run)) account_of) s source sink end) is (subst (λ (t : Trip W). Asks (told_on t account_of) signal source sink end) found.trip h);
+    report = record { report = found.report; log = found.log; scene = found.same_scene; skipped = refl; beyond = tt };
+    asked = subst (λ (s : ℕ). Asks (told_by (route m crash (course_of run)) account_of) s source sink end) is (subst (λ (t : Trip W). Asks (told_by t account_of) signal source sink end) found.trip h);
   }
 
 -- the signal of a dump is that of its first note
@@ -90,7 +89,7 @@ conflict_there {W} m t scene p kind at has = subst (λ (x : Trip W). ClosureHas 
 
 -- no execution of all threads, nor of the path that the run may be
 pub excluded_run : {W : Type 0} (m : Means W) (crash : Crash) (run : Run) (kind : ConflictKind) → IsWhole crash run → ClosureHas (setting m crash (course_of run)) kind → HasNoHistory (route m crash (course_of run))
-    → ((crash : Crash) (rows : List StepRow) (kind : ConflictKind) → ClosureHas (path_setting (path_of m crash rows)) kind → HasNoExecutionOfPath (path_of m crash rows)) → IsExcluded (crash_run m crash run)
+    → ((crash : Crash) (rows : List StepRow) (kind : ConflictKind) → ClosureHas (path_setting (path_of m crash rows)) kind → HasNoExecutionOfPath (path_of m crash rows)) → HasNoExecutionToCrash (crash_run m crash run)
 excluded_run {W} m crash run kind whole has none excludes = record {
   threads = none;
   alone = λ rows one. excludes crash rows kind (subst (λ (S : Setting W). ClosureHas S kind) (alone_setting m rows crash (course_of run) one whole.noted) has);
@@ -112,6 +111,6 @@ module _ {W R : Type 0} (m : Means W) (dump : Dump) (run : Run) (ends_of : Ends)
   conflict_here kind has = conflict_there m (route m Crashed (course_of run)) (scene_of Crashed) p kind here has
 
   pub excluded_here : (kind : ConflictKind) → ClosureHas (setting_on (trip_in m p)) kind → HasNoHistory (trip_in m p)
-      → ((crash : Crash) (rows : List StepRow) (kind : ConflictKind) → ClosureHas (path_setting (path_of m crash rows)) kind → HasNoExecutionOfPath (path_of m crash rows)) → IsExcluded (crash_run m Crashed run)
+      → ((crash : Crash) (rows : List StepRow) (kind : ConflictKind) → ClosureHas (path_setting (path_of m crash rows)) kind → HasNoExecutionOfPath (path_of m crash rows)) → HasNoExecutionToCrash (crash_run m Crashed run)
   excluded_here kind has none excludes =
       excluded_run m Crashed run kind (whole_fits dump run notes fits are) (conflict_here kind has) (subst (λ (t : Trip W). HasNoHistory t) here.trip none) excludes

@@ -1,7 +1,6 @@
 -- The run of a trace of one stream or of several, by what was read of it.
 use Rattle.std.proofs.Common.{◌≡◌, ◌≢◌, ◌⊎◌, ℕ, ◌<◌, ◌≤◌, Bool, true, false, List, [], ◌∷◌, length, slice_get, Some, Result, Ok, Err, IfOk, IfErr, MatchResult, inl, inr, refl, sym, ap, ◌∙◌, subst, arith}
 use Rattle.std.specs.Prelude.{MatchBool}
-use Rattle.std.proofs.lemmas.List.{length-map}
 use Rattle.rept_dump.specs.Dump.{registers_of, threads_of}
 use Rattle.rept_dump.specs.declared.dump.Dump.{Dump}
 use Rattle.rept_isa.specs.declared.row.StepRow.{StepRow}
@@ -11,13 +10,11 @@ use Rattle.rept_steps.specs.declared.run.Run.{Run}
 use Rattle.rept_path.specs.declared.fault.PathFault.{PathFault}
 use Rattle.rept_path.specs.declared.fault.PathFault.TheVariants as fault
 use Rattle.rept_path.specs.declared.rebuilding.Path.{Path}
-use Rattle.rept_slices.specs.Raw.{note_in, traces}
-use Rattle.rept_threads.proofs.Wholes.{file_sound}
 use Rattle.rept_timeline.specs.Small.{IsSmall}
 use Rattle.rept_trip.proofs.Paths.{is_sound}
 use Rattle.rept_runs.specs.Kind.{is_several}
-use Rattle.rept_runs.specs.Told.{Traced, IsTracedRun, HasNoTracedRun, files_in}
-use Rattle.rept_runs.proofs.Few.{thread_each}
+use Rattle.rept_runs.specs.Told.{Traced, IsTracedRun, HasNoTracedRun}
+use Rattle.rept_runs.proofs.Few.{each_noted, traced_sound}
 use Rattle.rept_found.specs.Crash.{Crash}
 use Rattle.rept_opening.specs.Path.{TraceFile, file_bytes, IsTracePath, HasNoPath}
 use Rattle.rept_opening.specs.Reading.{AreNotesOf}
@@ -154,7 +151,7 @@ some_first (n ∷ ns) note first = omega arith
 
 -- a run of several streams has a thread for each note
 pub traced_threads : (t : Traced) (run : Run) → IsTracedRun t run → length run.threads ≡ length t.notes
-traced_threads t run is = thread_each (traces (files_in t is.0) is.2.0) run is.2.2 ∙ length-map t.notes note_in
+traced_threads t run is = each_noted t run is
 
 module _ (dump : Dump) where
   pub fits_streams : (notes : List (List ℕ)) (t : Traced) (run : Run) → AreNotesOf dump notes → t.notes ≡ notes → IsTracedRun t run → IsSoundCourse (course_of run) → IsSmall (course_of run) → FitsDump dump run
@@ -186,6 +183,6 @@ whole_run crash trace from run noted is = by (is_several trace) is
     by : (b : Bool) → MatchBool b (IsSharedRun crash trace from run) (IsRunAlone crash trace from run) → IsWhole crash run
     by true h =
         let each = traced_threads (traced_in crash trace from) run h in
-        record { sound = file_sound (files_in (traced_in crash trace from) h.0) run h.2; some = omega (arith, each, noted); noted = noted }
+        record { sound = traced_sound (traced_in crash trace from) run h; some = omega (arith, each, noted); noted = noted }
     by false (path, told, same) =
         subst (λ (r : Run). IsWhole crash r) (sym same) (record { sound = is_sound path.steps; some = omega arith; noted = noted })

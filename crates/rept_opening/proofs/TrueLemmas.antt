@@ -11,7 +11,7 @@ use Rattle.rept_report.specs.OneThread.{path_setting}
 use Rattle.rept_report.specs.Setting.{Setting}
 use Rattle.rept_runs.specs.Kind.{is_several}
 use Rattle.rept_trip.specs.Trip.{setting_on}
-use Rattle.rept_found.specs.Crash.{Crash, Means, ending_of, path_of, setting, trip_by}
+use Rattle.rept_found.specs.Crash.{Crash, Means, ending_of, means_beyond, path_of, setting, trip_by}
 use Rattle.rept_found.specs.Histories.{IsTrueTrip}
 use Rattle.rept_found.specs.Truth.{IsTrueReport}
 use Rattle.rept_found.proofs.Alone.{alone_setting, alone_shown}
@@ -38,13 +38,21 @@ true_of {W} m trips paths crash run known whole report = record {
   };
 }
 
--- what is told of the report of any such run is true, in either domain
+-- so it is where more is inferred beyond the report
+still_true : {W : Type 0} (m : Means W) (crash : Crash) (run : Run) (known : Knowledge) → IsTrue (crash_run m crash run) known → IsTrue (crash_run (means_beyond m) crash run) known
+still_true m crash run known t = record {
+  threads = t.threads;
+  alone = λ rows one. let a = t.alone rows one in record { shown = a.shown; holds = a.holds };
+}
+
+-- what is told of the report of any such run is true, in each domain
 abbrev pub ReportsAreTrue : Type 0
 ReportsAreTrue = (d : Domain) (crash : Crash) (run : Run) (known : Knowledge) → IsWhole crash run → IsReport (setting (means_of d) crash (course_of run)) known → IsTrue (crash_run (means_of d) crash run) known
 
 pub true_in_both : TrueOf (means_of domain.Ranges) → TrueOf (means_of domain.KnownBits) → ReportsAreTrue
 true_in_both ranges bits domain.Ranges = ranges
 true_in_both ranges bits domain.KnownBits = bits
+true_in_both ranges bits domain.Inferred = λ crash run known whole report. still_true (means_of domain.KnownBits) crash run known (bits crash run known whole report)
 
 -- what files come to is such a run
 pub opened_whole : (o : Opening) → ReadsNotes o.bytes o.notes → IsRunOf (crash_at o) o.bytes.trace o.bytes.manner.from o.run → IsWhole (crash_at o) o.run

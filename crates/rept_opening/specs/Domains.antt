@@ -7,16 +7,18 @@ use Rattle.rept_known.specs.Both.{both_sets}
 use Rattle.rept_known.specs.BothMoves.{both_moves}
 use Rattle.rept_known.specs.declared.both.Both.{Both}
 use Rattle.rept_amo.specs.Atomic.{atomic_rules}
-use Rattle.rept_found.specs.Crash.{Means, means}
+use Rattle.rept_found.specs.Crash.{Means, means, means_beyond}
 use Rattle.rept_words.specs.declared.request.Domain.{Domain}
 use Rattle.rept_words.specs.declared.request.Domain.TheVariants as domain
 
--- ranges, or ranges with known bits
+-- ranges, or ranges with known bits, beyond whose report more may be inferred
 abbrev pub SetsOf : Domain → Type 0
 SetsOf domain.Ranges = Range
 SetsOf domain.KnownBits = Both
+SetsOf domain.Inferred = Both
 
 -- with what the instructions do to them, and what is inferred from the rows
 abbrev pub means_of : (d : Domain) → Means (SetsOf d)
 means_of domain.Ranges = means range_sets range_moves atomic_rules
 means_of domain.KnownBits = means both_sets both_moves atomic_rules
+means_of domain.Inferred = means_beyond (means both_sets both_moves atomic_rules)

@@ -1,3 +1,4 @@
+pub mod Beyond
 pub mod Delivered
 pub mod Domains
 pub mod Forms

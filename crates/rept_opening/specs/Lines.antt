@@ -42,6 +42,7 @@ status_of (refusal.Core f) = ends.Core
 status_of (refusal.Maps f) = ends.Core
 status_of (refusal.Path f) = status_of_path f
 status_of (refusal.Inconsistent c) = ends.Inconsistent
+status_of (refusal.Refuted p r) = ends.Inconsistent
 status_of refusal.InputFault = ends.InputFault
 status_of refusal.OutOfMemory = ends.OutOfMemory
 status_of refusal.TooMuchInput = ends.TooMuchInput
@@ -141,7 +142,7 @@ abbrev pub contradiction_text : Contradiction → List ℕ
 contradiction_text c = conflict_text c.at.place c.kind ++ thread_named c.threads c.at.thread
 
 abbrev pub words_of : Refusal → List ℕ
-words_of refusal.Usage = codes "usage: rept open|bits EXE CORE TRACE [FROM] | rept self SEED STEPS | rept maps CORE TRACE [FROM]"
+words_of refusal.Usage = codes "usage: rept open|bits|infer EXE CORE TRACE [FROM] | rept self SEED STEPS | rept maps CORE TRACE [FROM]"
 words_of (refusal.LoadFault f) = codes "load-fault " ++ file_word f
 words_of (refusal.NoFile f) = codes "no-file " ++ file_word f
 words_of (refusal.TooLarge f) = codes "too-large " ++ file_word f
@@ -151,6 +152,7 @@ words_of (refusal.Core f) = core_fault_text f
 words_of (refusal.Maps f) = map_fault_text f
 words_of (refusal.Path f) = path_fault_text f
 words_of (refusal.Inconsistent c) = contradiction_text c
+words_of (refusal.Refuted p r) = codes "inconsistent infer " ++ decimal p ++ codes " x" ++ decimal r
 words_of refusal.InputFault = codes "input-fault"
 words_of refusal.OutOfMemory = codes "out-of-memory"
 words_of refusal.TooMuchInput = codes "too-much-input"

@@ -1,20 +1,30 @@
 -- The crash that words and files come to, its run, and the report of that. This project's own.
-use Rattle.std.specs.Prelude.{◌≡◌, ◌⊎◌, ℕ, Bool, List, ◌∷◌, ◌++◌, None, Result, Ok}
+use Rattle.std.specs.Prelude.{◌≡◌, ◌⊎◌, ℕ, Bool, true, List, ◌∷◌, ◌++◌, Option, None, Some, Result, Ok}
 use Rattle.rept_dump.specs.declared.fault.CoreFault.{CoreFault}
 use Rattle.rept_steps.specs.Runs.{course_of}
 use Rattle.rept_steps.specs.declared.run.Run.{Run}
-use Rattle.rept_runs.specs.Kind.{is_several}
+use Rattle.rept_isa.specs.declared.row.StepRow.{StepRow}
+use Rattle.rept_machine.specs.State.{State}
+use Rattle.rept_runs.specs.Kind.{is_several, path_rows}
 use Rattle.rept_ports.specs.Shelves.{Files}
 use Rattle.rept_report.specs.Closure.{IsReport}
 use Rattle.rept_report.specs.Setting.{Setting}
 use Rattle.rept_report.specs.declared.conflict.ConflictKind.{ConflictKind}
 use Rattle.rept_analysis.specs.Logged.{IsLogOf}
-use Rattle.rept_trip.specs.Trip.{Trip}
+use Rattle.rept_reason.specs.declared.fact.Fact.{Fact}
+use Rattle.rept_reason.specs.Facts.{Knowledge}
+use Rattle.rept_report.specs.Why.{IsReason}
+use Rattle.rept_session.specs.Shown.{SessionTold, session_told}
+use Rattle.rept_trip.specs.Trip.{Trip, setting_on}
 use Rattle.rept_found.specs.Contradictions.{contradiction_on}
-use Rattle.rept_found.specs.Crash.{Crash, Means, route, scene_of, setting}
-use Rattle.rept_found.specs.Telling.{Account}
+use Rattle.rept_found.specs.Crash.{Crash, Means, Scene, route, scene_of, setting}
+use Rattle.rept_found.specs.Telling.{shown_on}
+use Rattle.rept_infer.specs.Admitted.{IsAdmitted}
+use Rattle.rept_infer.specs.Holding.{Holding, Holds}
+use Rattle.rept_inferred.specs.Narrowed.{shown_beyond}
 use Rattle.rept_found.specs.declared.contradiction.Contradiction.{Contradiction}
 use Rattle.rept_words.specs.declared.request.Domain.{Domain}
+use Rattle.rept_opening.specs.Beyond.{story_of}
 use Rattle.rept_opening.specs.Domains.{SetsOf, means_of}
 use Rattle.rept_opening.specs.Forms.{program_fault, core_image_fault, crash_in}
 use Rattle.rept_opening.specs.Loading.{CrashBytes, Loading, loading}
@@ -24,7 +34,7 @@ use Rattle.rept_opening.specs.Reading.{NotesSay}
 use Rattle.rept_opening.specs.TraceRun.{IsRunOf}
 use Rattle.rept_opening.specs.declared.load.OpenOptions.{OpenOptions}
 
--- a run, the crash in which it ends, and the sets as which values are followed along it
+-- a run, the crash in which it ends, and the means by which it is analysed
 pub record CrashRun (W : Type 0) : Type 0 where
   pub means : Means W
   pub crash : Crash
@@ -45,14 +55,45 @@ run_setting p = setting p.means p.crash (course_of p.run)
 abbrev pub contradiction_in : {W : Type 0} → CrashRun W → ConflictKind → Contradiction
 contradiction_in p kind = contradiction_on (course_of p.run) kind
 
+-- More is inferred of the run, which is one path, and the holding holds in each admitted execution
+-- of it.
+pub record IsInferredOf {W : Type 0} (p : CrashRun W) (h : Holding) : Type 0 where
+  pub asked : p.means.beyond ≡ true
+  pub rows : List StepRow
+  pub one : path_rows p.run ≡ Some rows
+  pub holds : (states : ℕ → State) → IsAdmitted (story_of p.crash p.run.skipped rows) states → Holds (story_of p.crash p.run.skipped rows) h states
+
+-- what is told beyond the report: nothing, or such a holding
+abbrev pub IsBeyond : {W : Type 0} → CrashRun W → Option Holding → Type 0
+IsBeyond p None = Unit {0}
+IsBeyond p (Some h) = IsInferredOf p h
+
+-- a report, the order in which it was learnt, what a session tells of the crash besides, how many
+-- packets were left out, and what was inferred beyond the report
+pub record RunAccount : Type 0 where
+  pub known : Knowledge
+  pub log : List Fact
+  pub scene : Scene
+  pub skipped : ℕ
+  pub beyond : Option Holding
+
+-- what a session tells of a trip by an account, with reasons by that order
+abbrev pub told_by : {W : Type 0} → Trip W → RunAccount → SessionTold
+told_by t a = session_told (shown_beyond a.beyond (shown_on t a.known a.scene)) a.skipped (IsReason (setting_on t) a.log)
+
+-- and of a run
+abbrev pub told_in : {W : Type 0} → CrashRun W → RunAccount → SessionTold
+told_in p a = told_by (route_of p) a
+
 -- what a session tells by: the report of the run, an order in which it was learnt, the program
--- counters and the processes of the notes, the functions that the program's files name, and the
--- count of packets that were left out
-pub record IsAccountOf {W : Type 0} (p : CrashRun W) (a : Account) : Type 0 where
+-- counters and the processes of the notes, the functions that the program's files name, the count
+-- of packets that were left out, and what was inferred beyond the report
+pub record IsAccountOf {W : Type 0} (p : CrashRun W) (a : RunAccount) : Type 0 where
   pub report : IsReport (run_setting p) a.known
   pub log : IsLogOf (run_setting p) a.known a.log
   pub scene : a.scene ≡ scene_of p.crash
   pub skipped : a.skipped ≡ p.run.skipped
+  pub beyond : IsBeyond p a.beyond
 
 -- the bytes of a trace file, the crash in which the run ends, the number of the packet to begin
 -- from, and the domain of values

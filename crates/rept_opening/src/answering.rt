@@ -1,12 +1,16 @@
 //! From a run and its dump to what is asked of its report.
 
 ghost use Rattle.std.specs.Prelude.{◌≡◌, ℕ, List, IfOk, IfErr};
+ghost use Rattle.std.specs.Option.{option_map};
+ghost use Rattle.rept_elf.specs.Image.{file_of, segments_of};
+ghost use Rattle.rept_dump.specs.Dump.{core_of, exe_of};
 ghost use Rattle.rept_ports.specs.Port.{Port, PortMove, move};
 ghost use Rattle.rept_steps.specs.Runs.{course_of};
 ghost use Rattle.rept_moments.specs.Courses.{IsCourseOf};
 ghost use Rattle.rept_session.specs.Shown.{SessionTold, session_told};
 ghost use Rattle.rept_found.specs.Crash.{crash_of, means};
 ghost use Rattle.rept_amo.specs.Atomic.{atomic_rules};
+ghost use Rattle.rept_opening.specs.Beyond.{executable_of};
 ghost use Rattle.rept_opening.specs.Domains.{means_of};
 ghost use Rattle.rept_opening.specs.Opened.{crash_run};
 ghost use Rattle.rept_opening.specs.Reading.{AreNotesOf};
@@ -14,6 +18,8 @@ ghost use Rattle.rept_opening.specs.Report.{AreEndsOf, HasNoReport, IsAsked};
 ghost use Rattle.rept_opening.specs.TraceRun.{FitsDump};
 
 use crate::analysis::{Basis, analyse, basis_of};
+use crate::beyond::open_beyond;
+use crate::dumping::CrashImages;
 use crate::refusal::Refusal;
 use rept_dump::Dump;
 use rept_known::Both;
@@ -52,17 +58,22 @@ pub trait Asking: Copy {
 }
 
 /// Analyses a run that ends in a dump, with values followed in a domain, and answers what is asked
-/// of its report. The refusals are a conflict of the closure, where no execution ends in the dump,
-/// and want of memory. Nothing was asked then.
+/// of its report, and of what is inferred beyond it where that is the domain and the run is one
+/// path. `images` are the files of the dump. The refusals are a conflict of the closure, where no
+/// execution ends in the dump, one of what is inferred, where no admitted execution does, and want
+/// of memory. Nothing was asked then.
 pub fn open_report<A: Asking, S: Source, K: Sink>(
     alloc: Global,
     domain: Domain,
     run: &Run,
     dump: &Dump<'_>,
+    images: CrashImages<'_>,
     input: &mut S,
     out: &mut K,
 ) -> Result<A, Refusal>
     requires fits { FitsDump dump.now run.now }
+    requires core { segments_of images.core ≡ core_of dump.now }
+    requires exe { option_map file_of images.executable ≡ executable_of (exe_of dump.now) }
     ensures asked { (notes : List (List ℕ)) → AreNotesOf dump.now notes → IfOk result (IsAsked A.asks (crash_run (means_of domain) (crash_of dump.now notes) run.now) (move (S.port input.old) (S.port input.new)) (move (K.port out.old) (K.port out.new))) }
     ensures refused { (notes : List (List ℕ)) → AreNotesOf dump.now notes → IfErr result (HasNoReport (crash_run (means_of domain) (crash_of dump.now notes) run.now)) }
     ensures unread { IfErr result (λ _. (input.new ≡ input.old) × (out.new ≡ out.old)) }
@@ -70,11 +81,12 @@ pub fn open_report<A: Asking, S: Source, K: Sink>(
     match domain {
         Domain::Ranges => open_by::<Range, A, S, K>(alloc, run, dump, input, out),
         Domain::KnownBits => open_by::<Both, A, S, K>(alloc, run, dump, input, out),
+        Domain::Inferred => open_beyond::<A, S, K>(alloc, run, dump, images, input, out),
     }
 }
 
 /// Analyses the run with values followed as sets of `W`, and answers what is asked.
-fn open_by<W: Transfer, A: Asking, S: Source, K: Sink>(
+pub fn open_by<W: Transfer, A: Asking, S: Source, K: Sink>(
     alloc: Global,
     run: &Run,
     dump: &Dump<'_>,

@@ -1,9 +1,11 @@
 //! From the bytes of an executable and a core file to a dump.
 
-ghost use Rattle.std.specs.Prelude.{◌≡◌, length, IfOk, IfErr, MatchBool};
+ghost use Rattle.std.specs.Prelude.{◌≡◌, Some, None, length, IfOk, IfErr, MatchBool};
+ghost use Rattle.std.specs.Option.{option_map};
 ghost use Rattle.rept_elf.specs.Image.{file_of, segments_of};
 ghost use Rattle.rept_dump.specs.Dump.{AreRead, AreReadOfAll, core_of, exe_of};
 ghost use Rattle.rept_dump.specs.Program.Program.{OneFile};
+ghost use Rattle.rept_opening.specs.Forms.{core_image_fault, executable_fault};
 ghost use Rattle.rept_opening.specs.Reading.{HasNotes, HasNoDump, IsDumpOf};
 
 use crate::refusal::Refusal;
@@ -42,4 +44,28 @@ fn join<'a>(exe: Image<'a>, core: Image<'a>, many: bool) -> Result<Dump<'a>, Cor
         return Dump::read_many(exe, core);
     }
     Dump::read(exe, core)
+}
+
+/// The files of a dump as images: the core file, and the executable where the program is one file.
+#[derive(Clone, Copy)]
+pub struct CrashImages<'a> {
+    pub core: Image<'a>,
+    pub executable: Option<Image<'a>>,
+}
+
+/// The images of a dump that was read of an executable and a core file.
+pub fn crash_images<'a>(exe: &'a [u8], core: &'a [u8]) -> CrashImages<'a>
+    requires exe { executable_fault exe.now ≡ None }
+    requires core { core_image_fault core.now ≡ None }
+    ensures core { file_of result.core ≡ core.entry.now }
+    ensures exe { option_map file_of result.executable ≡ Some exe.entry.now }
+{
+    let executable = match Image::read(exe, Want::Exec) {
+        Ok(image) => Some(image),
+        Err(_) => unreachable!(),
+    };
+    match Image::read(core, Want::Core) {
+        Ok(core) => CrashImages { core, executable },
+        Err(_) => unreachable!(),
+    }
 }

@@ -4,11 +4,13 @@
 
 mod analysis;
 mod answering;
+mod beyond;
 mod dumping;
 mod listed;
 mod load;
 mod path;
 mod path_line;
+mod premises;
 mod refusal;
 mod running;
 mod status;
@@ -16,7 +18,7 @@ mod telling;
 mod texts;
 
 pub use answering::{Asking, Circumstances, open_report};
-pub use dumping::read_dump;
+pub use dumping::{CrashImages, crash_images, read_dump};
 pub use listed::{ListStop, ListedFiles, images_in, load_listed};
 pub use load::{CoreFiles, CrashFiles, LoadedRequest, OpenOptions, load_files};
 pub use refusal::{FileKind, Refusal};

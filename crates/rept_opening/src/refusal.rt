@@ -46,6 +46,8 @@ pub enum Refusal {
     /// The trace is refused, or tells no run.
     Path(PathFault),
     Inconsistent(Contradiction),
+    /// By what was inferred beyond the report, no value is left for a register at a point.
+    Refuted { point: u32, reg: Reg },
     InputFault,
     OutOfMemory,
     TooMuchInput,
@@ -64,7 +66,7 @@ impl Refusal {
             Refusal::Executable(_) => ExitStatus::Executable,
             Refusal::CoreImage(_) | Refusal::Core(_) | Refusal::Maps(_) => ExitStatus::Core,
             Refusal::Path(fault) => path_status(fault),
-            Refusal::Inconsistent(_) => ExitStatus::Inconsistent,
+            Refusal::Inconsistent(_) | Refusal::Refuted { .. } => ExitStatus::Inconsistent,
             Refusal::InputFault => ExitStatus::InputFault,
             Refusal::OutOfMemory => ExitStatus::OutOfMemory,
             Refusal::TooMuchInput => ExitStatus::TooMuchInput,
@@ -88,7 +90,7 @@ fn push_words(text: &mut Text, refusal: &Refusal) -> Result<(), OutOfMemory>
 {
     match refusal {
         Refusal::Usage => text.push(
-            b"usage: rept open|bits EXE CORE TRACE [FROM] | rept self SEED STEPS | rept maps CORE TRACE [FROM]",
+            b"usage: rept open|bits|infer EXE CORE TRACE [FROM] | rept self SEED STEPS | rept maps CORE TRACE [FROM]",
         ),
         Refusal::LoadFault(file) => push_file(text, b"load-fault ", *file),
         Refusal::NoFile(file) => push_file(text, b"no-file ", *file),
@@ -99,6 +101,7 @@ fn push_words(text: &mut Text, refusal: &Refusal) -> Result<(), OutOfMemory>
         Refusal::Maps(fault) => push_map_fault(text, fault),
         Refusal::Path(fault) => push_path_fault(text, fault),
         Refusal::Inconsistent(conflict) => push_contradiction(text, conflict),
+        Refusal::Refuted { point, reg } => push_refuted(text, *point, *reg),
         Refusal::InputFault => text.push(b"input-fault"),
         Refusal::OutOfMemory => text.push(b"out-of-memory"),
         Refusal::TooMuchInput => text.push(b"too-much-input"),
@@ -172,6 +175,15 @@ fn push_map_fault(text: &mut Text, fault: &MapFault) -> Result<(), OutOfMemory>
         MapFault::BadMap(offset) => push_numbered(text, b"core 8 ", *offset),
         MapFault::TooManyMaps(count) => push_numbered(text, b"core 9 ", u64::from(*count)),
     }
+}
+
+/// A point and a register for which no value is left.
+fn push_refuted(text: &mut Text, point: u32, reg: Reg) -> Result<(), OutOfMemory>
+    ensures { OnOk result (text.new ≡ text.old ++ (codes "inconsistent infer " ++ decimal point ++ codes " x" ++ decimal reg)) }
+{
+    push_numbered(text, b"inconsistent infer ", u64::from(point))?;
+    push_numbered(text, b" x", u64::from(reg.number()))?;
+    Ok(())
 }
 
 /// A conflict with its place, and in a run of several threads ` of` and the thread.

@@ -24,11 +24,14 @@ use Rattle.rept_slices.specs.Stretches.{RanSlice, ran}
 use Rattle.rept_slices.specs.Joins.{ThreadNote, ThreadGround, JoinGround, JoinedSlice, bridge, with_rows, join, thread, thread_ground, of_thread, rows_in, ran_rows, threads, stand_at}
 use Rattle.rept_slices.specs.Checks.{first_fault}
 use Rattle.rept_slices.specs.Many.{Traces, IsRunOfStreams, processes, left, ground, overlap_fault, unmet, run_by}
-use Rattle.rept_slices.specs.Raw.{note_in, traces}
-use Rattle.rept_dump.specs.Registers.{first_twin, pid_of}
+use Rattle.rept_slices.specs.Raw.{note_in, code_in, traces}
+use Rattle.rept_dump.specs.Registers.{first_twin, pid_of, saved_pc}
 use Rattle.rept_steps.specs.declared.run.Run.{Run}
+use Rattle.rept_steps.specs.Course.{IsSoundCourse}
 use Rattle.rept_steps.specs.Runs.{course_of}
+use Rattle.rept_threads.proofs.Wholes.{file_sound}
 use Rattle.rept_timeline.specs.Small.{IsSmall, rows_in as rows_of_threads}
+use Rattle.rept_runs.proofs.Entering.{entered_count, entered_small, entered_sound}
 use Rattle.rept_runs.specs.Told.{Traced, IsTracedRun, AreNotesApart, files_in}
 
 pub ok_same : {A : Type 0} {x y : A} → ◌≡◌ {A = Result A PathFault} (Ok x) (Ok y) → x ≡ y
@@ -295,19 +298,33 @@ processes_are : (descs : List (List ℕ)) → processes_in (map note_in descs) �
 processes_are [] = refl
 processes_are (desc ∷ descs) = ap (λ (ns : List ℕ). pid_of desc ∷ ns) (processes_are descs)
 
-notes_count : (descs : List (List ℕ)) → length (map note_in descs) ≡ length descs
+pub notes_count : (descs : List (List ℕ)) → length (map note_in descs) ≡ length descs
 notes_count [] = refl
 notes_count (desc ∷ descs) = let rest = notes_count descs in omega arith
 
 -- such a run is small
 pub run_small : (t : Traced) (run : Run) → IsTracedRun t run → AreNotesApart t.notes → IsSmall (course_of run)
 run_small t run is apart =
-    let packets = is.2.0 in
-    let its = is.2.2 in
-    let each = thread_each (traces (files_in t is.0) packets) run its in
+    let told = is.2.0 in
+    let packets = is.2.1.0 in
+    let its = is.2.1.2 in
+    let each = thread_each (traces (files_in t is.0) packets) told its in
     let count = notes_count t.notes in
     let few = apart.few in
-    record {
-      rows = few_rows (traces (files_in t is.0) packets) run its (ap first_twin (processes_are t.notes) ∙ apart.apart);
+    let small : IsSmall (course_of told) = record {
+      rows = few_rows (traces (files_in t is.0) packets) told its (ap first_twin (processes_are t.notes) ∙ apart.apart);
       threads = omega arith;
-    }
+    } in
+    subst (λ (r : Run). IsSmall (course_of r)) (sym is.2.2) (entered_small (code_in (files_in t is.0)) (map saved_pc t.notes) told small)
+
+-- it has a thread for each note
+pub each_noted : (t : Traced) (run : Run) → IsTracedRun t run → length run.threads ≡ length t.notes
+each_noted t run is =
+    ap (λ (r : Run). length r.threads) is.2.2 ∙ entered_count (code_in (files_in t is.0)) (map saved_pc t.notes) is.2.0
+    ∙ thread_each (traces (files_in t is.0) is.2.1.0) is.2.0 is.2.1.2 ∙ notes_count t.notes
+
+-- and it is sound
+pub traced_sound : (t : Traced) (run : Run) → IsTracedRun t run → IsSoundCourse (course_of run)
+traced_sound t run is =
+    let told = entered_sound (code_in (files_in t is.0)) (map saved_pc t.notes) is.2.0 (file_sound (files_in t is.0) is.2.0 is.2.1) in
+    subst (λ (r : Run). IsSoundCourse (course_of r)) (sym is.2.2) told

@@ -1,3 +1,5 @@
+pub mod Entering
+pub mod Adding
 pub mod Few
 pub mod Notes
 pub mod Paths

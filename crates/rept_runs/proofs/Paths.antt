@@ -23,8 +23,11 @@ use Rattle.rept_slices.specs.Order.{head_of}
 use Rattle.rept_slices.specs.Stretches.{RanSlice, ran}
 use Rattle.rept_slices.specs.Joins.{ThreadNote, ThreadGround, JoinGround, JoinedSlice, bridge, with_rows, join, slices, thread, thread_ground, of_thread, rows_in, ran_rows, threads, stand_at}
 use Rattle.rept_slices.specs.Many.{left, ground}
-use Rattle.rept_slices.specs.Raw.{note_in, traces}
+use Rattle.rept_slices.specs.Raw.{note_in, code_in, traces}
 use Rattle.rept_moments.specs.Seen.{rows_in as rows_of_slices, alone_by}
+use Rattle.rept_dump.specs.Registers.{saved_pc}
+use Rattle.rept_runs.specs.Calls.{entered}
+use Rattle.rept_runs.proofs.Entering.{entered_alone}
 use Rattle.rept_runs.specs.Told.{Traced, IsTracedRun, files_in}
 use Rattle.rept_runs.specs.Kind.{path_rows, EndsPath}
 use Rattle.rept_runs.proofs.Few.{walked_threads, threads_count, ok_same, err_ok}
@@ -206,10 +209,15 @@ desc_of (desc ∷ other ∷ descs) rows only = absurd (let n = ap (λ (xs : List
 
 pub path_ends : (t : Traced) (run : Run) (rows : List StepRow) → IsTracedRun t run → path_rows run ≡ Some rows → EndsPath t.notes rows
 path_ends t run rows is one =
-    let alone = alone_of run.threads run.untraced rows one in
-    let w = walked_threads (traces (files_in t is.0) is.2.0) run is.2.2 in
+    let told = is.2.0 in
+    let code = code_in (files_in t is.0) in
+    let pcs = map saved_pc t.notes in
+    let same : entered code pcs told ≡ told = entered_alone code pcs told rows (subst (λ (r : Run). path_rows r ≡ Some rows) is.2.2 one) in
+    let only : path_rows told ≡ Some rows = subst (λ (r : Run). path_rows r ≡ Some rows) (is.2.2 ∙ same) one in
+    let alone = alone_of told.threads told.untraced rows only in
+    let w = walked_threads (traces (files_in t is.0) is.2.1.0) told is.2.1.2 in
     let all : w.0 ≡ alone.thread ∷ [] = w.2 ∙ alone.is in
-    let own = traces (files_in t is.0) is.2.0 in
-    let rs = ran own.code (left own) is.2.2.walked in
+    let own = traces (files_in t is.0) is.2.1.0 in
+    let rs = ran own.code (left own) is.2.1.2.walked in
     let made = subst (λ (xs : List ThreadRows). threads (ground own) (ran_rows rs) (map note_in t.notes) rs ≡ Ok xs) all w.1 in
     desc_of t.notes rows (subst (Only (map note_in t.notes)) alone.own (threads_one (ground own) (ran_rows rs) (map note_in t.notes) rs alone.thread alone.slice made alone.whole))

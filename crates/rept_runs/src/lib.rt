@@ -1,6 +1,7 @@
 //! From a trace of several streams to the run that it tells.
 #![tactic(auto)]
 
+pub mod calls;
 pub mod kind;
 pub mod laws;
 pub mod reading;

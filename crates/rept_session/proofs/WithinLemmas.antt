@@ -8,12 +8,15 @@ use Rattle.rept_session.specs.declared.command.Command.{Command}
 use Rattle.rept_session.specs.declared.command.Command.TheVariants as command
 use Rattle.rept_session.specs.declared.command.BadCommand.{BadCommand}
 use Rattle.rept_session.specs.declared.verb.Verb.{Verb}
-use Rattle.rept_session.specs.declared.verb.Verb.TheVariants.{Lone, One, Two}
+use Rattle.rept_session.specs.declared.question.Question.TheVariants as question
+use Rattle.rept_session.specs.declared.verb.QuestionWord.{QuestionWord}
+use Rattle.rept_session.specs.declared.verb.QuestionWord.TheVariants as asks
+use Rattle.rept_session.specs.declared.verb.Verb.TheVariants.{Lone, One, Two, Ask}
 use Rattle.rept_session.specs.declared.verb.Single.{Single}
 use Rattle.rept_session.specs.declared.verb.Single.TheVariants as single
 use Rattle.rept_session.specs.declared.verb.Double.{Double}
 use Rattle.rept_session.specs.declared.verb.Double.TheVariants as double
-use Rattle.rept_session.specs.Commands.{IsCommandWithin, begins_with_digit, command_of, command_of_first, command_of_words, double_command, double_verb, goto_command, thread_command, is_count, lone_command, single_command, single_verb, verb_of, why_command, with_number, with_register}
+use Rattle.rept_session.specs.Commands.{IsCommandWithin, around_command, asked_command, bare_command, begins_with_digit, command_of, command_of_first, command_of_words, double_command, double_verb, find_command, from_command, goto_command, question_word, reg_command, thread_command, is_count, lone_command, single_command, single_verb, verb_of, why_command, with_number, with_register}
 use Rattle.rept_number.specs.Numbers.{number_of_word}
 use Rattle.rept_session.specs.Registers.{register_of}
 use Rattle.rept_session.specs.Words.{words_in}
@@ -32,6 +35,7 @@ module _ (last threads : ℕ) where
   GoodVerb (Some (Lone c)) = IsCommandWithin last threads c
   GoodVerb (Some (One v)) = Unit {0}
   GoodVerb (Some (Two v)) = Unit {0}
+  GoodVerb (Some (Ask v)) = Unit {0}
 
   abbrev GoodLone : Option Command → Type 0
   GoodLone o = IfSome o (IsCommandWithin last threads)
@@ -42,13 +46,16 @@ module _ (last threads : ℕ) where
       (λ _. either GoodLone (bytes_eq word (codes "regs")) _ _ (λ _. tt)
       (λ _. either GoodLone (bytes_eq word (codes "stack")) _ _ (λ _. tt)
       (λ _. either GoodLone (bytes_eq word (codes "summary")) _ _ (λ _. tt)
-      (λ _. either GoodLone (bytes_eq word (codes "quit")) _ _ (λ _. tt) (λ _. tt)))))
+      (λ _. either GoodLone (bytes_eq word (codes "quit")) _ _ (λ _. tt)
+      (λ _. either GoodLone (bytes_eq word (codes "at")) _ _ (λ _. tt)
+      (λ _. either GoodLone (bytes_eq word (codes "help")) _ _ (λ _. tt) (λ _. tt)))))))
 
-  verb_good : (a : Option Command) (b : Option Single) (c : Option Double) → GoodLone a → GoodVerb (option_or (option_map Lone a) (option_or (option_map One b) (option_map Two c)))
-  verb_good (Some a) b c h = h
-  verb_good None (Some b) c h = tt
-  verb_good None None (Some c) h = tt
-  verb_good None None None h = tt
+  verb_good : (a : Option Command) (b : Option Single) (c : Option Double) (d : Option QuestionWord) → GoodLone a → GoodVerb (option_or (option_map Lone a) (option_or (option_map One b) (option_or (option_map Two c) (option_map Ask d))))
+  verb_good (Some a) b c d h = h
+  verb_good None (Some b) c d h = tt
+  verb_good None None (Some c) d h = tt
+  verb_good None None None (Some d) h = tt
+  verb_good None None None None h = tt
 
   number_good : (f : ℕ → Command) → ((k : ℕ) → IsCommandWithin last threads (f k)) → (o : Option ℕ) → Good (with_number f o)
   number_good f h None = tt
@@ -57,6 +64,45 @@ module _ (last threads : ℕ) where
   register_good : (f : ℕ → Command) → ((k : ℕ) → IsCommandWithin last threads (f k)) → (o : Option ℕ) → Good (with_register f o)
   register_good f h None = tt
   register_good f h (Some k) = h k
+
+  reg_good : (o : Option ℕ) (word : List ℕ) → Good (reg_command o word)
+  reg_good (Some r) word = tt
+  reg_good None word = either Good (bytes_eq word (codes "pc")) _ _ (λ _. tt) (λ _. tt)
+
+  bare_good : (v : Double) → Good (bare_command v)
+  bare_good double.Mem = tt
+  bare_good double.List = tt
+
+  around_good : (o : Option ℕ) → Good (around_command o)
+  around_good None = tt
+  around_good (Some count) = either Good (is_count count) _ _ (λ _. tt) (λ _. tt)
+
+  find_good : (r v : Option ℕ) → Good (find_command r v)
+  find_good None v = tt
+  find_good (Some r) None = tt
+  find_good (Some r) (Some v) = tt
+
+  from_good : (o : Option ℕ) (word : List ℕ) → Good (from_command o word)
+  from_good (Some r) word = tt
+  from_good None word = either Good (begins_with_digit word) _ _ (λ _. number_good (λ a. command.Ask (question.FromByte a)) (λ k. tt) (number_of_word word)) (λ _. tt)
+
+  asked_good : (v : QuestionWord) (words : List (List ℕ)) → Good (asked_command v words)
+  asked_good asks.Around [] = tt
+  asked_good asks.Around (w ∷ []) = around_good (number_of_word w)
+  asked_good asks.Around (w ∷ x ∷ ws) = tt
+  asked_good asks.Visits [] = tt
+  asked_good asks.Visits (w ∷ []) = number_good (λ a. command.Ask (question.Visits a)) (λ k. tt) (number_of_word w)
+  asked_good asks.Visits (w ∷ x ∷ ws) = tt
+  asked_good asks.Find [] = tt
+  asked_good asks.Find (w ∷ []) = tt
+  asked_good asks.Find (w ∷ x ∷ []) = find_good (register_of w) (number_of_word x)
+  asked_good asks.Find (w ∷ x ∷ y ∷ ws) = tt
+  asked_good asks.From [] = tt
+  asked_good asks.From (w ∷ []) = from_good (register_of w) w
+  asked_good asks.From (w ∷ x ∷ ws) = tt
+  asked_good asks.Writers [] = tt
+  asked_good asks.Writers (w ∷ []) = number_good (λ a. command.Ask (question.Writers a)) (λ k. tt) (number_of_word w)
+  asked_good asks.Writers (w ∷ x ∷ ws) = tt
 
   goto_good : (o : Option ℕ) → Good (goto_command last o)
   goto_good None = tt
@@ -75,7 +121,7 @@ module _ (last threads : ℕ) where
   single_good single.Fwd word = number_good command.Fwd (λ k. tt) (number_of_word word)
   single_good single.Goto word = goto_good (number_of_word word)
   single_good single.Thread word = thread_good (number_of_word word)
-  single_good single.Reg word = register_good command.Reg (λ k. tt) (register_of word)
+  single_good single.Reg word = reg_good (register_of word) word
   single_good single.Range word = register_good command.Range (λ k. tt) (register_of word)
   single_good single.Writer word = number_good command.Writer (λ k. tt) (number_of_word word)
   single_good single.Why word = why_good (register_of word) word
@@ -101,14 +147,15 @@ module _ (last threads : ℕ) where
   words_good (Some (One v)) [] h = tt
   words_good (Some (One v)) (w ∷ []) h = single_good v w
   words_good (Some (One v)) (w ∷ x ∷ ws) h = tt
-  words_good (Some (Two v)) [] h = tt
-  words_good (Some (Two v)) (w ∷ []) h = tt
+  words_good (Some (Two v)) [] h = bare_good v
+  words_good (Some (Two v)) (w ∷ []) h = double_good v (number_of_word w) (Some 16)
   words_good (Some (Two v)) (w ∷ x ∷ []) h = double_good v (number_of_word w) (number_of_word x)
   words_good (Some (Two v)) (w ∷ x ∷ y ∷ ws) h = tt
+  words_good (Some (Ask v)) words h = asked_good v words
 
   line_good : (words : List (List ℕ)) → Good (command_of_words last threads words)
   line_good [] = tt
-  line_good (w ∷ ws) = words_good (verb_of w) ws (verb_good (lone_command w) (single_verb w) (double_verb w) (lone w))
+  line_good (w ∷ ws) = words_good (verb_of w) ws (verb_good (lone_command w) (single_verb w) (double_verb w) (question_word w) (lone w))
 
   pub command_within : (line : List ℕ) → Good (command_of last threads line)
   command_within line = either Good (nat_lt 256 (length line)) _ _ (λ _. tt) (λ _. line_good (words_in line))

@@ -8,7 +8,10 @@ use Rattle.rept_session.specs.declared.command.Command.TheVariants as command
 use Rattle.rept_session.specs.declared.command.BadCommand.{BadCommand}
 use Rattle.rept_session.specs.declared.command.BadCommand.TheVariants as bad
 use Rattle.rept_session.specs.declared.verb.Verb.{Verb}
-use Rattle.rept_session.specs.declared.verb.Verb.TheVariants.{Lone, One, Two}
+use Rattle.rept_session.specs.declared.question.Question.TheVariants as question
+use Rattle.rept_session.specs.declared.verb.QuestionWord.{QuestionWord}
+use Rattle.rept_session.specs.declared.verb.QuestionWord.TheVariants as asks
+use Rattle.rept_session.specs.declared.verb.Verb.TheVariants.{Lone, One, Two, Ask}
 use Rattle.rept_session.specs.declared.verb.Single.{Single}
 use Rattle.rept_session.specs.declared.verb.Single.TheVariants as single
 use Rattle.rept_session.specs.declared.verb.Double.{Double}
@@ -25,6 +28,8 @@ lone_command word =
     else if bytes_eq word (codes "stack") then Some command.Stack
     else if bytes_eq word (codes "summary") then Some command.Summary
     else if bytes_eq word (codes "quit") then Some command.Quit
+    else if bytes_eq word (codes "at") then Some (command.Ask question.At)
+    else if bytes_eq word (codes "help") then Some (command.Ask question.Help)
     else None
 
 -- those that take one word
@@ -47,8 +52,18 @@ double_verb word =
     else if bytes_eq word (codes "list") then Some double.List
     else None
 
+-- questions that take words
+abbrev pub question_word : List ℕ → Option QuestionWord
+question_word word =
+    if bytes_eq word (codes "around") then Some asks.Around
+    else if bytes_eq word (codes "visits") then Some asks.Visits
+    else if bytes_eq word (codes "find") then Some asks.Find
+    else if bytes_eq word (codes "from") then Some asks.From
+    else if bytes_eq word (codes "writers") then Some asks.Writers
+    else None
+
 abbrev pub verb_of : List ℕ → Option Verb
-verb_of word = option_or (option_map Lone (lone_command word)) (option_or (option_map One (single_verb word)) (option_map Two (double_verb word)))
+verb_of word = option_or (option_map Lone (lone_command word)) (option_or (option_map One (single_verb word)) (option_or (option_map Two (double_verb word)) (option_map Ask (question_word word))))
 
 -- a command of a number
 abbrev pub with_number : (ℕ → Command) → Option ℕ → Result Command BadCommand
@@ -59,6 +74,11 @@ with_number f (Some n) = Ok (f n)
 abbrev pub with_register : (ℕ → Command) → Option ℕ → Result Command BadCommand
 with_register f None = Err bad.Register
 with_register f (Some r) = Ok (f r)
+
+-- `reg`: a register, or `pc`
+abbrev pub reg_command : Option ℕ → List ℕ → Result Command BadCommand
+reg_command (Some r) word = Ok (command.Reg r)
+reg_command None word = if bytes_eq word (codes "pc") then Ok (command.Ask question.Pc) else Err bad.Register
 
 -- `goto`: a point up to the last one
 abbrev pub goto_command : ℕ → Option ℕ → Result Command BadCommand
@@ -85,7 +105,7 @@ single_command last threads single.Back word = with_number command.Back (number_
 single_command last threads single.Fwd word = with_number command.Fwd (number_of_word word)
 single_command last threads single.Goto word = goto_command last (number_of_word word)
 single_command last threads single.Thread word = thread_command threads (number_of_word word)
-single_command last threads single.Reg word = with_register command.Reg (register_of word)
+single_command last threads single.Reg word = reg_command (register_of word) word
 single_command last threads single.Range word = with_register command.Range (register_of word)
 single_command last threads single.Writer word = with_number command.Writer (number_of_word word)
 single_command last threads single.Why word = why_command (register_of word) word
@@ -101,17 +121,55 @@ double_command last verb (Some first) None = Err bad.Number
 double_command last double.Mem (Some address) (Some count) = if is_count count then Ok (command.Mem address count) else Err bad.Limit
 double_command last double.List (Some first) (Some count) = if nat_le first last && is_count count then Ok (command.List first count) else Err bad.Limit
 
+-- `list` alone is the last steps before the cursor
+abbrev pub bare_command : Double → Result Command BadCommand
+bare_command double.Mem = Err (bad.Words 0)
+bare_command double.List = Ok (command.Ask question.Recent)
+
+-- `around`: a count
+abbrev pub around_command : Option ℕ → Result Command BadCommand
+around_command None = Err bad.Number
+around_command (Some count) = if is_count count then Ok (command.Ask (question.Around count)) else Err bad.Limit
+
+-- `find`: a register and a number
+abbrev pub find_command : Option ℕ → Option ℕ → Result Command BadCommand
+find_command None value = Err bad.Register
+find_command (Some register) None = Err bad.Number
+find_command (Some register) (Some value) = Ok (command.Ask (question.Find register value))
+
+-- `from`: as `why`, a register or else an address
+abbrev pub from_command : Option ℕ → List ℕ → Result Command BadCommand
+from_command (Some r) word = Ok (command.Ask (question.FromRegister r))
+from_command None word = if begins_with_digit word then with_number (λ address. command.Ask (question.FromByte address)) (number_of_word word) else Err bad.Register
+
+-- the question of a first word, and the words that come after it; `around` alone is `around 3`
+abbrev pub asked_command : QuestionWord → List (List ℕ) → Result Command BadCommand
+asked_command asks.Around [] = Ok (command.Ask (question.Around 3))
+asked_command asks.Around (word ∷ []) = around_command (number_of_word word)
+asked_command asks.Around words = Err (bad.Words (length words))
+asked_command asks.Visits (word ∷ []) = with_number (λ address. command.Ask (question.Visits address)) (number_of_word word)
+asked_command asks.Visits words = Err (bad.Words (length words))
+asked_command asks.Find (word ∷ second ∷ []) = find_command (register_of word) (number_of_word second)
+asked_command asks.Find words = Err (bad.Words (length words))
+asked_command asks.From (word ∷ []) = from_command (register_of word) word
+asked_command asks.From words = Err (bad.Words (length words))
+asked_command asks.Writers (word ∷ []) = with_number (λ address. command.Ask (question.Writers address)) (number_of_word word)
+asked_command asks.Writers words = Err (bad.Words (length words))
+
 abbrev pub alone : Command → List (List ℕ) → Result Command BadCommand
 alone c [] = Ok c
 alone c words = Err (bad.Words (length words))
 
--- the command of a first word, and the words that come after it
+-- the command of a first word, and the words that come after it; `mem A` and `list I` are of 16
 abbrev pub command_of_verb : ℕ → ℕ → Verb → List (List ℕ) → Result Command BadCommand
 command_of_verb last threads (Lone c) words = alone c words
 command_of_verb last threads (One verb) (word ∷ []) = single_command last threads verb word
 command_of_verb last threads (One verb) words = Err (bad.Words (length words))
+command_of_verb last threads (Two verb) [] = bare_command verb
+command_of_verb last threads (Two verb) (word ∷ []) = double_command last verb (number_of_word word) (Some 16)
 command_of_verb last threads (Two verb) (word ∷ second ∷ []) = double_command last verb (number_of_word word) (number_of_word second)
 command_of_verb last threads (Two verb) words = Err (bad.Words (length words))
+command_of_verb last threads (Ask asked) words = asked_command asked words
 
 abbrev pub command_of_first : ℕ → ℕ → Option Verb → List (List ℕ) → Result Command BadCommand
 command_of_first last threads None words = Err bad.Unknown

@@ -4,14 +4,14 @@ use Rattle.std.proofs.Common.{refl, sym, subst, subst₂, ◌∙◌, append_asso
 use Rattle.rept_session.specs.Session.{HasAnswered, IsDivided, IsReply, IsSession, Said, cursor_of, ends, said_at}
 use Rattle.rept_session.specs.declared.place.ThreadPoint.{ThreadPoint}
 use Rattle.rept_session.specs.Shown.{SameReasons, SessionTold, Shown, moment_at, number, session_told}
-use Rattle.rept_session.specs.Texts.{IsExplained, IsText, cursor_after}
+use Rattle.rept_session.specs.Texts.{IsExplained, IsReasoned, IsText, cursor_after}
 use Rattle.rept_session.specs.Commands.{command_of, command_of_first, command_of_words, double_command, goto_command, is_count, single_command, thread_command, verb_of}
 use Rattle.rept_session.specs.Words.{words_in}
 use Rattle.rept_number.specs.Numbers.{number_of_word}
 use Rattle.rept_session.specs.declared.command.Command.{Command}
 use Rattle.rept_session.specs.declared.command.BadCommand.TheVariants as bad
 use Rattle.rept_session.specs.declared.verb.Verb.{Verb}
-use Rattle.rept_session.specs.declared.verb.Verb.TheVariants.{Lone, One, Two}
+use Rattle.rept_session.specs.declared.verb.Verb.TheVariants.{Lone, One, Two, Ask}
 use Rattle.rept_session.specs.declared.verb.Single.{Single}
 use Rattle.rept_session.specs.declared.verb.Single.TheVariants as single
 use Rattle.rept_session.specs.declared.verb.Double.{Double}
@@ -72,9 +72,10 @@ module _ (last threads last' threads' : ℕ) where
   first_alike (Some (One verb)) (word ∷ []) = single_alike verb word
   first_alike (Some (One verb)) (word ∷ second ∷ words) = refl
   first_alike (Some (Two verb)) [] = refl
-  first_alike (Some (Two verb)) (word ∷ []) = refl
+  first_alike (Some (Two verb)) (word ∷ []) = double_alike verb (number_of_word word) (Some 16)
   first_alike (Some (Two verb)) (word ∷ second ∷ []) = double_alike verb (number_of_word word) (number_of_word second)
   first_alike (Some (Two verb)) (word ∷ second ∷ third ∷ words) = refl
+  first_alike (Some (Ask asked)) words = refl
 
   words_alike : (words : List (List ℕ)) → ends (command_of_words last threads words) ≡ ends (command_of_words last' threads' words)
   words_alike [] = refl
@@ -122,9 +123,12 @@ otherwise false A B C f h = f h
 
 -- what answers a line by one account of reasons answers it by the same account
 module _ (s : Shown) (skipped : ℕ) (old new : Fact → Because → Type 0) (same : SameReasons old new) where
+  reasoned_same : (fact : Fact) (text : List ℕ) → IsReasoned (session_told s skipped new) fact text → IsReasoned (session_told s skipped old) fact text
+  reasoned_same fact text h = (h.0, ((same fact h.0).1 h.1.0, h.1.1))
+
   explained_same : (point : ℕ) (cell : Cell) (value : Option ℕ) (text : List ℕ) → IsExplained (session_told s skipped new) point cell value text → IsExplained (session_told s skipped old) point cell value text
   explained_same point cell None text h = h
-  explained_same point cell (Some v) text h = (h.0, ((same (record { point = point; cell = cell; value = v }) h.0).1 h.1.0, h.1.1))
+  explained_same point cell (Some v) text h = otherwise (s.is_inferred point cell) _ _ _ (reasoned_same (record { point = point; cell = cell; value = v }) text) h
 
   text_same : (at : ThreadPoint) (c : Command) (text : List ℕ) → IsText (session_told s skipped new) at c text → IsText (session_told s skipped old) at c text
   text_same at (command.WhyReg r) text h = otherwise (r == 0) _ _ _ (explained_same (number s at) (Register r) (s.register (number s at) r) text) h
@@ -144,6 +148,7 @@ module _ (s : Shown) (skipped : ℕ) (old new : Fact → Because → Type 0) (sa
   text_same at command.Summary text h = h
   text_same at command.Quit text h = h
   text_same at command.Nothing text h = h
+  text_same at (command.Ask question) text h = h
 
   pub reply_same : (cursor : ThreadPoint) (said : Said) (text : List ℕ) → IsReply (session_told s skipped new) cursor said text → IsReply (session_told s skipped old) cursor said text
   reply_same cursor (Ok c) text h = text_same (cursor_after s cursor c) c text h

@@ -1,6 +1,6 @@
 -- What a session tells of an analysis of a run of threads. Registers go by their numbers. This
 -- project's own.
-use Rattle.std.specs.Prelude.{ℕ, ◌↔◌, ◌+◌, ◌<◌, ◌≤◌, List, length, Option}
+use Rattle.std.specs.Prelude.{ℕ, Bool, ◌↔◌, ◌+◌, ◌<◌, ◌≤◌, List, length, Option}
 use Rattle.rept_elf.specs.Symbols.{FunctionSymbol}
 use Rattle.rept_isa.specs.declared.row.StepRow.{StepRow}
 use Rattle.rept_partial.specs.declared.range.Range.{Range}
@@ -42,6 +42,11 @@ pub record Shown : Type 0 where
   -- the point that it leads from
   pub byte : ℕ → ℕ → Option ℕ
   pub writer : ℕ → ℕ → Writer
+  -- of a register at a point and of a byte at a moment, whether its value isn't one of the report,
+  -- and was inferred beyond it
+  pub is_inferred : ℕ → Cell → Bool
+  -- the byte of code at an address, where the program has code, which is assumed not to change
+  pub code : ℕ → Option ℕ
   pub counts : Counts
   -- the function that has an address, where the files of the program name one
   pub symbol : ℕ → Option FunctionSymbol

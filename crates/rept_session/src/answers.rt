@@ -12,6 +12,7 @@ use crate::lines::{memory_text, register_texts, step_texts};
 use crate::parser::parse;
 use crate::pieces::{push_note, push_numbered, push_range, push_value, push_writer};
 use crate::place::ThreadPoint;
+use crate::questions::question_text;
 use crate::reasons::{why_byte, why_register};
 use crate::reply::Answer;
 use crate::stack::stack_text;
@@ -199,6 +200,7 @@ fn text_of<F: Findings>(
         Command::Stack => stack_text(alloc, findings, at),
         Command::Summary => summary_text(alloc, findings, skipped),
         Command::Quit | Command::Nothing => Ok(Text::new(alloc)),
+        Command::Ask(question) => question_text(alloc, findings, at, *question),
     }
 }
 
@@ -283,7 +285,8 @@ fn range_text<F: Findings>(
     Ok(text)
 }
 
-fn writer_text<F: Findings>(
+/// The line of the last writer of a byte.
+pub fn writer_text<F: Findings>(
     alloc: Global,
     findings: &F,
     moment: u32,

@@ -3,6 +3,7 @@
 ghost use Rattle.std.specs.Prelude.{◌≡◌};
 ghost use Rattle.rept_session.specs.Commands.{number_of_refusal};
 
+use crate::question::Question;
 use rept_isa::Reg;
 use thiserror::Error;
 
@@ -57,6 +58,8 @@ pub enum Command {
     Quit,
     /// A line without words.
     Nothing,
+    /// One of the questions that leave the cursor where it is.
+    Ask(Question),
 }
 
 /// Why a line is no command. The first check that fails is told, in this order: the line's length,

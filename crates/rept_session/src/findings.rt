@@ -1,6 +1,6 @@
 //! What a session asks of an analysis.
 
-ghost use Rattle.std.specs.Prelude.{◌≡◌, ◌≢◌, ℕ, ◌<◌, ◌≤◌, ◌+◌, length, map, Some, IfOk, IfNone, IfSome};
+ghost use Rattle.std.specs.Prelude.{◌≡◌, ◌≢◌, ℕ, ◌<◌, ◌≤◌, ◌+◌, length, map, Some, false, IfOk, IfNone, IfSome};
 ghost use Rattle.std.specs.Option.{option_map};
 ghost use Rattle.rept_elf.specs.Symbols.{symbol_of};
 ghost use Rattle.rept_session.specs.LastWriters.{AreLastWriters};
@@ -14,7 +14,7 @@ use crate::place::{ThreadPlace, ThreadPoint};
 use rept_elf::Symbol;
 use rept_isa::{Reg, StepRow};
 use rept_partial::Range;
-use rept_reason::{Fact, Reason};
+use rept_reason::{Cell, Fact, Reason};
 use rept_report::{Counts, Writer};
 use rept_word::OutOfMemory;
 use std::alloc::Global;
@@ -96,6 +96,11 @@ pub trait Findings {
         requires { moment < (shown self.now).moments }
         ensures { result ≡ (shown self.now).byte moment address };
 
+    /// The byte of code at an address, where the program has code there. That it stands there at
+    /// each moment is an assumption: code doesn't change.
+    fn code(&self, address: u32) -> Option<u8>
+        ensures { result ≡ (shown self.now).code address };
+
     /// What is known of the step that last wrote the byte at an address before a moment. A step has
     /// the number of the point that it leads from. A step that is named at a point of a thread came
     /// before it, and is named at each point of the thread since it came.
@@ -118,11 +123,18 @@ pub trait Findings {
     ) -> Result<Vec<Option<Symbol<'_>>>, OutOfMemory>
         ensures { IfOk result (λ found. map (option_map symbol_of) found.items ≡ map (shown self.now).symbol addresses.now) };
 
-    /// A reason of a fact, which isn't one of x0: its value needs no reason. None only where the
-    /// fact isn't known. A refusal is for running out of memory alone.
+    /// Whether the value of a register at a point, or of a byte at a moment, isn't one of the
+    /// report, and was inferred beyond it: then it has no reason.
+    fn is_inferred(&self, number: u32, cell: Cell) -> bool
+        requires { number < places_of (shown self.now) cell }
+        ensures { result ≡ (shown self.now).is_inferred number cell };
+
+    /// A reason of a fact of the report, which isn't one of x0: its value needs no reason. None
+    /// only where the fact isn't known. A refusal is for running out of memory alone.
     fn why(&mut self, alloc: Global, fact: Fact) -> Result<Option<Reason>, OutOfMemory>
         requires point { fact.point < places_of (shown self.old) fact.cell }
         requires named { fact.cell ≢ Register 0 }
+        requires reported { (shown self.old).is_inferred fact.point fact.cell ≡ false }
         ensures none { IfOk result (λ found. IfNone found (known_value (shown self.old) fact.point fact.cell ≢ Some fact.value)) }
         ensures reason { IfOk result (λ found. IfSome found (λ reason. reasons self.old fact (explained reason))) }
         ensures same { shown self.new ≡ shown self.old }
@@ -148,6 +160,17 @@ pub fn number_of<F: Findings>(findings: &F, at: ThreadPoint) -> u32
 {
     let _few = findings.points();
     findings.first(at.thread) + at.point
+}
+
+/// The number of the point after a step of a thread.
+pub fn number_after<F: Findings>(findings: &F, at: ThreadPoint) -> u32
+    requires thread { at.thread < (F.shown findings.now).threads }
+    requires step { at.point < length ((F.shown findings.now).rows at.thread) }
+    ensures value { result ≡ number (F.shown findings.now) at + 1 }
+    ensures within { result < (F.shown findings.now).points }
+{
+    let _few = findings.points();
+    findings.first(at.thread) + at.point + 1
 }
 
 /// The number of the moment at a point of a thread.

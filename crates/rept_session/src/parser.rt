@@ -1,25 +1,33 @@
 //! Reading a line as a command.
 
 ghost use Rattle.std.specs.Prelude.{◌≡◌, ℕ, IfOk, MatchResult, None, Some};
-ghost use Rattle.rept_session.specs.Commands.{IsCommandWithin, alone, command_of, begins_with_digit, command_of_verb, double_command, goto_command, single_command, thread_command, why_command};
+ghost use Rattle.rept_session.specs.Commands.{IsCommandWithin, alone, around_command, asked_command, bare_command, command_of, begins_with_digit, command_of_verb, double_command, find_command, from_command, goto_command, reg_command, single_command, thread_command, why_command};
 ghost use Rattle.rept_number.specs.Numbers.{number_of_word};
 ghost use Rattle.rept_session.specs.Registers.{register_of};
 ghost use Rattle.rept_session.specs.Words.{words_in};
 ghost use Rattle.rept_session.specs.declared.command.BadCommand.TheVariants as bad;
+ghost use Rattle.rept_session.specs.declared.verb.QuestionWord.TheVariants as asks;
 ghost use Rattle.rept_session.specs.declared.verb.Verb.TheVariants.{One, Two};
 
 use crate::command::{BadCommand, Command};
 use crate::names::register_named;
-use crate::verb::{Double, Single, Verb, verb_named};
+use crate::question::Question;
+use crate::verb::{Double, QuestionWord, Single, Verb, verb_named};
 use crate::words::{count_words, first_word};
 use rept_isa::Reg;
-use rept_number::number_in;
+use rept_number::{is_word, number_in};
 
 /// The most bytes of a line that is a command.
 const MOST_BYTES: usize = 256;
 
 /// The most bytes or steps that one command tells.
 const MOST_TOLD: u32 = 256;
+
+/// How many bytes or steps one tells that names no count.
+const SHORT_COUNT: u32 = 16;
+
+/// How many steps to each side `around` tells that names no count.
+const AROUND_COUNT: u32 = 3;
 
 /// The command that a line is, over a thread whose last point is `last` in a run of so many
 /// threads, or the first check that fails. It takes no memory.
@@ -55,6 +63,7 @@ fn read_words(last: u32, threads: u32, found: Verb, rest: &[u8]) -> Result<Comma
         Verb::Lone(command) => read_lone(command, rest),
         Verb::One(single) => read_one(last, threads, single, rest),
         Verb::Two(double) => read_two(last, double, rest),
+        Verb::Ask(asked) => read_asked(asked, rest),
     }
 }
 
@@ -84,10 +93,10 @@ fn read_two(last: u32, double: Double, rest: &[u8]) -> Result<Command, BadComman
     ensures { (threads : ℕ) → result ≡ command_of_verb last threads (Two double) (words_in rest.now) }
 {
     let Some((word, more)) = first_word(rest) else {
-        return Err(BadCommand::Words(0));
+        return read_bare(double);
     };
     let Some((second, others)) = first_word(more) else {
-        return Err(BadCommand::Words(1));
+        return read_short(last, double, word);
     };
     if first_word(others).is_some() {
         return Err(BadCommand::Words(count_words(rest)));
@@ -104,10 +113,24 @@ fn read_single(last: u32, threads: u32, single: Single, word: &[u8]) -> Result<C
         Single::Fwd => Ok(Command::Fwd(read_number(word)?)),
         Single::Goto => read_goto(last, word),
         Single::Thread => read_thread(threads, word),
-        Single::Reg => Ok(Command::Reg(read_register(word)?)),
+        Single::Reg => read_reg(word),
         Single::Range => Ok(Command::Range(read_register(word)?)),
         Single::Writer => Ok(Command::Writer(read_number(word)?)),
         Single::Why => read_why(word),
+    }
+}
+
+/// A register, or `pc`.
+fn read_reg(word: &[u8]) -> Result<Command, BadCommand>
+    ensures { result ≡ reg_command (register_of word.now) word.now }
+{
+    if let Some(found) = register_named(word) {
+        return Ok(Command::Reg(found));
+    }
+    if is_word(word, b"pc") {
+        Ok(Command::Ask(Question::Pc))
+    } else {
+        Err(BadCommand::Register)
     }
 }
 
@@ -159,6 +182,31 @@ fn read_double(last: u32, double: Double, word: &[u8], second: &[u8]) -> Result<
 {
     let first = read_number(word)?;
     let count = read_number(second)?;
+    double_command(last, double, first, count)
+}
+
+/// `mem` or `list` of one number: 16 bytes or steps.
+fn read_short(last: u32, double: Double, word: &[u8]) -> Result<Command, BadCommand>
+    ensures { result ≡ double_command last double (number_of_word word.now) (Some 16) }
+{
+    let first = read_number(word)?;
+    double_command(last, double, first, SHORT_COUNT)
+}
+
+/// `mem` or `list` without a number.
+fn read_bare(double: Double) -> Result<Command, BadCommand>
+    ensures { result ≡ bare_command double }
+{
+    match double {
+        Double::Mem => Err(BadCommand::Words(0)),
+        Double::List => Ok(Command::Ask(Question::Recent)),
+    }
+}
+
+/// A command of two numbers.
+fn double_command(last: u32, double: Double, first: u32, count: u32) -> Result<Command, BadCommand>
+    ensures { result ≡ double_command last double (Some first) (Some count) }
+{
     if count == 0 || count > MOST_TOLD {
         return Err(BadCommand::Limit);
     }
@@ -174,6 +222,118 @@ fn read_double(last: u32, double: Double, word: &[u8], second: &[u8]) -> Result<
             Ok(Command::List { first, count })
         }
     }
+}
+
+/// The question of a first word, with the words that come after it.
+fn read_asked(asked: QuestionWord, rest: &[u8]) -> Result<Command, BadCommand>
+    ensures { result ≡ asked_command asked (words_in rest.now) }
+{
+    match asked {
+        QuestionWord::Around => read_around(rest),
+        QuestionWord::Visits => read_visits(rest),
+        QuestionWord::Find => read_find(rest),
+        QuestionWord::From => read_from(rest),
+        QuestionWord::Writers => read_writers(rest),
+    }
+}
+
+/// `around`, and a count where there is one.
+fn read_around(rest: &[u8]) -> Result<Command, BadCommand>
+    ensures { result ≡ asked_command asks.Around (words_in rest.now) }
+{
+    let Some((word, more)) = first_word(rest) else {
+        return Ok(Command::Ask(Question::Around(AROUND_COUNT)));
+    };
+    if first_word(more).is_some() {
+        return Err(BadCommand::Words(count_words(rest)));
+    }
+    around_command(word)
+}
+
+fn around_command(word: &[u8]) -> Result<Command, BadCommand>
+    ensures { result ≡ around_command (number_of_word word.now) }
+{
+    let count = read_number(word)?;
+    if count == 0 || count > MOST_TOLD {
+        return Err(BadCommand::Limit);
+    }
+    Ok(Command::Ask(Question::Around(count)))
+}
+
+/// `visits`, and an address.
+fn read_visits(rest: &[u8]) -> Result<Command, BadCommand>
+    ensures { result ≡ asked_command asks.Visits (words_in rest.now) }
+{
+    let Some((word, more)) = first_word(rest) else {
+        return Err(BadCommand::Words(0));
+    };
+    if first_word(more).is_some() {
+        return Err(BadCommand::Words(count_words(rest)));
+    }
+    Ok(Command::Ask(Question::Visits(read_number(word)?)))
+}
+
+/// `writers`, and an address.
+fn read_writers(rest: &[u8]) -> Result<Command, BadCommand>
+    ensures { result ≡ asked_command asks.Writers (words_in rest.now) }
+{
+    let Some((word, more)) = first_word(rest) else {
+        return Err(BadCommand::Words(0));
+    };
+    if first_word(more).is_some() {
+        return Err(BadCommand::Words(count_words(rest)));
+    }
+    Ok(Command::Ask(Question::Writers(read_number(word)?)))
+}
+
+/// `find`, a register and a number.
+fn read_find(rest: &[u8]) -> Result<Command, BadCommand>
+    ensures { result ≡ asked_command asks.Find (words_in rest.now) }
+{
+    let Some((word, more)) = first_word(rest) else {
+        return Err(BadCommand::Words(0));
+    };
+    let Some((second, others)) = first_word(more) else {
+        return Err(BadCommand::Words(1));
+    };
+    if first_word(others).is_some() {
+        return Err(BadCommand::Words(count_words(rest)));
+    }
+    find_command(word, second)
+}
+
+/// `from`, and a register or an address.
+fn read_from(rest: &[u8]) -> Result<Command, BadCommand>
+    ensures { result ≡ asked_command asks.From (words_in rest.now) }
+{
+    let Some((word, more)) = first_word(rest) else {
+        return Err(BadCommand::Words(0));
+    };
+    if first_word(more).is_some() {
+        return Err(BadCommand::Words(count_words(rest)));
+    }
+    from_command(word)
+}
+
+/// A word that names a register is one; any other is a number where it begins with a digit.
+fn from_command(word: &[u8]) -> Result<Command, BadCommand>
+    ensures { result ≡ from_command (register_of word.now) word.now }
+{
+    if let Some(found) = register_named(word) {
+        return Ok(Command::Ask(Question::FromRegister(found)));
+    }
+    if !begins_with_digit(word) {
+        return Err(BadCommand::Register);
+    }
+    Ok(Command::Ask(Question::FromByte(read_number(word)?)))
+}
+
+fn find_command(word: &[u8], second: &[u8]) -> Result<Command, BadCommand>
+    ensures { result ≡ find_command (register_of word.now) (number_of_word second.now) }
+{
+    let register = read_register(word)?;
+    let value = read_number(second)?;
+    Ok(Command::Ask(Question::Find { register, value }))
 }
 
 fn read_number(word: &[u8]) -> Result<u32, BadCommand>

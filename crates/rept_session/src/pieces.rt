@@ -2,7 +2,7 @@
 
 ghost use Rattle.std.specs.Prelude.{◌≡◌, ◌++◌, OnOk, Some, codes};
 ghost use Rattle.std.specs.Fmt.{decimal};
-ghost use Rattle.rept_isa.specs.Texts.{register_text};
+ghost use Rattle.rept_isa.specs.Texts.{instruction_text, register_text};
 ghost use Rattle.rept_session.specs.Texts.{byte_text, cell_text, looked_line, note_text, of_thread, place_of, place_text, premise_line, range_text, step_line, step_text, value_line, value_text, writer_text, thread_named};
 ghost use Rattle.rept_word.specs.Hex.{hex_byte, hex_word};
 
@@ -25,7 +25,7 @@ pub fn push_numbered(text: &mut Text, words: &[u8], number: u32) -> Result<(), O
 }
 
 /// The name of a register.
-fn push_name(text: &mut Text, register: Reg) -> Result<(), OutOfMemory>
+pub fn push_name(text: &mut Text, register: Reg) -> Result<(), OutOfMemory>
     ensures { OnOk result (text.new ≡ text.old ++ register_text register) }
 {
     push_numbered(text, b"x", u32::from(register.number()))
@@ -42,7 +42,17 @@ pub fn push_value(text: &mut Text, register: Reg, value: Option<u32>) -> Result<
     Ok(())
 }
 
-fn push_known(text: &mut Text, value: Option<u32>) -> Result<(), OutOfMemory>
+/// A register and its value.
+pub fn push_register(text: &mut Text, register: Reg, value: Option<u32>) -> Result<(), OutOfMemory>
+    ensures { OnOk result (text.new ≡ text.old ++ (register_text register ++ codes " " ++ value_text value)) }
+{
+    push_name(text, register)?;
+    text.push(b" ")?;
+    push_known(text, value)
+}
+
+/// A value as HEX, or `unknown`.
+pub fn push_known(text: &mut Text, value: Option<u32>) -> Result<(), OutOfMemory>
     ensures { OnOk result (text.new ≡ text.old ++ value_text value) }
 {
     match value {
@@ -163,6 +173,18 @@ pub fn push_step(
     text.push(instruction.as_bytes())?;
     text.push(b"\n")?;
     Ok(())
+}
+
+/// The text of an instruction.
+pub fn push_instruction(alloc: Global, text: &mut Text, row: &StepRow) -> Result<(), OutOfMemory>
+    ensures { OnOk result (text.new ≡ text.old ++ instruction_text row.now.at row.now.instr) }
+{
+    let shown = Shown {
+        at: row.at,
+        instr: row.instr,
+    };
+    let instruction = format!(in alloc; "{shown}")?;
+    text.push(instruction.as_bytes())
 }
 
 /// The line of a fact that a rule rests on.

@@ -1,10 +1,10 @@
 //! Answers that tell why something is known.
 
-ghost use Rattle.std.specs.Prelude.{◌≡◌, ◌≢◌, ℕ, ◌<◌, ◌++◌, IfOk, OnOk, Some};
+ghost use Rattle.std.specs.Prelude.{◌≡◌, ◌≢◌, ℕ, ◌<◌, ◌++◌, false, IfOk, OnOk, Some};
 ghost use Rattle.std.specs.List.{flat_map};
 ghost use Rattle.rept_reason.specs.declared.fact.Cell.TheVariants.{Byte, Register};
 ghost use Rattle.rept_session.specs.Shown.{SameReasons, explained, known_value, places_of, session_told};
-ghost use Rattle.rept_session.specs.Texts.{IsExplained, IsRegisterExplained, looked_line, premise_line, reason_lines};
+ghost use Rattle.rept_session.specs.Texts.{IsExplained, IsReasoned, IsRegisterExplained, looked_line, premise_line, reason_lines};
 
 use crate::findings::Findings;
 use crate::pieces::{push_looked, push_numbered, push_premise};
@@ -83,7 +83,7 @@ fn whole_text(alloc: Global, words: &[u8]) -> Result<Text, OutOfMemory>
     Ok(text)
 }
 
-/// A reason of a known fact, at the point or moment of a number.
+/// Why a known fact holds, at the point or moment of a number.
 fn explain<F: Findings>(
     alloc: Global,
     findings: &mut F,
@@ -103,6 +103,42 @@ fn explain<F: Findings>(
         cell,
         value,
     };
+    explain_fact(alloc, findings, fact)
+}
+
+/// Why a known fact holds: it was inferred, or has a reason.
+fn explain_fact<F: Findings>(
+    alloc: Global,
+    findings: &mut F,
+    fact: Fact,
+) -> Result<Text, OutOfMemory>
+    requires place { fact.point < places_of (F.shown findings.old) fact.cell }
+    requires named { fact.cell ≢ Register 0 }
+    requires known { known_value (F.shown findings.old) fact.point fact.cell ≡ Some fact.value }
+    ensures text { (skipped : ℕ) → IfOk result (IsExplained (session_told (F.shown findings.old) skipped (F.reasons findings.old)) fact.point fact.cell (Some fact.value)) }
+    ensures same { F.shown findings.new ≡ F.shown findings.old }
+    ensures same_reasons { SameReasons (F.reasons findings.old) (F.reasons findings.new) }
+{
+    if findings.is_inferred(fact.point, fact.cell) {
+        return whole_text(alloc, b"inferred\n");
+    }
+    explain_reported(alloc, findings, fact)
+}
+
+/// A reason of a known fact of the report.
+fn explain_reported<F: Findings>(
+    alloc: Global,
+    findings: &mut F,
+    fact: Fact,
+) -> Result<Text, OutOfMemory>
+    requires place { fact.point < places_of (F.shown findings.old) fact.cell }
+    requires named { fact.cell ≢ Register 0 }
+    requires known { known_value (F.shown findings.old) fact.point fact.cell ≡ Some fact.value }
+    requires reported { (F.shown findings.old).is_inferred fact.point fact.cell ≡ false }
+    ensures text { (skipped : ℕ) → IfOk result (IsReasoned (session_told (F.shown findings.old) skipped (F.reasons findings.old)) fact) }
+    ensures same { F.shown findings.new ≡ F.shown findings.old }
+    ensures same_reasons { SameReasons (F.reasons findings.old) (F.reasons findings.new) }
+{
     match findings.why(alloc, fact)? {
         Some(reason) => reason_text(alloc, findings, &reason),
         None => unreachable!(),

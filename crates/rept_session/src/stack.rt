@@ -112,6 +112,21 @@ fn push_place(
     Ok(())
 }
 
+/// The function that has an address, where one is named, and how far the address is from its first
+/// one.
+pub fn push_function_at<F: Findings>(
+    alloc: Global,
+    text: &mut Text,
+    findings: &F,
+    address: u32,
+) -> Result<(), OutOfMemory>
+    ensures { OnOk result (text.new ≡ text.old ++ function_text address ((F.shown findings.now).symbol address)) }
+{
+    let functions = findings.symbols(alloc, &[address])?;
+    let function = function_at(functions.as_slice(), 0);
+    push_function(alloc, text, address, function)
+}
+
 /// The function of an address, where one is named.
 fn push_function(
     alloc: Global,

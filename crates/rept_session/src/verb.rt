@@ -1,9 +1,10 @@
 //! The words by which commands begin.
 
 ghost use Rattle.std.specs.Prelude.{◌≡◌};
-ghost use Rattle.rept_session.specs.Commands.{lone_command, single_verb, double_verb, verb_of};
+ghost use Rattle.rept_session.specs.Commands.{lone_command, single_verb, double_verb, question_word, verb_of};
 
 use crate::command::Command;
+use crate::question::Question;
 use rept_number::is_word;
 
 /// What a first word asks for: a command, or one that still wants its words.
@@ -13,8 +14,10 @@ pub enum Verb {
     Lone(Command),
     /// A command that takes one word.
     One(Single),
-    /// A command that takes two words.
+    /// A command that takes two words, of which the last ones may be left out.
     Two(Double),
+    /// A question.
+    Ask(QuestionWord),
 }
 
 /// The commands that take one word.
@@ -37,6 +40,16 @@ pub enum Double {
     List,
 }
 
+/// The questions that take words.
+#[derive(Clone, Copy)]
+pub enum QuestionWord {
+    Around,
+    Visits,
+    Find,
+    From,
+    Writers,
+}
+
 /// What a line begins that has this first word. None exactly where the word names no command.
 pub fn verb_named(word: &[u8]) -> Option<Verb>
     ensures { result ≡ verb_of word.now }
@@ -47,8 +60,11 @@ pub fn verb_named(word: &[u8]) -> Option<Verb>
     if let Some(single) = single_verb(word) {
         return Some(Verb::One(single));
     }
-    match double_verb(word) {
-        Some(double) => Some(Verb::Two(double)),
+    if let Some(double) = double_verb(word) {
+        return Some(Verb::Two(double));
+    }
+    match question_word(word) {
+        Some(asked) => Some(Verb::Ask(asked)),
         None => None,
     }
 }
@@ -66,6 +82,10 @@ fn lone_command(word: &[u8]) -> Option<Command>
         Some(Command::Summary)
     } else if is_word(word, b"quit") {
         Some(Command::Quit)
+    } else if is_word(word, b"at") {
+        Some(Command::Ask(Question::At))
+    } else if is_word(word, b"help") {
+        Some(Command::Ask(Question::Help))
     } else {
         None
     }
@@ -102,6 +122,24 @@ fn double_verb(word: &[u8]) -> Option<Double>
         Some(Double::Mem)
     } else if is_word(word, b"list") {
         Some(Double::List)
+    } else {
+        None
+    }
+}
+
+fn question_word(word: &[u8]) -> Option<QuestionWord>
+    ensures { result ≡ question_word word.now }
+{
+    if is_word(word, b"around") {
+        Some(QuestionWord::Around)
+    } else if is_word(word, b"visits") {
+        Some(QuestionWord::Visits)
+    } else if is_word(word, b"find") {
+        Some(QuestionWord::Find)
+    } else if is_word(word, b"from") {
+        Some(QuestionWord::From)
+    } else if is_word(word, b"writers") {
+        Some(QuestionWord::Writers)
     } else {
         None
     }

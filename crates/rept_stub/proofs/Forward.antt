@@ -26,11 +26,11 @@ true_false : {P : Type 0} → true ≡ false → P
 true_false e = cc
 
 -- a row that is named, by the test and by the equation
-row_is : (o : Option ℕ) (row : ℕ) → is_row o row ≡ true → o ≡ Some row
+pub row_is : (o : Option ℕ) (row : ℕ) → is_row o row ≡ true → o ≡ Some row
 row_is None row e = true_false (sym e)
 row_is (Some named) row e = ap Some (eqb-true named row e)
 
-is_row_of : (o : Option ℕ) (row : ℕ) → o ≡ Some row → is_row o row ≡ true
+pub is_row_of : (o : Option ℕ) (row : ℕ) → o ≡ Some row → is_row o row ≡ true
 is_row_of o row e = ap (λ o. is_row o row) e ∙ eq-eqb row row refl
 
 -- one that is named isn't open

@@ -1,5 +1,6 @@
 pub mod Bytes
 mod Forward
 pub mod Listed
+mod Named
 pub mod Ranges
 pub mod Stands

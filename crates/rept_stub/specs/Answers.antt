@@ -2,7 +2,7 @@
 -- are a fold over it (GDB manual, appendix Remote Serial Protocol, sections Packets, General Query
 -- Packets and vCont). What is asked of no thread by name is asked of the selected one, at its
 -- cursor.
-use Rattle.std.specs.Prelude.{◌≡◌, ℕ, List, [], ◌++◌, drop, length, Option, None, Some, codes, if◌then◌else◌}
+use Rattle.std.specs.Prelude.{◌≡◌, ℕ, List, [], ◌++◌, drop, length, Bool, true, false, ◌||◌, ◌&&◌, nat_lt, Option, None, Some, codes, if◌then◌else◌}
 use Rattle.rept_session.specs.Shown.{SessionTold, Shown}
 use Rattle.rept_session.specs.Session.{IsReply, said_at}
 use Rattle.rept_session.specs.declared.place.ThreadPoint.{ThreadPoint}
@@ -11,43 +11,74 @@ use Rattle.rept_request.specs.declared.request.GdbRequest.{GdbRequest}
 use Rattle.rept_request.specs.declared.request.GdbRequest.TheVariants as request
 use Rattle.rept_request.specs.declared.request.Movement.{Movement}
 use Rattle.rept_request.specs.declared.request.Movement.TheVariants as way
+use Rattle.rept_stub.specs.Consoles.{console_line}
 use Rattle.rept_stub.specs.Description.{description_text}
-use Rattle.rept_stub.specs.Halts.{Wanted, continued, continued_back, stepped, stepped_back, stepped_within, wanted}
+use Rattle.rept_stub.specs.Halts.{Wanted, continued, continued_back, is_unseen, stepped, stepped_back, stepped_within, wanted}
 use Rattle.rept_stub.specs.Replies.{bytes_told, decoded, error, memory_bytes, memory_digits, part_reply, register_reply, registers_reply, text_reply}
-use Rattle.rept_stub.specs.Monitoring.{asked_of, help_text, signal_text, writers_text}
-use Rattle.rept_stub.specs.Spots.{Spots, is_small, region, watch_of, with_break, with_region, without_break, without_region}
-use Rattle.rept_stub.specs.Standing.{cursor_of, here, moving_thread, named_thread, put, selected, selected_moving}
+use Rattle.rept_stub.specs.Monitoring.{asked_of, help_text, line_point, moved_words, signal_text, writers_text}
+use Rattle.rept_stub.specs.Spots.{Spots, Watch, is_small, region, watch_of, with_break, with_region, without_break, without_region}
+use Rattle.rept_stub.specs.Standing.{cursor_of, here, led, moving_thread, named_thread, put, selected, selected_moving}
 use Rattle.rept_stub.specs.Threads.{about_reply, cursor_words, reason_reply, stop_reply, there_reply, thread_reply, threads_reply}
 use Rattle.rept_session.specs.Texts.{at}
 use Rattle.rept_stub.specs.declared.halt.MoveEnd.{MoveEnd}
+use Rattle.rept_stub.specs.declared.halt.StopReason.{StopReason}
 use Rattle.rept_stub.specs.declared.monitoring.MonitorRequest.{MonitorRequest}
 use Rattle.rept_stub.specs.declared.monitoring.MonitorRequest.TheVariants as asked
 use Rattle.rept_stub.specs.declared.answers.Stand.{Stand}
 
-abbrev pub wanted_by : Spots → Wanted
-wanted_by spots = wanted spots.breaks (watch_of spots)
+-- to the next stop, or back to the last one
+abbrev pub is_far : Movement → Bool
+is_far way.Continue = true
+is_far way.ContinueBack = true
+is_far _ = false
+
+-- The bytes that are watched in a move. While gdb steps by itself it doesn't see that a step ended
+-- past a row, so in steps it is told of a watchpoint even if its copy of the bytes may be older.
+abbrev pub watch_in : Stand → Movement → Watch
+watch_in stand way = watch_of stand.spots (stand.is_stale && is_far way)
+
+abbrev pub wanted_in : Stand → Movement → Wanted
+wanted_in stand way = wanted stand.spots.breaks (watch_in stand way)
 
 -- where a way leads to from a point of a thread
-abbrev pub halt_by : Shown → Spots → Movement → ThreadPoint → MoveEnd
-halt_by s spots way.Step c = stepped s (watch_of spots) c
-halt_by s spots (way.StepWithin range) c = stepped_within s (wanted_by spots) range c
-halt_by s spots way.StepBack c = stepped_back s (watch_of spots) c
-halt_by s spots way.Continue c = continued s (wanted_by spots) c
-halt_by s spots way.ContinueBack c = continued_back s (wanted_by spots) c
+abbrev pub halt_by : Shown → Stand → Movement → ThreadPoint → MoveEnd
+halt_by s stand way.Step c = stepped s (watch_in stand way.Step) c
+halt_by s stand (way.StepWithin range) c = stepped_within s (wanted_in stand (way.StepWithin range)) range c
+halt_by s stand way.StepBack c = stepped_back s (watch_in stand way.StepBack) c
+halt_by s stand way.Continue c = continued s (wanted_in stand way.Continue) c
+halt_by s stand way.ContinueBack c = continued_back s (wanted_in stand way.ContinueBack) c
 
 -- where a thread stops that goes this way from its cursor
 abbrev pub halt_of : Shown → Stand → Movement → ℕ → MoveEnd
-halt_of s stand way thread = halt_by s stand.spots way (cursor_of stand thread)
+halt_of s stand way thread = halt_by s stand way (cursor_of stand thread)
+
+-- gdb's copy of the watched bytes may be older than the cursor after a stop past a row of which it
+-- isn't told as of a watchpoint, and as long as something is watched
+abbrev pub stale_after : Stand → StopReason → Bool
+stale_after stand stop = is_unseen stop || stand.is_stale && nat_lt 0 (length stand.spots.regions)
 
 -- a move of a thread: its cursor is where it stops, and it is the one that stopped and the selected
 -- one then; without a thread nothing moves
 abbrev pub moved : Shown → Stand → Movement → Option ℕ → Stand
 moved s stand way None = stand
-moved s stand way (Some thread) = put stand (at thread (halt_of s stand way thread).point)
+moved s stand way (Some thread) = put stand (at thread (halt_of s stand way thread).point) (stale_after stand (halt_of s stand way thread).stop)
 
-abbrev pub move_reply : Shown → Stand → Movement → Option ℕ → List ℕ
-move_reply s stand way None = error
-move_reply s stand way (Some thread) = stop_reply s thread (halt_of s stand way thread).stop
+-- the answer to it; the signal is that which ended the process
+abbrev pub move_reply : Shown → ℕ → Stand → Movement → Option ℕ → List ℕ
+move_reply s signal stand way None = error
+move_reply s signal stand way (Some thread) = stop_reply s signal thread (halt_of s stand way thread).stop
+
+-- the line for gdb's console before the answer, of a move that stops at a row; else it is empty
+abbrev pub move_line : Shown → Stand → Movement → Option ℕ → List ℕ
+move_line s stand way None = []
+move_line s stand way (Some thread) = console_line s way thread (halt_of s stand way thread)
+
+abbrev pub line_by : Shown → Stand → GdbRequest → List ℕ
+line_by s stand (request.Move way name) = move_line s stand way (moving_thread s stand name)
+line_by s stand request = []
+
+abbrev pub line_before : Shown → Stand → List ℕ → List ℕ
+line_before s stand packet = line_by s stand (request_of packet)
 
 -- what a packet makes of breakpoints and watchpoints; a region of no byte or of more than 1024
 -- isn't taken
@@ -90,17 +121,25 @@ still_reply s signal stand (request.Bytes address count) = memory_bytes (bytes_t
 still_reply s signal stand (request.Description offset count) = part_reply description_text offset count
 still_reply s signal stand request = threads_still s stand request
 
--- a line of the debugger's user, at a cursor, which it doesn't move: one of this project's own, or
--- a line of a session
+-- a line of the debugger's user, at a cursor: one of this project's own, or a line of a session
 abbrev pub IsLineAnswered : SessionTold → ℕ → ThreadPoint → List ℕ → MonitorRequest → List ℕ → Type 0
 IsLineAnswered t signal c line asked.Signal said = said ≡ signal_text signal
 IsLineAnswered t signal c line asked.Help said = said ≡ help_text
+IsLineAnswered t signal c line asked.When said = IsReply t c (said_at t.shown c (codes "where")) said
 IsLineAnswered t signal c line (asked.Writers address) said = said ≡ writers_text t.shown c address
 IsLineAnswered t signal c line asked.Session said = IsReply t c (said_at t.shown c line) said
 
 abbrev pub IsMonitored : SessionTold → ℕ → ThreadPoint → Option (List ℕ) → List ℕ → Type 0
 IsMonitored t signal c None text = text ≡ error
-IsMonitored t signal c (Some line) text = (said : List ℕ) × IsLineAnswered t signal c line (asked_of line) said × (text ≡ text_reply (cursor_words t.shown c ++ said))
+IsMonitored t signal c (Some line) text =
+    (said : List ℕ) × IsLineAnswered t signal c line (asked_of line) said
+    × (text ≡ text_reply (cursor_words t.shown c ++ said ++ moved_words c (line_point t.shown c line (asked_of line))))
+
+-- A line of a session that leads its cursor along the thread leads the cursor of the selected
+-- thread there.
+abbrev pub monitored : Shown → Stand → Option (List ℕ) → Stand
+monitored s stand None = stand
+monitored s stand (Some line) = led stand (line_point s (here stand) line (asked_of line))
 
 -- the answer to a packet, where a debugger stands, and with the signal that ended the process
 pub record Still : Type 0 where
@@ -108,18 +147,15 @@ pub record Still : Type 0 where
   pub stand : Stand
   pub packet : List ℕ
 
--- the answer to a request that moves nothing and changes no spots
-abbrev pub IsStillAnswer : SessionTold → Still → GdbRequest → List ℕ → Type 0
-IsStillAnswer t still request.Monitor text = IsMonitored t still.signal (here still.stand) (decoded (drop 6 still.packet)) text
-IsStillAnswer t still request text = text ≡ still_reply t.shown still.signal still.stand request
-
-abbrev pub IsChanged : SessionTold → Still → GdbRequest → Option Spots → List ℕ → Type 0
-IsChanged t still request (Some spots) text = text ≡ codes "OK"
-IsChanged t still request None text = IsStillAnswer t still request text
+-- the answer to a request that moves nothing
+abbrev pub changed_reply : Shown → Still → GdbRequest → Option Spots → List ℕ
+changed_reply s still request (Some spots) = codes "OK"
+changed_reply s still request None = still_reply s still.signal still.stand request
 
 abbrev pub IsAnswerTo : SessionTold → Still → GdbRequest → List ℕ → Type 0
-IsAnswerTo t still (request.Move way name) text = text ≡ move_reply t.shown still.stand way (moving_thread t.shown still.stand name)
-IsAnswerTo t still request text = IsChanged t still request (spots_after still.stand.spots request) text
+IsAnswerTo t still (request.Move way name) text = text ≡ move_reply t.shown still.signal still.stand way (moving_thread t.shown still.stand name)
+IsAnswerTo t still request.Monitor text = IsMonitored t still.signal (here still.stand) (decoded (drop 6 still.packet)) text
+IsAnswerTo t still request text = text ≡ changed_reply t.shown still request (spots_after still.stand.spots request)
 
 -- whether a text answers a packet; the signal is that which ended the process
 abbrev pub IsStubAnswer : SessionTold → ℕ → Stand → List ℕ → List ℕ → Type 0
@@ -135,10 +171,11 @@ abbrev pub changed : Shown → Stand → GdbRequest → Option Spots → Stand
 changed s stand request (Some spots) = record stand { spots = spots }
 changed s stand request None = selected_by s stand request
 
-abbrev pub stand_by : Shown → Stand → GdbRequest → Stand
-stand_by s stand (request.Move way name) = moved s stand way (moving_thread s stand name)
-stand_by s stand request = changed s stand request (spots_after stand.spots request)
+abbrev pub stand_by : Shown → Stand → List ℕ → GdbRequest → Stand
+stand_by s stand packet (request.Move way name) = moved s stand way (moving_thread s stand name)
+stand_by s stand packet request.Monitor = monitored s stand (decoded (drop 6 packet))
+stand_by s stand packet request = changed s stand request (spots_after stand.spots request)
 
 -- where it stands after a packet
 abbrev pub stand_after : Shown → Stand → List ℕ → Stand
-stand_after s stand packet = stand_by s stand (request_of packet)
+stand_after s stand packet = stand_by s stand packet (request_of packet)

@@ -11,6 +11,7 @@ use Rattle.rept_session.specs.Shown.{Shown, moment_at}
 use Rattle.rept_session.specs.Texts.{at, pc_at}
 use Rattle.rept_session.specs.declared.place.ThreadPoint.{ThreadPoint}
 use Rattle.rept_request.specs.declared.request.CodeRange.{CodeRange}
+use Rattle.rept_stub.specs.Replies.{byte_told}
 use Rattle.rept_stub.specs.Spots.{Watch}
 use Rattle.rept_stub.specs.declared.halt.StopReason.{StopReason}
 use Rattle.rept_stub.specs.declared.halt.StopReason.TheVariants as stop
@@ -51,11 +52,11 @@ abbrev pub is_sure : Writer → Bool
 is_sure (writer.Writes row) = true
 is_sure _ = false
 
--- a byte is known at a point
+-- a byte can be read at a point
 abbrev pub is_known : Shown → ThreadPoint → ℕ → Bool
-is_known s c address = is_some (s.byte (moment_at s c) address)
+is_known s c address = is_some (byte_told s (moment_at s c) address)
 
--- each of these bytes is
+-- each of these bytes can
 abbrev pub are_known : Shown → ThreadPoint → List ℕ → Bool
 are_known s c addresses = list_all (is_known s c) addresses
 
@@ -64,14 +65,15 @@ abbrev pub is_compared : Shown → ThreadPoint → List ℕ → Bool
 is_compared s c addresses = are_known s c addresses || are_known s (back_one c) addresses
 
 -- What is told of a row by which a byte was written since the point before, or may have been. gdb
--- compares the watched bytes before and after it, and goes on where they are the same, or can be
--- read at neither: so it is told of a watchpoint only where the row surely wrote, and they can be
--- read at one of the two. Of a watchpoint that is to stop at each access it goes on at none.
+-- compares its copy of the watched bytes with what they are after it, and goes on where they are
+-- the same, or can be read at neither: so it is told of a watchpoint only where the row surely
+-- wrote, they can be read at one of the two, and the copy isn't older. Of a watchpoint that is to
+-- stop at each access it goes on at none.
 abbrev pub write_stop : Shown → Watch → ThreadPoint → ℕ → StopReason
 write_stop s w c address =
     if list_any (λ a. a == address) w.accesses then stop.Access address
-    else if is_sure (writer_at s c address) && is_compared s c w.addresses then stop.Write address
-    else stop.Step
+    else if not w.is_stale && (is_sure (writer_at s c address) && is_compared s c w.addresses) then stop.Write address
+    else stop.Unseen address
 
 abbrev pub stop_by : Shown → Watch → ThreadPoint → Option ℕ → StopReason
 stop_by s w c None = stop.Step
@@ -87,6 +89,11 @@ abbrev pub is_stepped_over : StopReason → Bool
 is_stepped_over (stop.Write address) = true
 is_stepped_over (stop.Access address) = true
 is_stepped_over _ = false
+
+-- gdb isn't told of the row as of one that a watchpoint is for
+abbrev pub is_unseen : StopReason → Bool
+is_unseen (stop.Unseen address) = true
+is_unseen _ = false
 
 -- a stop of a move over the row before a point: forward to the point, and back to the point before
 -- it; short of the row where gdb steps over it

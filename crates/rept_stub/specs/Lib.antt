@@ -1,4 +1,5 @@
 pub mod Answers
+pub mod Consoles
 pub mod Description
 pub mod Halts
 pub mod Monitoring

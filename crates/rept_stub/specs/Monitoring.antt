@@ -6,6 +6,7 @@ use Rattle.std.specs.Str.{bytes_eq}
 use Rattle.rept_number.specs.Numbers.{number_of_word}
 use Rattle.rept_report.specs.declared.writer.Writer.{Writer}
 use Rattle.rept_session.specs.Shown.{Shown}
+use Rattle.rept_session.specs.Session.{cursor_of, said_at}
 use Rattle.rept_session.specs.Texts.{at, writer_line}
 use Rattle.rept_session.specs.declared.place.ThreadPoint.{ThreadPoint}
 use Rattle.rept_session.specs.LastWriters.{named_row, writer_at}
@@ -20,20 +21,23 @@ writers_asked (Some address) = asked.Writers address
 unfoldable pub is_writers : List ℕ → Bool
 is_writers line = starts_with nat_eq line (codes "writers ")
 
--- `signal`, `help`, `writers ADDRESS`; any other line is one of a session
+abbrev pub asked_when : List ℕ → MonitorRequest
+asked_when line = if bytes_eq line (codes "when") then asked.When else asked.Session
+
+-- `signal`, `help`, `writers ADDRESS`, `when`; any other line is one of a session
 abbrev pub asked_of : List ℕ → MonitorRequest
 asked_of line =
     if bytes_eq line (codes "signal") then asked.Signal
     else if bytes_eq line (codes "help") then asked.Help
     else if is_writers line then writers_asked (number_of_word (drop 8 line))
-    else asked.Session
+    else asked_when line
 
 -- `signal N`, by the number that Linux gives to it
 abbrev pub signal_text : ℕ → List ℕ
 signal_text signal = codes "signal " ++ decimal signal ++ 10 ∷ []
 
 unfoldable pub help_text : List ℕ
-help_text = codes "where | thread T | goto POINT | back COUNT | fwd COUNT | reg R | regs | range R | mem ADDRESS COUNT | writer ADDRESS | writers ADDRESS | why R | why ADDRESS | list STEP COUNT | stack | summary | signal" ++ 10 ∷ []
+help_text = codes "where | when | thread T | goto POINT | back COUNT | fwd COUNT | at | around [COUNT] | reg R | reg pc | regs | range R | mem ADDRESS [COUNT] | writer ADDRESS | writers ADDRESS | why R | why ADDRESS | from R | from ADDRESS | visits ADDRESS | find R VALUE | list [STEP [COUNT]] | stack | summary | signal" ++ 10 ∷ []
 
 -- the point before a row, where that is the thread's own and before this point
 abbrev pub own_before : ThreadPoint → ThreadPoint → Option ℕ
@@ -62,3 +66,21 @@ writers_from s address (suc most) c = listed (writer_at s c address) (row_before
 -- a line of each, as a session tells it; 256 at most
 abbrev pub writers_text : Shown → ThreadPoint → ℕ → List ℕ
 writers_text s c address = flat_map (writer_line s) (writers_from s address 256 c)
+
+-- the point of a cursor, where it is one of this thread; else the thread's own
+abbrev pub point_in : ThreadPoint → ThreadPoint → ℕ
+point_in c cursor = if cursor.thread == c.thread then cursor.point else c.point
+
+-- the point to which a line leads from one: `goto`, `back` and `fwd` of a session lead along the
+-- thread; one that leads to another thread, and any other line, leads nowhere
+abbrev pub line_point : Shown → ThreadPoint → List ℕ → MonitorRequest → ℕ
+line_point s c line asked.Session = point_in c (cursor_of s c (said_at s c line))
+line_point s c line request = c.point
+
+-- gdb keeps the registers that it has read: how it reads them anew
+unfoldable pub flush_text : List ℕ
+flush_text = codes "maintenance flush register-cache  shows it in gdb" ++ 10 ∷ []
+
+-- after a line that leads to another point
+abbrev pub moved_words : ThreadPoint → ℕ → List ℕ
+moved_words c point = if point == c.point then [] else flush_text

@@ -2,6 +2,7 @@
 -- StopReason Reply Packets and General Query Packets).
 use Rattle.std.specs.Prelude.{ℕ, ◌+◌, ◌/◌, ◌%◌, ◌^◌, min, List, [], ◌∷◌, ◌++◌, map, length, drop, take, ◌==◌, nat_lt, nat_le, Option, None, Some, codes, if◌then◌else◌}
 use Rattle.std.specs.List.{flat_map, range_with_len}
+use Rattle.std.specs.Option.{option_or}
 use Rattle.rept_word.specs.Hex.{hex_byte}
 use Rattle.rept_remote.specs.Escapes.{digits_value}
 use Rattle.rept_session.specs.Shown.{Shown, moment_at, number}
@@ -45,10 +46,15 @@ known_run [] = []
 known_run (None ∷ more) = []
 known_run (Some byte ∷ more) = byte ∷ known_run more
 
--- at most so many bytes from an address on at a moment, up to the first one that isn't known, and
+-- the byte at an address that is told at a moment: the one that is known there; else that of the
+-- code, which is assumed not to change
+abbrev pub byte_told : Shown → ℕ → ℕ → Option ℕ
+byte_told s moment address = option_or (s.byte moment address) (s.code address)
+
+-- at most so many bytes from an address on at a moment, up to the first one that isn't told, and
 -- at most 2000
 abbrev pub known_bytes : Shown → ℕ → ℕ → ℕ → List ℕ
-known_bytes s moment address count = known_run (map (λ i. s.byte moment (wrapped (address + i))) (range_with_len 0 (min count 2000)))
+known_bytes s moment address count = known_run (map (λ i. byte_told s moment (wrapped (address + i))) (range_with_len 0 (min count 2000)))
 
 -- those at a point of a thread
 abbrev pub bytes_told : Shown → ThreadPoint → ℕ → ℕ → List ℕ
@@ -65,6 +71,7 @@ memory_bytes bytes = codes "b" ++ bytes
 -- why a thread stopped
 abbrev pub stop_part : StopReason → List ℕ
 stop_part stop.Step = []
+stop_part (stop.Unseen address) = []
 stop_part (stop.Write address) = codes "watch:" ++ big_word address ++ codes ";"
 stop_part (stop.Access address) = codes "awatch:" ++ big_word address ++ codes ";"
 stop_part stop.Begin = codes "replaylog:begin;"

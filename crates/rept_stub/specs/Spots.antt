@@ -74,10 +74,12 @@ accesses_of region = accesses_by region.kind region
 abbrev pub accessed : Spots → List ℕ
 accessed spots = flat_map accesses_of spots.regions
 
--- all bytes that are watched, and those of them of which each write is to be told
+-- all bytes that are watched, those of them of which each write is to be told, and whether gdb's
+-- own copy of the others may be older than the cursor
 pub record Watch : Type 0 where
   pub addresses : List ℕ
   pub accesses : List ℕ
+  pub is_stale : Bool
 
-abbrev pub watch_of : Spots → Watch
-watch_of spots = record { addresses = watched spots; accesses = accessed spots }
+abbrev pub watch_of : Spots → Bool → Watch
+watch_of spots is_stale = record { addresses = watched spots; accesses = accessed spots; is_stale = is_stale }

@@ -1,7 +1,7 @@
 -- Where a debugger stands in a run of threads: each thread has a cursor of its own, and one thread
 -- is selected. This project's own; the packets that select threads are those of GDB's manual,
 -- appendix Remote Serial Protocol, section Packets (`H`).
-use Rattle.std.specs.Prelude.{◌≡◌, ℕ, ◌<◌, ◌≤◌, List, length, map, Bool, nat_le, ◌==◌, Option, None, Some, get_or, set, IfSome, if◌then◌else◌}
+use Rattle.std.specs.Prelude.{◌≡◌, ℕ, ◌<◌, ◌≤◌, List, length, map, Bool, false, nat_le, ◌==◌, Option, None, Some, get_or, set, IfSome, if◌then◌else◌}
 use Rattle.std.specs.List.{find, range_with_len}
 use Rattle.std.specs.Option.{unwrap_or}
 use Rattle.rept_request.specs.declared.request.ThreadName.{ThreadName}
@@ -19,7 +19,7 @@ last_points s = map (λ t. length (s.rows t)) (range_with_len 0 s.threads)
 -- a debugger that begins: each cursor is at the last point of its thread, and thread 0 is selected,
 -- and is the one that stopped
 abbrev pub start_of : Shown → Spots → Stand
-start_of s spots = record { cursors = last_points s; thread = 0; stopped = 0; moving = None; spots = spots }
+start_of s spots = record { cursors = last_points s; thread = 0; stopped = 0; moving = None; spots = spots; is_stale = false }
 
 -- the cursor of a thread
 abbrev pub cursor_of : Stand → ℕ → ThreadPoint
@@ -81,7 +81,11 @@ selected_moving stand name.Any named = record stand { moving = None }
 selected_moving stand name None = stand
 selected_moving stand name (Some thread) = record stand { moving = Some thread }
 
+-- the cursor of the selected thread is put to one of its points
+abbrev pub led : Stand → ℕ → Stand
+led stand point = record stand { cursors = set stand.cursors stand.thread point }
+
 -- the cursor of a thread is put to one of its points, and the thread is the one that stopped, and
--- the selected one
-abbrev pub put : Stand → ThreadPoint → Stand
-put stand c = record stand { cursors = set stand.cursors c.thread c.point; thread = c.thread; stopped = c.thread }
+-- the selected one; and whether gdb's copy of watched bytes may be older
+abbrev pub put : Stand → ThreadPoint → Bool → Stand
+put stand c is_stale = record stand { cursors = set stand.cursors c.thread c.point; thread = c.thread; stopped = c.thread; is_stale = is_stale }

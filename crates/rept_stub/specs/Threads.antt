@@ -2,13 +2,16 @@
 -- StopReason Reply Packets and General Query Packets). A run of one thread has the number 1 for it,
 -- and isn't asked which of its threads stopped; of several, the number of a thread is that of its
 -- process.
-use Rattle.std.specs.Prelude.{ℕ, ◌-◌, List, [], ◌∷◌, ◌++◌, length, Option, None, Some, codes, if◌then◌else◌}
+use Rattle.std.specs.Prelude.{ℕ, ◌-◌, List, [], ◌∷◌, ◌++◌, length, Bool, false, ◌&&◌, ◌==◌, nat_lt, Option, None, Some, codes, if◌then◌else◌}
 use Rattle.std.specs.Fmt.{decimal}
 use Rattle.std.specs.List.{flat_map, range_with_len}
+use Rattle.rept_word.specs.Hex.{hex_byte}
 use Rattle.rept_session.specs.Shown.{Shown}
 use Rattle.rept_session.specs.declared.place.ThreadPoint.{ThreadPoint}
 use Rattle.rept_stub.specs.declared.halt.StopReason.{StopReason}
+use Rattle.rept_stub.specs.declared.halt.StopReason.TheVariants as stop
 use Rattle.rept_stub.specs.Replies.{big_word, digits_of, error, signal_reply, stop_part}
+use Rattle.rept_stub.specs.Signals.{debugger_signal}
 use Rattle.rept_stub.specs.Standing.{is_alone}
 
 abbrev pub number_text : Shown → ℕ → List ℕ
@@ -45,9 +48,18 @@ there_reply (Some thread) = codes "OK"
 abbrev pub cursor_words : Shown → ThreadPoint → List ℕ
 cursor_words s c = if is_alone s then [] else codes "thread " ++ decimal c.thread ++ codes " point " ++ decimal c.point ++ 10 ∷ []
 
--- why a move stopped, and of which thread
-abbrev pub stop_reply : Shown → ℕ → StopReason → List ℕ
-stop_reply s thread stop = codes "T05" ++ thread_part s thread ++ stop_part stop
+-- A move forward came to the crash: to the last point of thread 0, whose register note, the first
+-- one, is that of the thread that crashed. A core file that was taken of a running process has no
+-- signal.
+abbrev pub is_crash : ℕ → ℕ → StopReason → Bool
+is_crash signal thread stop.End = thread == 0 && nat_lt 0 signal
+is_crash signal thread _ = false
+
+-- why a move stopped, and of which thread: at the crash by the signal that ended the process
+abbrev pub stop_reply : Shown → ℕ → ℕ → StopReason → List ℕ
+stop_reply s signal thread stop =
+    if is_crash signal thread stop then codes "T" ++ hex_byte (debugger_signal signal) ++ thread_part s thread
+    else codes "T05" ++ thread_part s thread ++ stop_part stop
 
 -- why a thread stands where it does
 abbrev pub reason_reply : Shown → ℕ → ThreadPoint → List ℕ

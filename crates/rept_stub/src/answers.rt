@@ -3,21 +3,24 @@
 ghost use Rattle.std.specs.Prelude.{◌≡◌, ◌≤◌, ◌<◌, ◌++◌, [], drop, length, None, Some, option_map, IfOk, OnOk, OnErr, MatchBool};
 ghost use Rattle.rept_request.specs.Requests.{request_of};
 ghost use Rattle.rept_session.specs.Shown.{IsThreadPoint, SameReasons, session_told};
-ghost use Rattle.rept_stub.specs.Answers.{IsChanged, IsLineAnswered, IsMonitored, IsStillAnswer, IsStubAnswer, changed, fixed_reply, halt_by, move_reply, moved, selected_by, spots_after, stand_after, still_reply, threads_still};
-ghost use Rattle.rept_stub.specs.Monitoring.{asked_of};
+ghost use Rattle.rept_stub.specs.Answers.{IsLineAnswered, IsMonitored, IsStubAnswer, changed, changed_reply, fixed_reply, halt_by, is_far, line_before, monitored, move_line, move_reply, moved, selected_by, spots_after, stale_after, stand_after, still_reply, threads_still, watch_in};
+ghost use Rattle.rept_stub.specs.Monitoring.{asked_of, line_point};
 ghost use Rattle.rept_stub.specs.Replies.{bytes_told, decoded, memory_bytes, memory_digits};
 ghost use Rattle.rept_stub.specs.Spots.{region};
-ghost use Rattle.rept_stub.specs.Standing.{AreCursors, IsStandLawful, cursor_of, here, moving_thread, start_of};
+ghost use Rattle.rept_stub.specs.Standing.{AreCursors, IsStandLawful, cursor_of, here, led, moving_thread, start_of};
 
+use crate::console::console_line;
 use crate::cursors::Cursors;
 use crate::description::description;
-use crate::halt::MoveEnd;
-use crate::monitoring::{MonitorRequest, asked_of, help_text, signal_text, writers_text};
-use crate::moves::{continued, continued_back, stepped, stepped_back, stepped_within};
+use crate::halt::{MoveEnd, StopReason};
+use crate::monitoring::{
+    MonitorRequest, asked_of, help_text, point_in, push_moved, signal_text, writers_text,
+};
+use crate::moves::{continued, continued_back, is_unseen, stepped, stepped_back, stepped_within};
 use crate::pieces::{
     decoded, known_bytes, memory_bytes, memory_digits, part, register, registers, text_reply, whole,
 };
-use crate::spots::{Region, Spots};
+use crate::spots::{Region, Spots, Watch};
 use crate::threads::{
     about_text, cursor_words, moving_thread, named_thread, reason, stop_text, there_text,
     thread_text, threads_text,
@@ -41,6 +44,8 @@ pub struct Stand {
     pub moving: Option<u32>,
     /// its breakpoints and watchpoints
     pub spots: Spots,
+    /// whether gdb's own copy of the bytes that it watches may be older than the cursor
+    pub is_stale: bool,
 }
 
 /// A debugger that begins: each thread's cursor is at its last point, thread 0 is selected, and
@@ -57,6 +62,7 @@ pub fn start<F: Findings>(alloc: Global, findings: &F) -> Result<Stand, OutOfMem
         stopped: 0,
         moving: None,
         spots: Spots::new(alloc),
+        is_stale: false,
     })
 }
 
@@ -69,6 +75,25 @@ pub struct Setting {
     pub signal: u16,
 }
 
+/// What is answered to a packet.
+#[derive(Drop)]
+pub struct PacketReply {
+    /// the reply
+    pub text: Text,
+    /// a line for gdb's console, which comes before it; empty where there is none
+    pub line: Text,
+}
+
+/// A reply without a line.
+fn plain(alloc: Global, text: Text) -> PacketReply
+    ensures { result ≡ record { text = text; line = [] } }
+{
+    PacketReply {
+        text,
+        line: Text::new(alloc),
+    }
+}
+
 /// The answer to a packet, and where the debugger stands then. The only refusal is out of memory.
 /// In each case the findings stay as they were.
 pub fn answer_packet<F: Findings>(
@@ -77,67 +102,63 @@ pub fn answer_packet<F: Findings>(
     setting: Setting,
     stand: &mut Stand,
     packet: &[u8],
-) -> Result<Text, OutOfMemory>
+) -> Result<PacketReply, OutOfMemory>
     requires { IsStandLawful (F.shown findings.old) stand.old }
-    ensures text { IfOk result (IsStubAnswer (session_told (F.shown findings.old) setting.skipped (F.reasons findings.old)) setting.signal stand.old packet.now) }
+    ensures text { IfOk result (λ reply. IsStubAnswer (session_told (F.shown findings.old) setting.skipped (F.reasons findings.old)) setting.signal stand.old packet.now reply.text) }
+    ensures line { IfOk result (λ reply. reply.line ≡ line_before (F.shown findings.old) stand.old packet.now) }
     ensures stand { OnOk result (stand.new ≡ stand_after (F.shown findings.old) stand.old packet.now) }
     ensures within { IsStandLawful (F.shown findings.old) stand.new }
     ensures same { F.shown findings.new ≡ F.shown findings.old }
     ensures same_reasons { SameReasons (F.reasons findings.old) (F.reasons findings.new) }
 {
-    let request = parse(packet);
-    match request {
-        GdbRequest::Move(way, name) => answer_move(alloc, findings, stand, way, name),
-        _ => answer_other(alloc, findings, setting, stand, packet),
+    match parse(packet) {
+        GdbRequest::Move(way, name) => {
+            answer_move(alloc, findings, setting.signal, stand, way, name)
+        }
+        GdbRequest::Monitor => reply_line(alloc, findings, setting, stand, packet),
+        _ => reply_other(alloc, findings, setting.signal, stand, packet),
     }
 }
 
-/// The answer to a packet that asks for no move.
+/// The reply to a packet that moves nothing and carries no line.
+fn reply_other<F: Findings>(
+    alloc: Global,
+    findings: &F,
+    signal: u16,
+    stand: &mut Stand,
+    packet: &[u8],
+) -> Result<PacketReply, OutOfMemory>
+    requires { IsStandLawful (F.shown findings.now) stand.old }
+    ensures text { IfOk result (λ reply. reply.text ≡ changed_reply (F.shown findings.now) (record { signal = signal; stand = stand.old; packet = packet.now }) (request_of packet.now) (spots_after stand.old.spots (request_of packet.now))) }
+    ensures line { IfOk result (λ reply. reply.line ≡ []) }
+    ensures stand { OnOk result (stand.new ≡ changed (F.shown findings.now) stand.old (request_of packet.now) (spots_after stand.old.spots (request_of packet.now))) }
+    ensures within { IsStandLawful (F.shown findings.now) stand.new }
+{
+    let text = answer_other(alloc, findings, signal, stand, packet)?;
+    Ok(plain(alloc, text))
+}
+
+/// The answer to a packet that moves nothing and carries no line.
 fn answer_other<F: Findings>(
     alloc: Global,
-    findings: &mut F,
-    setting: Setting,
+    findings: &F,
+    signal: u16,
     stand: &mut Stand,
     packet: &[u8],
 ) -> Result<Text, OutOfMemory>
-    requires { IsStandLawful (F.shown findings.old) stand.old }
-    ensures text { IfOk result (IsChanged (session_told (F.shown findings.old) setting.skipped (F.reasons findings.old)) (record { signal = setting.signal; stand = stand.old; packet = packet.now }) (request_of packet.now) (spots_after stand.old.spots (request_of packet.now))) }
-    ensures stand { OnOk result (stand.new ≡ changed (F.shown findings.old) stand.old (request_of packet.now) (spots_after stand.old.spots (request_of packet.now))) }
-    ensures within { IsStandLawful (F.shown findings.old) stand.new }
-    ensures same { F.shown findings.new ≡ F.shown findings.old }
-    ensures same_reasons { SameReasons (F.reasons findings.old) (F.reasons findings.new) }
+    requires { IsStandLawful (F.shown findings.now) stand.old }
+    ensures text { IfOk result (λ text. text ≡ changed_reply (F.shown findings.now) (record { signal = signal; stand = stand.old; packet = packet.now }) (request_of packet.now) (spots_after stand.old.spots (request_of packet.now))) }
+    ensures stand { OnOk result (stand.new ≡ changed (F.shown findings.now) stand.old (request_of packet.now) (spots_after stand.old.spots (request_of packet.now))) }
+    ensures within { IsStandLawful (F.shown findings.now) stand.new }
 {
     let request = parse(packet);
     let is_changed = change(&mut stand.spots, request)?;
     if is_changed {
         return whole(alloc, b"OK");
     }
-    let text = unchanged(alloc, findings, setting, stand, packet)?;
+    let text = still(alloc, findings, signal, stand, request)?;
     select(findings, stand, request);
     Ok(text)
-}
-
-/// The answer to a packet that moves nothing and changes no spots.
-fn unchanged<F: Findings>(
-    alloc: Global,
-    findings: &mut F,
-    setting: Setting,
-    stand: &Stand,
-    packet: &[u8],
-) -> Result<Text, OutOfMemory>
-    requires { IsStandLawful (F.shown findings.old) stand.now }
-    ensures text { IfOk result (IsStillAnswer (session_told (F.shown findings.old) setting.skipped (F.reasons findings.old)) (record { signal = setting.signal; stand = stand.now; packet = packet.now }) (request_of packet.now)) }
-    ensures same { F.shown findings.new ≡ F.shown findings.old }
-    ensures same_reasons { SameReasons (F.reasons findings.old) (F.reasons findings.new) }
-{
-    let request = parse(packet);
-    match request {
-        GdbRequest::Monitor => {
-            let at = here(findings, stand);
-            monitor(alloc, findings, setting, at, packet)
-        }
-        _ => still(alloc, findings, setting.signal, stand, request),
-    }
 }
 
 /// The cursor of a thread.
@@ -167,18 +188,20 @@ fn here<F: Findings>(findings: &F, stand: &Stand) -> ThreadPoint
 fn answer_move<F: Findings>(
     alloc: Global,
     findings: &F,
+    signal: u16,
     stand: &mut Stand,
     way: Movement,
     name: ThreadName,
-) -> Result<Text, OutOfMemory>
+) -> Result<PacketReply, OutOfMemory>
     requires { IsStandLawful (F.shown findings.now) stand.old }
-    ensures text { IfOk result (λ text. text ≡ move_reply (F.shown findings.now) stand.old way (moving_thread (F.shown findings.now) stand.old name)) }
+    ensures text { IfOk result (λ reply. reply.text ≡ move_reply (F.shown findings.now) signal stand.old way (moving_thread (F.shown findings.now) stand.old name)) }
+    ensures line { IfOk result (λ reply. reply.line ≡ move_line (F.shown findings.now) stand.old way (moving_thread (F.shown findings.now) stand.old name)) }
     ensures stand { OnOk result (stand.new ≡ moved (F.shown findings.now) stand.old way (moving_thread (F.shown findings.now) stand.old name)) }
     ensures within { IsStandLawful (F.shown findings.now) stand.new }
 {
     match moving_thread(findings, stand, name) {
-        Some(thread) => move_thread(alloc, findings, stand, way, thread),
-        None => whole(alloc, b"E01"),
+        Some(thread) => move_thread(alloc, findings, signal, stand, way, thread),
+        None => Ok(plain(alloc, whole(alloc, b"E01")?)),
     }
 }
 
@@ -186,23 +209,27 @@ fn answer_move<F: Findings>(
 fn move_thread<F: Findings>(
     alloc: Global,
     findings: &F,
+    signal: u16,
     stand: &mut Stand,
     way: Movement,
     thread: u32,
-) -> Result<Text, OutOfMemory>
+) -> Result<PacketReply, OutOfMemory>
     requires standing { IsStandLawful (F.shown findings.now) stand.old }
     requires thread { thread < (F.shown findings.now).threads }
-    ensures text { IfOk result (λ text. text ≡ move_reply (F.shown findings.now) stand.old way (Some thread)) }
+    ensures text { IfOk result (λ reply. reply.text ≡ move_reply (F.shown findings.now) signal stand.old way (Some thread)) }
+    ensures line { IfOk result (λ reply. reply.line ≡ move_line (F.shown findings.now) stand.old way (Some thread)) }
     ensures stand { OnOk result (stand.new ≡ moved (F.shown findings.now) stand.old way (Some thread)) }
     ensures within { IsStandLawful (F.shown findings.now) stand.new }
 {
     let at = cursor_of(findings, stand, thread);
-    let halt = halt_by(alloc, findings, &stand.spots, way, at)?;
-    let text = stop_text(alloc, findings, thread, halt.stop)?;
+    let halt = halt_by(alloc, findings, stand, way, at)?;
+    let line = console_line(alloc, findings, way, thread, halt)?;
+    let text = stop_text(alloc, findings, signal, thread, halt.stop)?;
+    stand.is_stale = stale_after(stand, halt.stop);
     stand.cursors.put(thread, halt.point);
     stand.thread = thread;
     stand.stopped = thread;
-    Ok(text)
+    Ok(PacketReply { text, line })
 }
 
 /// Selects the thread that a packet names.
@@ -227,26 +254,64 @@ fn select<F: Findings>(findings: &F, stand: &mut Stand, request: GdbRequest)
     }
 }
 
-/// The answer to a line of a debugger's user.
-fn monitor<F: Findings>(
+/// The reply to a packet that carries a line of a debugger's user.
+fn reply_line<F: Findings>(
     alloc: Global,
     findings: &mut F,
     setting: Setting,
-    at: ThreadPoint,
+    stand: &mut Stand,
     packet: &[u8],
-) -> Result<Text, OutOfMemory>
-    requires { IsThreadPoint (F.shown findings.old) at }
-    ensures text { IfOk result (IsMonitored (session_told (F.shown findings.old) setting.skipped (F.reasons findings.old)) setting.signal at (decoded (drop 6 packet.now))) }
+) -> Result<PacketReply, OutOfMemory>
+    requires { IsStandLawful (F.shown findings.old) stand.old }
+    ensures text { IfOk result (λ reply. IsMonitored (session_told (F.shown findings.old) setting.skipped (F.reasons findings.old)) setting.signal (here stand.old) (decoded (drop 6 packet.now)) reply.text) }
+    ensures line { IfOk result (λ reply. reply.line ≡ []) }
+    ensures stand { OnOk result (stand.new ≡ monitored (F.shown findings.old) stand.old (decoded (drop 6 packet.now))) }
+    ensures within { IsStandLawful (F.shown findings.old) stand.new }
     ensures same { F.shown findings.new ≡ F.shown findings.old }
     ensures same_reasons { SameReasons (F.reasons findings.old) (F.reasons findings.new) }
 {
+    let text = answer_monitor(alloc, findings, setting, stand, packet)?;
+    Ok(plain(alloc, text))
+}
+
+/// The answer to a packet that carries a line of a debugger's user. A line of a session that leads
+/// its cursor along the thread leads the cursor of the selected thread there.
+fn answer_monitor<F: Findings>(
+    alloc: Global,
+    findings: &mut F,
+    setting: Setting,
+    stand: &mut Stand,
+    packet: &[u8],
+) -> Result<Text, OutOfMemory>
+    requires { IsStandLawful (F.shown findings.old) stand.old }
+    ensures text { IfOk result (IsMonitored (session_told (F.shown findings.old) setting.skipped (F.reasons findings.old)) setting.signal (here stand.old) (decoded (drop 6 packet.now))) }
+    ensures stand { OnOk result (stand.new ≡ monitored (F.shown findings.old) stand.old (decoded (drop 6 packet.now))) }
+    ensures within { IsStandLawful (F.shown findings.old) stand.new }
+    ensures same { F.shown findings.new ≡ F.shown findings.old }
+    ensures same_reasons { SameReasons (F.reasons findings.old) (F.reasons findings.new) }
+{
+    let at = here(findings, stand);
     let Some(line) = line_in(alloc, packet)? else {
         return whole(alloc, b"E01");
     };
     let mut text = cursor_words(alloc, findings, at)?;
     let said = line_answer(alloc, findings, setting, at, line.as_slice())?;
-    text.push(said.bytes())?;
-    text_reply(alloc, text.bytes())
+    text.push(said.text.bytes())?;
+    push_moved(&mut text, at, said.point)?;
+    let reply = text_reply(alloc, text.bytes())?;
+    lead(findings, stand, said.point);
+    Ok(reply)
+}
+
+/// Puts the cursor of the selected thread to one of its points.
+fn lead<F: Findings>(findings: &F, stand: &mut Stand, point: u32)
+    requires standing { IsStandLawful (F.shown findings.now) stand.old }
+    requires point { point ≤ length ((F.shown findings.now).rows stand.old.thread) }
+    ensures stand { stand.new ≡ led stand.old point }
+    ensures within { IsStandLawful (F.shown findings.now) stand.new }
+{
+    let _threads = findings.threads();
+    stand.cursors.put(stand.thread, point);
 }
 
 /// The line that such a packet carries after `qRcmd,`.
@@ -257,6 +322,23 @@ fn line_in(alloc: Global, packet: &[u8]) -> Result<Option<Vec<u8>>, OutOfMemory>
     decoded(alloc, &packet[start..])
 }
 
+/// What is said to a line, and the point to which it leads.
+#[derive(Drop)]
+struct LineAnswer {
+    text: Text,
+    point: u32,
+}
+
+/// A text that leads nowhere.
+fn told_at(at: ThreadPoint, text: Text) -> LineAnswer
+    ensures { result ≡ record { text = text; point = at.point } }
+{
+    LineAnswer {
+        text,
+        point: at.point,
+    }
+}
+
 /// What is said to such a line.
 fn line_answer<F: Findings>(
     alloc: Global,
@@ -264,43 +346,77 @@ fn line_answer<F: Findings>(
     setting: Setting,
     at: ThreadPoint,
     line: &[u8],
-) -> Result<Text, OutOfMemory>
+) -> Result<LineAnswer, OutOfMemory>
     requires { IsThreadPoint (F.shown findings.old) at }
-    ensures text { IfOk result (IsLineAnswered (session_told (F.shown findings.old) setting.skipped (F.reasons findings.old)) setting.signal at line.now (asked_of line.now)) }
+    ensures text { IfOk result (λ said. IsLineAnswered (session_told (F.shown findings.old) setting.skipped (F.reasons findings.old)) setting.signal at line.now (asked_of line.now) said.text) }
+    ensures point { IfOk result (λ said. said.point ≡ line_point (F.shown findings.old) at line.now (asked_of line.now)) }
+    ensures within { IfOk result (λ said. said.point ≤ length ((F.shown findings.old).rows at.thread)) }
     ensures same { F.shown findings.new ≡ F.shown findings.old }
     ensures same_reasons { SameReasons (F.reasons findings.old) (F.reasons findings.new) }
 {
     match asked_of(line) {
-        MonitorRequest::Signal => signal_text(alloc, setting.signal),
-        MonitorRequest::Help => whole(alloc, help_text()),
-        MonitorRequest::Writers(address) => writers_text(alloc, findings, at, address),
+        MonitorRequest::Signal => Ok(told_at(at, signal_text(alloc, setting.signal)?)),
+        MonitorRequest::Help => Ok(told_at(at, whole(alloc, help_text())?)),
+        MonitorRequest::When => {
+            let answer = answer_line(alloc, findings, setting.skipped, at, b"where")?;
+            Ok(told_at(at, answer.text))
+        }
+        MonitorRequest::Writers(address) => {
+            Ok(told_at(at, writers_text(alloc, findings, at, address)?))
+        }
         MonitorRequest::Session => {
             let answer = answer_line(alloc, findings, setting.skipped, at, line)?;
-            Ok(answer.text)
+            Ok(LineAnswer {
+                point: point_in(at, answer.cursor),
+                text: answer.text,
+            })
         }
     }
+}
+
+/// Whether gdb's copy of the watched bytes may be older than the cursor after a stop.
+fn stale_after(stand: &Stand, stop: StopReason) -> bool
+    ensures { result ≡ stale_after stand.now stop }
+{
+    is_unseen(stop) || stand.is_stale && stand.spots.has_regions()
 }
 
 /// Where a way leads to from a point of a thread.
 fn halt_by<F: Findings>(
     alloc: Global,
     findings: &F,
-    spots: &Spots,
+    stand: &Stand,
     way: Movement,
     at: ThreadPoint,
 ) -> Result<MoveEnd, OutOfMemory>
     requires { IsThreadPoint (F.shown findings.now) at }
-    ensures value { IfOk result (λ halt. halt ≡ halt_by (F.shown findings.now) spots.now way at) }
+    ensures value { IfOk result (λ halt. halt ≡ halt_by (F.shown findings.now) stand.now way at) }
     ensures within { IfOk result (λ halt. halt.point ≤ length ((F.shown findings.now).rows at.thread)) }
 {
-    let watch = spots.watch(alloc)?;
+    let watch = watch_in(alloc, stand, way)?;
+    let breaks = stand.spots.breaks();
     Ok(match way {
         Movement::Step => stepped(findings, &watch, at),
-        Movement::StepWithin(range) => stepped_within(findings, spots.breaks(), &watch, range, at),
+        Movement::StepWithin(range) => stepped_within(findings, breaks, &watch, range, at),
         Movement::StepBack => stepped_back(findings, &watch, at),
-        Movement::Continue => continued(findings, spots.breaks(), &watch, at),
-        Movement::ContinueBack => continued_back(findings, spots.breaks(), &watch, at),
+        Movement::Continue => continued(findings, breaks, &watch, at),
+        Movement::ContinueBack => continued_back(findings, breaks, &watch, at),
     })
+}
+
+/// The bytes that are watched in a move.
+fn watch_in(alloc: Global, stand: &Stand, way: Movement) -> Result<Watch, OutOfMemory>
+    ensures { IfOk result (λ watch. watch ≡ watch_in stand.now way) }
+{
+    let is_stale = stand.is_stale && is_far(way);
+    stand.spots.watch(alloc, is_stale)
+}
+
+/// Whether a move goes to the next stop, or back to the last one.
+fn is_far(way: Movement) -> bool
+    ensures { result ≡ is_far way }
+{
+    matches!(way, Movement::Continue | Movement::ContinueBack)
 }
 
 /// Sets or takes away a breakpoint or a watchpoint, and answers whether it did.

@@ -4,9 +4,11 @@
 #[derive(Clone, Copy)]
 pub enum StopReason {
     /// After the step, or at a breakpoint, or where rows of several threads may have written a
-    /// watched byte and none is named, or past a row by which a watched byte may have changed and
-    /// gdb couldn't see it.
+    /// watched byte and none is named.
     Step,
+    /// Past a row that writes the byte at this address, or may, where gdb couldn't see by itself
+    /// whether it changed.
+    Unseen(u32),
     /// Short of a row that writes the byte at this address, or of such a row of another thread: gdb
     /// makes the step over it by itself.
     Write(u32),

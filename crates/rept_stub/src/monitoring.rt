@@ -1,7 +1,7 @@
 //! Lines of a debugger's user that are no lines of a session.
 
 ghost use Rattle.std.specs.Prelude.{◌≡◌, ◌≤◌, ◌<◌, ◌++◌, ◌∷◌, [], length, true, IfOk, IfSome, OnOk};
-ghost use Rattle.rept_stub.specs.Monitoring.{asked_of, help_text, is_writers, own_before, row_before, signal_text, writers_asked, writers_text};
+ghost use Rattle.rept_stub.specs.Monitoring.{asked_of, asked_when, flush_text, help_text, is_writers, moved_words, own_before, point_in, row_before, signal_text, writers_asked, writers_text};
 ghost use Rattle.rept_number.specs.Numbers.{number_of_word};
 ghost use Rattle.rept_session.specs.Shown.{IsThreadPoint};
 ghost use Rattle.rept_session.specs.Texts.{of_thread, step_text, writer_line};
@@ -23,6 +23,8 @@ pub enum MonitorRequest {
     Signal,
     /// `help`: the lines that are answered.
     Help,
+    /// `when`: the point and the address there, as `where` tells them in a session.
+    When,
     /// `writers ADDRESS`: each row that writes a byte, or may, from the newest one on.
     Writers(u32),
     /// What a session says to it.
@@ -39,6 +41,16 @@ pub fn asked_of(line: &[u8]) -> MonitorRequest
         MonitorRequest::Help
     } else if is_writers(line) {
         writers_asked(&line[8..])
+    } else {
+        asked_when(line)
+    }
+}
+
+fn asked_when(line: &[u8]) -> MonitorRequest
+    ensures { result ≡ asked_when line.now }
+{
+    if line == b"when".as_slice() {
+        MonitorRequest::When
     } else {
         MonitorRequest::Session
     }
@@ -78,7 +90,36 @@ pub fn signal_text(alloc: Global, signal: u16) -> Result<Text, OutOfMemory>
 pub fn help_text() -> &'static [u8]
     ensures { result.now ≡ help_text }
 {
-    b"where | thread T | goto POINT | back COUNT | fwd COUNT | reg R | regs | range R | mem ADDRESS COUNT | writer ADDRESS | writers ADDRESS | why R | why ADDRESS | list STEP COUNT | stack | summary | signal\n"
+    b"where | when | thread T | goto POINT | back COUNT | fwd COUNT | at | around [COUNT] | reg R | reg pc | regs | range R | mem ADDRESS [COUNT] | writer ADDRESS | writers ADDRESS | why R | why ADDRESS | from R | from ADDRESS | visits ADDRESS | find R VALUE | list [STEP [COUNT]] | stack | summary | signal\n"
+}
+
+/// How gdb reads registers anew.
+#[tactic(auto, unfolding(crate::specs::Monitoring::flush_text))]
+fn flush_text() -> &'static [u8]
+    ensures { result.now ≡ flush_text }
+{
+    b"maintenance flush register-cache  shows it in gdb\n"
+}
+
+/// What is told after a line that leads to a point: of another point than before, how gdb shows it.
+pub fn push_moved(text: &mut Text, at: ThreadPoint, point: u32) -> Result<(), OutOfMemory>
+    ensures { OnOk result (text.new ≡ text.old ++ moved_words at point) }
+{
+    if point == at.point {
+        return Ok(());
+    }
+    text.push(flush_text())
+}
+
+/// The point of a cursor, where it is one of this thread; else the thread's own.
+pub fn point_in(at: ThreadPoint, cursor: ThreadPoint) -> u32
+    ensures { result ≡ point_in at cursor }
+{
+    if cursor.thread == at.thread {
+        cursor.point
+    } else {
+        at.point
+    }
 }
 
 /// The line of a writer, as a session tells it.

@@ -6,9 +6,10 @@ ghost use Rattle.std.specs.Option.{option_or};
 ghost use Rattle.rept_session.specs.LastWriters.{AreLastWriters, IsNamed, named_row, writer_at};
 ghost use Rattle.rept_session.specs.Shown.{IsThreadPoint, Shown};
 ghost use Rattle.rept_session.specs.Texts.{at};
-ghost use Rattle.rept_stub.specs.Halts.{NamesNoOther, are_known, back_over, backward, before, break_before, break_halt, came, continued, continued_back, first_outside, first_stop, forward, halt_at, has_changed, has_open, is_break, is_compared, is_known, is_later, is_open, is_outside, is_row, is_stepped_over, is_sure, is_touched, is_written, last_below, last_write, later, names, point_before, sooner_of, stepped, stepped_back, stepped_within, stop_at, wanted, write_before, write_stop, written};
+ghost use Rattle.rept_stub.specs.Halts.{NamesNoOther, are_known, back_over, backward, before, break_before, break_halt, came, continued, continued_back, first_outside, first_stop, forward, halt_at, has_changed, has_open, is_break, is_compared, is_known, is_later, is_open, is_outside, is_row, is_stepped_over, is_sure, is_touched, is_unseen, is_written, last_below, last_write, later, names, point_before, sooner_of, stepped, stepped_back, stepped_within, stop_at, wanted, write_before, write_stop, written};
 
 use crate::halt::{MoveEnd, StopReason, Written};
+use crate::pieces::byte_told;
 use crate::spots::Watch;
 use rept_report::Writer;
 use rept_request::CodeRange;
@@ -111,15 +112,15 @@ fn written<F: Findings>(findings: &F, at: ThreadPoint, addresses: &[u32]) -> Opt
     None
 }
 
-/// Whether a byte is known at a point.
+/// Whether a byte can be read at a point.
 fn is_known<F: Findings>(findings: &F, at: ThreadPoint, address: u32) -> bool
     requires { IsThreadPoint (F.shown findings.now) at }
     ensures { result ≡ is_known (F.shown findings.now) at address }
 {
-    findings.byte(moment_of(findings, at), address).is_some()
+    byte_told(findings, moment_of(findings, at), address).is_some()
 }
 
-/// Whether each of these bytes is known at a point.
+/// Whether each of these bytes can be read at a point.
 fn are_known<F: Findings>(findings: &F, at: ThreadPoint, addresses: &[u32]) -> bool
     requires { IsThreadPoint (F.shown findings.now) at }
     ensures { result ≡ are_known (F.shown findings.now) at addresses.now }
@@ -156,12 +157,13 @@ fn write_stop<F: Findings>(findings: &F, watch: &Watch, at: ThreadPoint, address
 {
     if has_address(watch.accesses(), address) {
         StopReason::Access(address)
-    } else if is_sure(writer_at(findings, at, address))
+    } else if !watch.is_stale()
+        && is_sure(writer_at(findings, at, address))
         && is_compared(findings, at, watch.addresses())
     {
         StopReason::Write(address)
     } else {
-        StopReason::Step
+        StopReason::Unseen(address)
     }
 }
 
@@ -178,10 +180,17 @@ fn stop_at<F: Findings>(findings: &F, watch: &Watch, at: ThreadPoint) -> StopRea
 }
 
 /// Whether gdb makes a step over the row by itself.
-fn is_stepped_over(stop: StopReason) -> bool
+pub fn is_stepped_over(stop: StopReason) -> bool
     ensures { result ≡ is_stepped_over stop }
 {
     matches!(stop, StopReason::Write(_) | StopReason::Access(_))
+}
+
+/// Whether gdb isn't told of the row as of one that a watchpoint is for.
+pub fn is_unseen(stop: StopReason) -> bool
+    ensures { result ≡ is_unseen stop }
+{
+    matches!(stop, StopReason::Unseen(_))
 }
 
 /// A stop of a move forward over the row before a point.
@@ -580,30 +589,57 @@ fn break_before<F: Findings>(findings: &F, breaks: &[u32], at: ThreadPoint) -> O
     None
 }
 
-/// The last point before this one at which a row isn't named yet.
+/// The last point before this one at which a row isn't named yet that is named at this one: it is
+/// named at each point since.
 fn unnamed_before<F: Findings>(
     findings: &F,
     here: ThreadPoint,
     address: u32,
     row: u32,
 ) -> Option<u32>
-    requires { IsThreadPoint (F.shown findings.now) here }
+    requires here { IsThreadPoint (F.shown findings.now) here }
+    requires last { AreLastWriters (F.shown findings.now) here.thread address }
+    requires named { IsNamed (F.shown findings.now) here address row }
     ensures value { result ≡ last_below (λ point. not (names (F.shown findings.now) (at here.thread point) address row)) here.point }
     ensures within { IfSome result (λ found. found < here.point) }
 {
-    let mut left = here.point;
-    while left > 0 {
-        left -= 1;
-        if !names(findings, point_at(here, left), address, row) {
-            return Some(left);
+    if here.point == 0 {
+        return None;
+    }
+    if names(findings, point_at(here, 0), address, row) {
+        return None;
+    }
+    Some(last_unnamed(findings, here, address, row))
+}
+
+/// That point, where the row isn't named at point 0. In turns a point in the middle is asked.
+fn last_unnamed<F: Findings>(findings: &F, here: ThreadPoint, address: u32, row: u32) -> u32
+    requires here { IsThreadPoint (F.shown findings.now) here }
+    requires some { 0 < here.point }
+    requires last { AreLastWriters (F.shown findings.now) here.thread address }
+    requires named { IsNamed (F.shown findings.now) here address row }
+    requires unnamed { names (F.shown findings.now) (at here.thread 0) address row ≡ false }
+    ensures value { Some result ≡ last_below (λ point. not (names (F.shown findings.now) (at here.thread point) address row)) here.point }
+    ensures within { result < here.point }
+{
+    let mut low = 0;
+    let mut high = here.point;
+    while high - low > 1 {
+        let point = low + (high - low) / 2;
+        if names(findings, point_at(here, point), address, row) {
+            high = point;
+        } else {
+            low = point;
         }
     }
-    None
+    low
 }
 
 /// The last point before which a row came that is named.
 fn point_before<F: Findings>(findings: &F, at: ThreadPoint, address: u32, row: u32) -> Option<u32>
-    requires { IsThreadPoint (F.shown findings.now) at }
+    requires at { IsThreadPoint (F.shown findings.now) at }
+    requires last { AreLastWriters (F.shown findings.now) at.thread address }
+    requires named { IsNamed (F.shown findings.now) at address row }
     ensures value { result ≡ point_before (F.shown findings.now) at address (Some row) }
     ensures within { IfSome result (λ found. found < at.point) }
 {

@@ -4,7 +4,7 @@ ghost use Rattle.std.specs.Prelude.{◌≡◌, ◌++◌, ◌<◌, ◌+◌, min, 
 ghost use Rattle.std.specs.List.{flat_map, range_with_len};
 ghost use Rattle.rept_session.specs.Shown.{IsThreadPoint};
 ghost use Rattle.rept_session.specs.Texts.{wrapped};
-ghost use Rattle.rept_stub.specs.Replies.{big_word, decoded, digits_of, known_bytes, known_run, little_word, memory_bytes, memory_digits, part_reply, register_reply, registers_reply, signal_reply, stop_part, text_reply, value_digits};
+ghost use Rattle.rept_stub.specs.Replies.{big_word, byte_told, decoded, digits_of, known_bytes, known_run, little_word, memory_bytes, memory_digits, part_reply, register_reply, registers_reply, signal_reply, stop_part, text_reply, value_digits};
 
 use crate::halt::StopReason;
 use crate::moves::last_point;
@@ -107,7 +107,19 @@ pub fn register<F: Findings>(
     Ok(text)
 }
 
-/// The known bytes from an address on at a moment, up to the first one that isn't known.
+/// The byte at an address that is told at a moment: the one that is known there, else that of the
+/// code.
+pub fn byte_told<F: Findings>(findings: &F, moment: u32, address: u32) -> Option<u8>
+    requires { moment < (F.shown findings.now).moments }
+    ensures { result ≡ byte_told (F.shown findings.now) moment address }
+{
+    match findings.byte(moment, address) {
+        Some(byte) => Some(byte),
+        None => findings.code(address),
+    }
+}
+
+/// The bytes that are told from an address on at a moment, up to the first one that isn't.
 pub fn known_bytes<F: Findings>(
     alloc: Global,
     findings: &F,
@@ -121,7 +133,7 @@ pub fn known_bytes<F: Findings>(
     let mut text = Text::new(alloc);
     let most = count.min(MOST_BYTES);
     for i in 0..most {
-        match findings.byte(moment, address.wrapping_add(i)) {
+        match byte_told(findings, moment, address.wrapping_add(i)) {
             Some(byte) => text.push(&[byte])?,
             None => return Ok(text),
         }
@@ -169,7 +181,7 @@ pub fn push_stop(text: &mut Text, stop: StopReason) -> Result<(), OutOfMemory>
     ensures { OnOk result (text.new ≡ text.old ++ stop_part stop) }
 {
     match stop {
-        StopReason::Step => Ok(()),
+        StopReason::Step | StopReason::Unseen(_) => Ok(()),
         StopReason::Write(address) => push_named(text, b"watch:", address),
         StopReason::Access(address) => push_named(text, b"awatch:", address),
         StopReason::Begin => text.push(b"replaylog:begin;"),

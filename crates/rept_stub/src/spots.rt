@@ -1,6 +1,6 @@
 //! Breakpoints and watchpoints.
 
-ghost use Rattle.std.specs.Prelude.{◌≡◌, ◌++◌, [], map, IfOk, OnOk, OnErr};
+ghost use Rattle.std.specs.Prelude.{◌≡◌, ◌++◌, [], length, map, nat_lt, IfOk, OnOk, OnErr};
 ghost use Rattle.std.specs.List.{position, range_with_len};
 ghost use Rattle.rept_stub.specs.Spots.{accessed, accesses_of, address_in, addresses_of, has_break, has_region, is_address, is_kind, is_same, removed, watch_of, watched, with_break, with_region, without_break, without_region};
 
@@ -25,6 +25,7 @@ pub struct Region {
 pub struct Watch {
     addresses: Vec<u32>,
     accesses: Vec<u32>,
+    is_stale: bool,
 }
 
 impl Model for Watch {
@@ -32,7 +33,7 @@ impl Model for Watch {
 
     ghost Value = { Watch };
 
-    ghost view = { λ w. record { addresses = w.addresses.items; accesses = w.accesses.items } };
+    ghost view = { λ w. record { addresses = w.addresses.items; accesses = w.accesses.items; is_stale = w.is_stale } };
 }
 
 impl Watch {
@@ -48,6 +49,13 @@ impl Watch {
         ensures { result.now ≡ self.now.accesses }
     {
         self.accesses.as_slice()
+    }
+
+    /// Whether gdb's own copy of the others may be older than the cursor.
+    pub fn is_stale(&self) -> bool
+        ensures { result ≡ self.now.is_stale }
+    {
+        self.is_stale
     }
 }
 
@@ -136,15 +144,24 @@ impl Spots {
         self.breaks.as_slice()
     }
 
-    /// The addresses of the bytes that are watched.
-    pub fn watch(&self, alloc: Global) -> Result<Watch, OutOfMemory>
-        ensures { IfOk result (λ watch. watch ≡ watch_of self.now) }
+    /// Whether something is watched.
+    pub fn has_regions(&self) -> bool
+        ensures { result ≡ nat_lt 0 (length self.now.regions) }
+    {
+        !self.regions.is_empty()
+    }
+
+    /// The addresses of the bytes that are watched, where gdb's own copy of them may be older than
+    /// the cursor, or isn't.
+    pub fn watch(&self, alloc: Global, is_stale: bool) -> Result<Watch, OutOfMemory>
+        ensures { IfOk result (λ watch. watch ≡ watch_of self.now is_stale) }
     {
         let addresses = self.watched(alloc)?;
         let accesses = self.accessed(alloc)?;
         Ok(Watch {
             addresses,
             accesses,
+            is_stale,
         })
     }
 

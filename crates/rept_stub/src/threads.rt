@@ -1,15 +1,18 @@
 //! Threads by the names that packets give them, and what is answered about them.
 
-ghost use Rattle.std.specs.Prelude.{◌≡◌, ◌-◌, ◌<◌, ◌∷◌, ◌++◌, IfOk, IfSome, OnOk};
+ghost use Rattle.std.specs.Prelude.{◌≡◌, ◌-◌, ◌<◌, ◌∷◌, ◌++◌, codes, IfOk, IfSome, OnOk};
 ghost use Rattle.std.specs.List.{flat_map, range_with_len};
 ghost use Rattle.std.specs.Option.{unwrap_or};
 ghost use Rattle.rept_session.specs.Shown.{IsThreadPoint};
+ghost use Rattle.rept_word.specs.Hex.{hex_byte};
+ghost use Rattle.rept_stub.specs.Signals.{debugger_signal};
 ghost use Rattle.rept_stub.specs.Standing.{IsStandLawful, is_alone, moving_thread, named_thread, thread_of};
-ghost use Rattle.rept_stub.specs.Threads.{about, about_reply, cursor_words, number_text, reason_reply, stop_reply, there_reply, thread_part, thread_reply, threads_reply};
+ghost use Rattle.rept_stub.specs.Threads.{about, about_reply, cursor_words, is_crash, number_text, reason_reply, stop_reply, there_reply, thread_part, thread_reply, threads_reply};
 
 use crate::answers::Stand;
 use crate::halt::StopReason;
 use crate::pieces::{push_big, push_digits, push_named, push_signal, push_stop, whole};
+use crate::signal::debugger_signal;
 use rept_request::ThreadName;
 use rept_session::{Findings, ThreadPoint};
 use rept_word::{OutOfMemory, Text};
@@ -118,20 +121,52 @@ pub fn cursor_words<F: Findings>(
     Ok(text)
 }
 
-/// Why a move stopped.
+/// Whether a move forward came to the crash: to the last point of thread 0, where there is a
+/// signal.
+fn is_crash(signal: u16, thread: u32, stop: StopReason) -> bool
+    ensures { result ≡ is_crash signal thread stop }
+{
+    match stop {
+        StopReason::End => thread == 0 && signal > 0,
+        _ => false,
+    }
+}
+
+/// Why a move stopped: at the crash by the signal that ended the process.
 pub fn stop_text<F: Findings>(
     alloc: Global,
     findings: &F,
+    signal: u16,
     thread: u32,
     stop: StopReason,
 ) -> Result<Text, OutOfMemory>
     requires { thread < (F.shown findings.now).threads }
-    ensures { IfOk result (λ text. text ≡ stop_reply (F.shown findings.now) thread stop) }
+    ensures { IfOk result (λ text. text ≡ stop_reply (F.shown findings.now) signal thread stop) }
 {
+    if is_crash(signal, thread, stop) {
+        return crash_text(alloc, findings, signal, thread);
+    }
     let mut text = Text::new(alloc);
     text.push(b"T05")?;
     push_part(&mut text, findings, thread)?;
     push_stop(&mut text, stop)?;
+    Ok(text)
+}
+
+/// The signal that ended the process, of a thread.
+fn crash_text<F: Findings>(
+    alloc: Global,
+    findings: &F,
+    signal: u16,
+    thread: u32,
+) -> Result<Text, OutOfMemory>
+    requires { thread < (F.shown findings.now).threads }
+    ensures { IfOk result (λ text. text ≡ codes "T" ++ hex_byte (debugger_signal signal) ++ thread_part (F.shown findings.now) thread) }
+{
+    let mut text = Text::new(alloc);
+    text.push(b"T")?;
+    text.push_byte(debugger_signal(signal))?;
+    push_part(&mut text, findings, thread)?;
     Ok(text)
 }
 

@@ -187,7 +187,7 @@ self_words = slot 1 true (codes "seed") ∷ slot 2 true (codes "steps") ∷ []
 abbrev program : App
 program = record {
   top = record (new_shape (codes "rept")) { is_leaf = false; no_binary_name = true; disable_help_flag = true; disable_help_subcommand = true; subcommand_required = true; is_built = true };
-  subs = leaf (codes "open") files_words ∷ leaf (codes "bits") files_words ∷ leaf (codes "maps") maps_words ∷ leaf (codes "self") self_words ∷ [];
+  subs = leaf (codes "open") files_words ∷ leaf (codes "bits") files_words ∷ leaf (codes "infer") files_words ∷ leaf (codes "maps") maps_words ∷ leaf (codes "self") self_words ∷ [];
 }
 
 is_program : built rept_app ≡ program
@@ -202,6 +202,7 @@ data Verb : Type 0 where
 abbrev word_of : Domain → Text
 word_of domain.Ranges = codes "open"
 word_of domain.KnownBits = codes "bits"
+word_of domain.Inferred = codes "infer"
 
 abbrev name_of : Verb → Text
 name_of (open_files d) = word_of d
@@ -220,12 +221,14 @@ first_met : (v : Verb) → walked [] (names_of program) (walk_from nothing_held)
 unfolding walked
 first_met (open_files domain.Ranges) = refl
 first_met (open_files domain.KnownBits) = refl
+first_met (open_files domain.Inferred) = refl
 first_met maps_files = refl
 first_met self_made = refl
 
 first_fault : (v : Verb) → turn_fault program.top (names_of program) (walk_from nothing_held) (name_of v) ≡ []
 first_fault (open_files domain.Ranges) = refl
 first_fault (open_files domain.KnownBits) = refl
+first_fault (open_files domain.Inferred) = refl
 first_fault maps_files = refl
 first_fault self_made = refl
 
@@ -241,6 +244,7 @@ all_fault v ws =
 enters : (v : Verb) (ws : List Text) → entered program (Some (name_of v, ws)) ≡ Some (name_of v, rows_after (words_of v) [] ws)
 enters (open_files domain.Ranges) ws = refl
 enters (open_files domain.KnownBits) ws = refl
+enters (open_files domain.Inferred) ws = refl
 enters maps_files ws = refl
 enters self_made ws = refl
 
@@ -248,6 +252,7 @@ fault_below : (v : Verb) (ws : List Text) → top_fault program [] (stopped_walk
 unfolding defaults_fault
 fault_below (open_files domain.Ranges) ws = refl
 fault_below (open_files domain.KnownBits) ws = refl
+fault_below (open_files domain.Inferred) ws = refl
 fault_below maps_files ws = refl
 fault_below self_made ws = refl
 
@@ -275,7 +280,7 @@ taken : (v : Verb) (ws : List Text) → AllPlain ws → fault_after (leaf (name_
     → found_meaning (Some (name_of v, finished (words_of v) (placed (words_of v) begin ws).held)) ≡ plain_meaning (name_of v ∷ ws) → Outcome (name_of v ∷ ws)
 taken v ws a right found = record { takes_them = λ _. ap found_meaning (found_is v ws a) ∙ found; refuses = λ k. absurd (k (fault_is v ws a ∙ right)) }
 
--- after `open` and `bits`
+-- after `open`, `bits` and `infer`
 files_three : (name e c t : Text) → fault_after (leaf name files_words) (e ∷ c ∷ t ∷ []) ≡ []
 unfolding defaults_fault
 files_three name e c t = refl
@@ -302,14 +307,17 @@ files_five name e c t f g = refl
 found_three : (d : Domain) (e c t : Text) → found_meaning (Some (word_of d, finished files_words (placed files_words begin (e ∷ c ∷ t ∷ [])).held)) ≡ plain_meaning (word_of d ∷ e ∷ c ∷ t ∷ [])
 found_three domain.Ranges e c t = refl
 found_three domain.KnownBits e c t = refl
+found_three domain.Inferred e c t = refl
 
 found_four : (d : Domain) (e c t f : Text) → found_meaning (Some (word_of d, finished files_words (placed files_words begin (e ∷ c ∷ t ∷ f ∷ [])).held)) ≡ plain_meaning (word_of d ∷ e ∷ c ∷ t ∷ f ∷ [])
 found_four domain.Ranges e c t f = refl
 found_four domain.KnownBits e c t f = refl
+found_four domain.Inferred e c t f = refl
 
 no_run : (d : Domain) (w x : Text) → plain_meaning (word_of d ∷ w ∷ x ∷ []) ≡ None
 no_run domain.Ranges w x = refl
 no_run domain.KnownBits w x = refl
+no_run domain.Inferred w x = refl
 
 opens : (d : Domain) (ws : List Text) → AllPlain ws → length ws ≤ 5 → Outcome (word_of d ∷ ws)
 opens d [] a h = refused (open_files d) [] a (files_few (word_of d)) refl
@@ -344,28 +352,33 @@ maps (w ∷ x ∷ y ∷ z ∷ v ∷ u ∷ ws) a h = absurd (omega arith)
 
 -- the same, of words that are screened
 abbrev IsNamed : Text → Type 0
-IsNamed first = (bytes_eq first (codes "open") ≡ true) ⊎ (bytes_eq first (codes "bits") ≡ true) ⊎ (bytes_eq first (codes "maps") ≡ true) ⊎ (bytes_eq first (codes "self") ≡ true)
+IsNamed first = (bytes_eq first (codes "open") ≡ true) ⊎ (bytes_eq first (codes "bits") ≡ true) ⊎ (bytes_eq first (codes "infer") ≡ true) ⊎ (bytes_eq first (codes "maps") ≡ true) ⊎ (bytes_eq first (codes "self") ≡ true)
 
 named_by : (first : Text) → is_command first ≡ true → IsNamed first
-named_by first h = by_last (one_true (bytes_eq first (codes "open") || bytes_eq first (codes "bits") || bytes_eq first (codes "maps")) (bytes_eq first (codes "self")) h)
+named_by first h = by_last (one_true (bytes_eq first (codes "open") || bytes_eq first (codes "bits") || bytes_eq first (codes "infer") || bytes_eq first (codes "maps")) (bytes_eq first (codes "self")) h)
   where
     by_two : (bytes_eq first (codes "open") ≡ true) ⊎ (bytes_eq first (codes "bits") ≡ true) → IsNamed first
     by_two (inl k) = inl k
     by_two (inr k) = inr (inl k)
 
-    by_three : ((bytes_eq first (codes "open") || bytes_eq first (codes "bits")) ≡ true) ⊎ (bytes_eq first (codes "maps") ≡ true) → IsNamed first
+    by_three : ((bytes_eq first (codes "open") || bytes_eq first (codes "bits")) ≡ true) ⊎ (bytes_eq first (codes "infer") ≡ true) → IsNamed first
     by_three (inl k) = by_two (one_true (bytes_eq first (codes "open")) (bytes_eq first (codes "bits")) k)
     by_three (inr k) = inr (inr (inl k))
 
-    by_last : ((bytes_eq first (codes "open") || bytes_eq first (codes "bits") || bytes_eq first (codes "maps")) ≡ true) ⊎ (bytes_eq first (codes "self") ≡ true) → IsNamed first
-    by_last (inl k) = by_three (one_true (bytes_eq first (codes "open") || bytes_eq first (codes "bits")) (bytes_eq first (codes "maps")) k)
-    by_last (inr k) = inr (inr (inr k))
+    by_four : ((bytes_eq first (codes "open") || bytes_eq first (codes "bits") || bytes_eq first (codes "infer")) ≡ true) ⊎ (bytes_eq first (codes "maps") ≡ true) → IsNamed first
+    by_four (inl k) = by_three (one_true (bytes_eq first (codes "open") || bytes_eq first (codes "bits")) (bytes_eq first (codes "infer")) k)
+    by_four (inr k) = inr (inr (inr (inl k)))
+
+    by_last : ((bytes_eq first (codes "open") || bytes_eq first (codes "bits") || bytes_eq first (codes "infer") || bytes_eq first (codes "maps")) ≡ true) ⊎ (bytes_eq first (codes "self") ≡ true) → IsNamed first
+    by_last (inl k) = by_four (one_true (bytes_eq first (codes "open") || bytes_eq first (codes "bits") || bytes_eq first (codes "infer")) (bytes_eq first (codes "maps")) k)
+    by_last (inr k) = inr (inr (inr (inr k)))
 
 by_first : (first : Text) (ws : List Text) → IsNamed first → AllPlain ws → length ws ≤ 5 → Outcome (first ∷ ws)
 by_first first ws (inl h) bare few = let is : first ≡ codes "open" = search rules in subst (λ w. Outcome (w ∷ ws)) (sym is) (opens domain.Ranges ws bare few)
 by_first first ws (inr (inl h)) bare few = let is : first ≡ codes "bits" = search rules in subst (λ w. Outcome (w ∷ ws)) (sym is) (opens domain.KnownBits ws bare few)
-by_first first ws (inr (inr (inl h))) bare few = let is : first ≡ codes "maps" = search rules in subst (λ w. Outcome (w ∷ ws)) (sym is) (maps ws bare few)
-by_first first ws (inr (inr (inr h))) bare few = let is : first ≡ codes "self" = search rules in subst (λ w. Outcome (w ∷ ws)) (sym is) (makes ws bare few)
+by_first first ws (inr (inr (inl h))) bare few = let is : first ≡ codes "infer" = search rules in subst (λ w. Outcome (w ∷ ws)) (sym is) (opens domain.Inferred ws bare few)
+by_first first ws (inr (inr (inr (inl h)))) bare few = let is : first ≡ codes "maps" = search rules in subst (λ w. Outcome (w ∷ ws)) (sym is) (maps ws bare few)
+by_first first ws (inr (inr (inr (inr h)))) bare few = let is : first ≡ codes "self" = search rules in subst (λ w. Outcome (w ∷ ws)) (sym is) (makes ws bare few)
 
 pub screened : (words : List Text) → is_screened words ≡ true → Outcome words
 screened [] h = let bad : ⊥ = cc in absurd bad
@@ -380,8 +393,9 @@ plain_first (b ∷ bs) h = by (named_by (b ∷ bs) h)
     by : IsNamed (b ∷ bs) → is_plain (b ∷ bs) ≡ true
     by (inl h) = let is : b ∷ bs ≡ codes "open" = search rules in ap is_plain is
     by (inr (inl h)) = let is : b ∷ bs ≡ codes "bits" = search rules in ap is_plain is
-    by (inr (inr (inl h))) = let is : b ∷ bs ≡ codes "maps" = search rules in ap is_plain is
-    by (inr (inr (inr h))) = let is : b ∷ bs ≡ codes "self" = search rules in ap is_plain is
+    by (inr (inr (inl h))) = let is : b ∷ bs ≡ codes "infer" = search rules in ap is_plain is
+    by (inr (inr (inr (inl h)))) = let is : b ∷ bs ≡ codes "maps" = search rules in ap is_plain is
+    by (inr (inr (inr (inr h)))) = let is : b ∷ bs ≡ codes "self" = search rules in ap is_plain is
 
 -- screened words are plain
 pub screened_meaning : (words : List Text) → is_screened words ≡ true → meaning_of words ≡ plain_meaning words
@@ -401,16 +415,16 @@ long_meaning first (w ∷ x ∷ y ∷ []) h = let bad : ⊥ = cc in absurd bad
 long_meaning first (w ∷ x ∷ y ∷ z ∷ []) h = let bad : ⊥ = cc in absurd bad
 long_meaning first (w ∷ x ∷ y ∷ z ∷ v ∷ ws) h = refl
 
-no_domain : (first : Text) → bytes_eq first (codes "open") ≡ false → bytes_eq first (codes "bits") ≡ false → domain_of first ≡ None
-no_domain first ho hb = rw (ho, hb) refl
+no_domain : (first : Text) → bytes_eq first (codes "open") ≡ false → bytes_eq first (codes "bits") ≡ false → bytes_eq first (codes "infer") ≡ false → domain_of first ≡ None
+no_domain first ho hb hi = rw (ho, hb, hi) refl
 
-other_meaning : (first : Text) (ws : List Text) → bytes_eq first (codes "open") ≡ false → bytes_eq first (codes "bits") ≡ false → bytes_eq first (codes "maps") ≡ false → bytes_eq first (codes "self") ≡ false → plain_meaning (first ∷ ws) ≡ None
-other_meaning first [] ho hb hm hs = refl
-other_meaning first (w ∷ []) ho hb hm hs = refl
-other_meaning first (w ∷ x ∷ []) ho hb hm hs = rw (hs, hm) refl
-other_meaning first (w ∷ x ∷ y ∷ []) ho hb hm hs = rw (hm) (ap (λ o. option_and_then (λ d. Some (Open d (record { exe = w; core = x; trace = y }) None)) o) (no_domain first ho hb))
-other_meaning first (w ∷ x ∷ y ∷ z ∷ []) ho hb hm hs = ap (λ o. option_and_then (λ d. option_and_then (λ k. Some (Open d (record { exe = w; core = x; trace = y }) (Some k))) (decimal_of z)) o) (no_domain first ho hb)
-other_meaning first (w ∷ x ∷ y ∷ z ∷ v ∷ ws) ho hb hm hs = refl
+other_meaning : (first : Text) (ws : List Text) → bytes_eq first (codes "open") ≡ false → bytes_eq first (codes "bits") ≡ false → bytes_eq first (codes "infer") ≡ false → bytes_eq first (codes "maps") ≡ false → bytes_eq first (codes "self") ≡ false → plain_meaning (first ∷ ws) ≡ None
+other_meaning first [] ho hb hi hm hs = refl
+other_meaning first (w ∷ []) ho hb hi hm hs = refl
+other_meaning first (w ∷ x ∷ []) ho hb hi hm hs = rw (hs, hm) refl
+other_meaning first (w ∷ x ∷ y ∷ []) ho hb hi hm hs = rw (hm) (ap (λ o. option_and_then (λ d. Some (Open d (record { exe = w; core = x; trace = y }) None)) o) (no_domain first ho hb hi))
+other_meaning first (w ∷ x ∷ y ∷ z ∷ []) ho hb hi hm hs = ap (λ o. option_and_then (λ d. option_and_then (λ k. Some (Open d (record { exe = w; core = x; trace = y }) (Some k))) (decimal_of z)) o) (no_domain first ho hb hi)
+other_meaning first (w ∷ x ∷ y ∷ z ∷ v ∷ ws) ho hb hi hm hs = refl
 
 unplain : (words : List Text) → list_all is_plain words ≡ false → meaning_of words ≡ None
 unplain words h = ap (λ q. cond q (plain_meaning words) None) h
@@ -424,18 +438,19 @@ meaningless words h = by (list_all is_plain words)
 
 pub unscreened : (words : List Text) → is_screened words ≡ false → meaning_of words ≡ None
 unscreened [] h = refl
-unscreened (first ∷ ws) h = by (bytes_eq first (codes "open")) (bytes_eq first (codes "bits")) (bytes_eq first (codes "maps")) (bytes_eq first (codes "self")) (nat_le (length ws) 5) (list_all is_plain ws) refl refl refl refl refl refl h
+unscreened (first ∷ ws) h = by (bytes_eq first (codes "open")) (bytes_eq first (codes "bits")) (bytes_eq first (codes "infer")) (bytes_eq first (codes "maps")) (bytes_eq first (codes "self")) (nat_le (length ws) 5) (list_all is_plain ws) refl refl refl refl refl refl refl h
   where
-    by : (o b m s n p : Bool) → bytes_eq first (codes "open") ≡ o → bytes_eq first (codes "bits") ≡ b → bytes_eq first (codes "maps") ≡ m → bytes_eq first (codes "self") ≡ s → nat_le (length ws) 5 ≡ n → list_all is_plain ws ≡ p → ((o || b || m || s) && (n && p)) ≡ false
-        → meaning_of (first ∷ ws) ≡ None
-    by false false false false n p ho hb hm hs hn hp h = meaningless (first ∷ ws) (other_meaning first ws ho hb hm hs)
-    by o b m s false p ho hb hm hs hn hp h = meaningless (first ∷ ws) (long_meaning first ws hn)
-    by o b m s n false ho hb hm hs hn hp h = unplain (first ∷ ws) (last (is_plain first))
+    by : (o b i m s n p : Bool) → bytes_eq first (codes "open") ≡ o → bytes_eq first (codes "bits") ≡ b → bytes_eq first (codes "infer") ≡ i → bytes_eq first (codes "maps") ≡ m → bytes_eq first (codes "self") ≡ s → nat_le (length ws) 5 ≡ n → list_all is_plain ws ≡ p
+        → ((o || b || i || m || s) && (n && p)) ≡ false → meaning_of (first ∷ ws) ≡ None
+    by false false false false false n p ho hb hi hm hs hn hp h = meaningless (first ∷ ws) (other_meaning first ws ho hb hi hm hs)
+    by o b i m s false p ho hb hi hm hs hn hp h = meaningless (first ∷ ws) (long_meaning first ws hn)
+    by o b i m s n false ho hb hi hm hs hn hp h = unplain (first ∷ ws) (last (is_plain first))
       where
         last : (q : Bool) → (q && list_all is_plain ws) ≡ false
         last true = hp
         last false = refl
-    by true b m s true true ho hb hm hs hn hp h = let bad : ⊥ = cc in absurd bad
-    by false true m s true true ho hb hm hs hn hp h = let bad : ⊥ = cc in absurd bad
-    by false false true s true true ho hb hm hs hn hp h = let bad : ⊥ = cc in absurd bad
-    by false false false true true true ho hb hm hs hn hp h = let bad : ⊥ = cc in absurd bad
+    by true b i m s true true ho hb hi hm hs hn hp h = let bad : ⊥ = cc in absurd bad
+    by false true i m s true true ho hb hi hm hs hn hp h = let bad : ⊥ = cc in absurd bad
+    by false false true m s true true ho hb hi hm hs hn hp h = let bad : ⊥ = cc in absurd bad
+    by false false false true s true true ho hb hi hm hs hn hp h = let bad : ⊥ = cc in absurd bad
+    by false false false false true true true ho hb hi hm hs hn hp h = let bad : ⊥ = cc in absurd bad

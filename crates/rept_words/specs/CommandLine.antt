@@ -1,4 +1,4 @@
--- The command line as a command of `clap`: four subcommands, whose words go by their places. This
+-- The command line as a command of `clap`: five subcommands, whose words go by their places. This
 -- project's own.
 use Rattle.std.specs.Prelude.{true, Some, codes}
 use Rattle.clap.specs.Words.{App, Rule, Text, new_app, new_rule, with_rule, with_subcommand}
@@ -34,9 +34,9 @@ self_app = with_rule (with_rule (plain_app (codes "self")) (needed (codes "seed"
 abbrev pub bare_app : App
 bare_app = record (new_app (codes "rept")) { top = record (new_app (codes "rept")).top { no_binary_name = true; disable_help_flag = true; disable_help_subcommand = true; subcommand_required = true } }
 
--- with the two subcommands whose words are three files
+-- with the three subcommands whose words are three files
 abbrev pub opening_app : App
-opening_app = with_subcommand (with_subcommand bare_app (files_app (codes "open")).top) (files_app (codes "bits")).top
+opening_app = with_subcommand (with_subcommand (with_subcommand bare_app (files_app (codes "open")).top) (files_app (codes "bits")).top) (files_app (codes "infer")).top
 
 abbrev pub rept_app : App
 rept_app = with_subcommand (with_subcommand opening_app maps_app.top) self_app.top

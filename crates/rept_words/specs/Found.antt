@@ -43,6 +43,7 @@ abbrev pub meaning_after : Text → List Row → Option Meaning
 meaning_after name rows =
     if bytes_eq name (codes "open") then open_by domain.Ranges rows
     else if bytes_eq name (codes "bits") then open_by domain.KnownBits rows
+    else if bytes_eq name (codes "infer") then open_by domain.Inferred rows
     else if bytes_eq name (codes "maps") then maps_by rows
     else made_by rows
 
@@ -52,9 +53,9 @@ found_meaning found = option_and_then (λ p. meaning_after p.0 p.1) found
 
 -- the word names a subcommand
 abbrev pub is_command : Text → Bool
-is_command word = bytes_eq word (codes "open") || bytes_eq word (codes "bits") || bytes_eq word (codes "maps") || bytes_eq word (codes "self")
+is_command word = bytes_eq word (codes "open") || bytes_eq word (codes "bits") || bytes_eq word (codes "infer") || bytes_eq word (codes "maps") || bytes_eq word (codes "self")
 
--- plain words after `open`, `bits`, `maps` or `self`, five of them at most
+-- plain words after `open`, `bits`, `infer`, `maps` or `self`, five of them at most
 abbrev pub is_screened : List (List ℕ) → Bool
 is_screened [] = false
 is_screened (first ∷ words) = is_command first && (nat_le (length words) 5 && list_all is_plain words)

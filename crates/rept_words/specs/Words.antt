@@ -18,8 +18,8 @@ pub record CoreNames : Type 0 where
   pub core : List ℕ
   pub trace : List ℕ
 
--- `open` and `bits` name three files and may name the packet to begin from; `maps` names two, and
--- the same; `self` gives a seed and a count of steps
+-- `open`, `bits` and `infer` name three files and may name the packet to begin from; `maps` names
+-- two, and the same; `self` gives a seed and a count of steps
 pub data Meaning : Type 0 where
   Open : Domain → Names → Option ℕ → Meaning
   Maps : CoreNames → Option ℕ → Meaning
@@ -46,6 +46,7 @@ abbrev pub domain_of : List ℕ → Option Domain
 domain_of first =
     if bytes_eq first (codes "open") then Some domain.Ranges
     else if bytes_eq first (codes "bits") then Some domain.KnownBits
+    else if bytes_eq first (codes "infer") then Some domain.Inferred
     else None
 
 -- the meaning of plain words, by their count and the first of them

@@ -94,13 +94,14 @@ fn with_command<'a>(
     program.subcommand(command?)
 }
 
-/// The command `rept`, with the subcommands `open`, `bits`, `maps` and `self`, whose words go by
-/// their places. It has no help of its own.
+/// The command `rept`, with the subcommands `open`, `bits`, `infer`, `maps` and `self`, whose words
+/// go by their places. It has no help of its own.
 pub fn rept_command<'a>(alloc: Global) -> Result<Command<'a>, OutOfMemory>
     ensures { IfOk result (λ c. app_of c ≡ rept_app) }
 {
     let program = with_command(bare_command(alloc), files_command(alloc, "open"))?;
     let program = with_command(program, files_command(alloc, "bits"))?;
+    let program = with_command(program, files_command(alloc, "infer"))?;
     let program = with_command(program, maps_command(alloc))?;
     with_command(program, self_command(alloc))
 }

@@ -50,7 +50,7 @@ fn is_screened(words: &[String]) -> bool
 fn is_command(word: &str) -> bool
     ensures { result ≡ is_command word.now }
 {
-    word == "open" || word == "bits" || word == "maps" || word == "self"
+    word == "open" || word == "bits" || word == "infer" || word == "maps" || word == "self"
 }
 
 /// Whether each word is plain: not empty, and without a leading hyphen.
@@ -91,6 +91,7 @@ fn asked_after<'a>(name: &str, found: &ArgMatches<'a>) -> Option<Request<'a>>
     match name {
         "open" => opened(Domain::Ranges, found),
         "bits" => opened(Domain::KnownBits, found),
+        "infer" => opened(Domain::Inferred, found),
         "maps" => mapped(found),
         _ => made(found),
     }

@@ -23,13 +23,15 @@ pub enum Domain {
     Ranges,
     /// `bits`: ranges, and the bits that are known of the values in them.
     KnownBits,
+    /// `infer`: those of `bits`, and what follows beyond the report by further rules.
+    Inferred,
 }
 
 /// What the words ask for.
 #[derive(Clone, Copy, Debug)]
 pub enum Request<'a> {
-    /// `open EXE CORE TRACE [FROM]`, or `bits` with the same words: `from` is the number of the
-    /// packet to begin from.
+    /// `open EXE CORE TRACE [FROM]`, or `bits` or `infer` with the same words: `from` is the number
+    /// of the packet to begin from.
     Open {
         domain: Domain,
         names: FileNames<'a>,

@@ -118,7 +118,7 @@ impl Crash {
     ) -> Result<String, AllocError> {
         let words = word_list(alloc, line)?;
         let mut source = MemSource::new(alloc, self.input.as_slice(), self.fails.reads.as_slice())?;
-        let mut sink = MemSink::new(alloc, 4000, self.fails.writes.as_slice())?;
+        let mut sink = MemSink::new(alloc, 8000, self.fails.writes.as_slice())?;
         let status = rept(alloc, words.as_slice(), file_store, &mut source, &mut sink);
         let text = String::from_utf8_lossy(alloc, sink.bytes())?;
         format!(in alloc; "{}\n{text}", status.number())

@@ -19,7 +19,7 @@ pub fn told(alloc: Global, line: &str) -> Result<String, AllocError> {
     let words = words_of(alloc, line);
     let mut file_store = InfallibleFileStore::new(alloc);
     let mut source = InfallibleSource::new(b"regs\n");
-    let mut sink = MemSink::new(alloc, 100, &[])?;
+    let mut sink = MemSink::new(alloc, 200, &[])?;
     let code = answer(alloc, words, &mut file_store, &mut source, &mut sink);
     let text = String::from_utf8_lossy(alloc, sink.bytes())?;
     format!(in alloc; "{code:?}\n{text}")

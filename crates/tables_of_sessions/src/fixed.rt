@@ -8,14 +8,14 @@ ghost use Rattle.rept_report.specs.declared.writer.Writer.TheVariants as writers
 use rept_elf::Symbol;
 use rept_isa::{ImmOp, Instr, Reg, StepRow};
 use rept_partial::Range;
-use rept_reason::{Fact, RangePremise, Reason};
+use rept_reason::{Cell, Fact, RangePremise, Reason};
 use rept_report::{Counts, Writer};
 use rept_session::{Findings, Place, ThreadPlace, ThreadPoint};
 use rept_word::OutOfMemory;
 use std::alloc::{AllocError, Global};
 
 /// The findings: x5 is known from point 1 on, the bytes below address 16 are their addresses, and
-/// the second step may write any byte.
+/// the second step may write any byte. What is known at point 2 was inferred beyond the report.
 #[derive(Drop)]
 pub struct Fixed {
     pub rows: [StepRow; 2],
@@ -29,7 +29,7 @@ impl Findings for Fixed {
     ghost use Rattle.rept_report.specs.declared.writer.Writer.TheVariants as writers;
     ghost use Rattle.rept_session.specs.declared.place.Place.TheVariants as places;
 
-    ghost shown = { λ f. record { threads = 1; process = λ t. 1; rows = λ t. f.rows; end_pc = λ t. 65544; first = λ t. 0; points = 3; point = λ p. record { thread = 0; point = p }; moments = 3; moment = λ p. p; place = λ m. record { thread = 0; place = places.Point m }; register = λ point r. if point == 0 then None else Some 43981; range = λ point r. f.range; note = λ point r. f.note; byte = λ point a. if nat_lt a 16 then Some a else None; writer = λ point a. if nat_lt point 2 then writers.None else writers.MayWrite 1; counts = f.counts; symbol = λ a. if a == 65540 then Some (record { name = 102 ∷ 7 ∷ []; value = 65536 }) else None } };
+    ghost shown = { λ f. record { threads = 1; process = λ t. 1; rows = λ t. f.rows; end_pc = λ t. 65544; first = λ t. 0; points = 3; point = λ p. record { thread = 0; point = p }; moments = 3; moment = λ p. p; place = λ m. record { thread = 0; place = places.Point m }; register = λ point r. if point == 0 then None else Some 43981; range = λ point r. f.range; note = λ point r. f.note; byte = λ point a. if nat_lt a 16 then Some a else None; writer = λ point a. if nat_lt point 2 then writers.None else writers.MayWrite 1; is_inferred = λ p c. p == 2; code = λ a. if a == 65536 then Some 19 else None; counts = f.counts; symbol = λ a. if a == 65540 then Some (record { name = 102 ∷ 7 ∷ []; value = 65536 }) else None } };
 
     ghost reasons = { λ f fact why. Unit {0} };
 
@@ -96,6 +96,10 @@ impl Findings for Fixed {
         }
     }
 
+    fn code(&self, address: u32) -> Option<u8> {
+        if address == 0x10000 { Some(0x13) } else { None }
+    }
+
     fn writer(&self, moment: u32, _address: u32) -> Writer {
         last_writer(moment)
     }
@@ -114,6 +118,10 @@ impl Findings for Fixed {
             found.push(function_at(*address))?;
         }
         Ok(found)
+    }
+
+    fn is_inferred(&self, number: u32, _cell: Cell) -> bool {
+        number == 2
     }
 
     fn why(&mut self, alloc: Global, fact: Fact) -> Result<Option<Reason>, OutOfMemory> {

@@ -298,13 +298,13 @@ returns-in-Err-clause-promise g c =
     (at_some file_store.before.files files (λ fs. c.tell.result ≡ ends.Inconsistent → NoExecution words fs) told (returns-in-Err-clause-impossible g c)))
 
 pub returns-in-Ok-Files-clause-bits : goal.returns-in-Ok-Files-clause-bits
-returns-in-Ok-Files-clause-bits g c = where_told (g.H.FileStore.port c.args.file_store.now).files (BitsKnowMore (map string_bytes c.args.words.now)) (λ files told. bits_know (map string_bytes c.args.words.now) files c.finer_sets_know_more.ensures)
+returns-in-Ok-Files-clause-bits g c = where_told (g.H.FileStore.port c.args.file_store.now).files (BitsKnowMore (map string_bytes c.args.words.now)) (λ files told. bits_know (map string_bytes c.args.words.now) files c.finer_sets_know_more.ensures c.bits_are_finer.ensures)
 
 pub returns-in-Ok-Made-clause-bits : goal.returns-in-Ok-Made-clause-bits
-returns-in-Ok-Made-clause-bits g c = where_told (g.H.FileStore.port c.args.file_store.now).files (BitsKnowMore (map string_bytes c.args.words.now)) (λ files told. bits_know (map string_bytes c.args.words.now) files c.finer_sets_know_more.ensures)
+returns-in-Ok-Made-clause-bits g c = where_told (g.H.FileStore.port c.args.file_store.now).files (BitsKnowMore (map string_bytes c.args.words.now)) (λ files told. bits_know (map string_bytes c.args.words.now) files c.finer_sets_know_more.ensures c.bits_are_finer.ensures)
 
 pub returns-in-Err-clause-bits : goal.returns-in-Err-clause-bits
-returns-in-Err-clause-bits g c = where_told (g.H.FileStore.port c.args.file_store.now).files (BitsKnowMore (map string_bytes c.args.words.now)) (λ files told. bits_know (map string_bytes c.args.words.now) files c.finer_sets_know_more.ensures)
+returns-in-Err-clause-bits g c = where_told (g.H.FileStore.port c.args.file_store.now).files (BitsKnowMore (map string_bytes c.args.words.now)) (λ files told. bits_know (map string_bytes c.args.words.now) files c.finer_sets_know_more.ensures c.bits_are_finer.ensures)
 
 pub returns-in-Ok-Maps-clause-causes : goal.returns-in-Ok-Maps-clause-causes
 returns-in-Ok-Maps-clause-causes g c =
@@ -474,7 +474,7 @@ pub returns-in-Ok-Maps-clause-bits : goal.returns-in-Ok-Maps-clause-bits
 returns-in-Ok-Maps-clause-bits g c =
     let words = map string_bytes c.args.words.now in
     let old = g.H.FileStore.port c.args.file_store.now in
-    where_told old.files (BitsKnowMore words) (λ files told. bits_know words files c.finer_sets_know_more.ensures)
+    where_told old.files (BitsKnowMore words) (λ files told. bits_know words files c.finer_sets_know_more.ensures c.bits_are_finer.ensures)
 
 pub returns-in-Ok-Maps-clause-promise : goal.returns-in-Ok-Maps-clause-promise
 returns-in-Ok-Maps-clause-promise g c =

@@ -1,5 +1,11 @@
+use Rattle.std.proofs.Common.{◌∙◌}
+use Rattle.rept_moments.specs.Seen.{moment_in, seen}
+use Rattle.rept_order.specs.Legs.{number_of}
+use Rattle.rept_report.proofs.Lawful.{lawful}
 use Rattle.rept_trip.specs.Trip.{setting_on}
+use Rattle.rept_trip.proofs.Pointing.{at_point}
 use Rattle.rept_found.specs.Crash.{means, trip_by}
+use Rattle.rept_found.proofs.Chains.{no_circle}
 use Rattle.rept_found.proofs.Tellings.{last_writers}
 use Rattle.rept_found.proofs.Trips.{no_history, trip_true, uses_trip}
 use Rattle.rept_found.proofs.laws.trips_are_true.Goals as goal
@@ -11,6 +17,11 @@ returns-clause-report g c = λ C D K sound some report.
     trip_true m g.met.W.Partial.lawful g.met.W.Transfer.covers C D K sound some (c.reports_are_sound.ensures.report S K (uses_trip m C D sound) report)
     (λ es tracked f why ended is. c.facts_have_reasons.ensures.premises S es tracked f why (uses_trip m C D sound) ended is)
     (λ es tracked f why ended is. c.facts_have_reasons.ensures.ranges S es tracked f why (uses_trip m C D sound) ended is)
+    (λ es tracked f ended rests. no_circle S (lawful S g.W.Partial.sets g.W.Transfer.moves g.R.RowRules.rules g.met.W.Partial.lawful g.met.W.Transfer.covers g.met.R.RowRules.lawful (uses_trip m C D sound)) es ended.trace ended.quiet f rests)
+    (λ t p below few. c.places_are_names.ensures.points C t p below few)
+    (λ t p below few.
+    let at = at_point C sound t p below few in
+    c.points_are_moments.ensures.places C (moment_in (seen C) (number_of C t p)) sound at.within ∙ c.points_are_moments.ensures.points C t p sound below few)
 
 pub returns-clause-conflict : goal.returns-clause-conflict
 returns-clause-conflict g c = λ C D kind sound some has.

@@ -7,4 +7,4 @@ invariant_of-basis g c = record { lined = c.in-Ok.basis.paths.lined; stripped = 
 
 -- there was no memory
 pub returns-in-Err-clause-refused : goal.returns-in-Err-clause-refused
-returns-in-Err-clause-refused g c = λ notes are. inr refl
+returns-in-Err-clause-refused g c = λ notes are. inr (inr refl)

@@ -21,3 +21,11 @@ returns-in-KnownBits-clause-asked g c = λ notes are.
 
 pub returns-in-KnownBits-clause-refused : goal.returns-in-KnownBits-clause-refused
 returns-in-KnownBits-clause-refused g c = λ notes are. in_domain (λ d p. IfErr c.open_by-in-KnownBits.result (HasNoReport p)) c.args.domain domain.KnownBits (crash_of c.args.dump.now notes) c.args.run.now c.in-KnownBits.is (c.open_by-in-KnownBits.ensures.refused notes are)
+
+pub returns-in-Inferred-clause-asked : goal.returns-in-Inferred-clause-asked
+returns-in-Inferred-clause-asked g c = λ notes are.
+    in_domain (λ d p. IfOk c.open_beyond.result (IsAsked g.A.Asking.asks p (move (g.S.Source.port c.args.input.now) (g.S.Source.port c.open_beyond.new.input)) (move (g.K.Sink.port c.args.out.now) (g.K.Sink.port c.open_beyond.new.out))))
+    c.args.domain domain.Inferred (crash_of c.args.dump.now notes) c.args.run.now c.in-Inferred.is (c.open_beyond.ensures.asked notes are)
+
+pub returns-in-Inferred-clause-refused : goal.returns-in-Inferred-clause-refused
+returns-in-Inferred-clause-refused g c = λ notes are. in_domain (λ d p. IfErr c.open_beyond.result (HasNoReport p)) c.args.domain domain.Inferred (crash_of c.args.dump.now notes) c.args.run.now c.in-Inferred.is (c.open_beyond.ensures.refused notes are)

@@ -1,10 +1,10 @@
 use Rattle.std.proofs.Common.{◌≡◌, ◌+◌, ◌-◌, ◌++◌, map}
 use Rattle.std.specs.List.{range_with_len}
 use Rattle.rept_session.specs.Texts.{wrapped}
-use Rattle.rept_stub.specs.Replies.{known_bytes, known_run}
+use Rattle.rept_stub.specs.Replies.{byte_told, known_bytes, known_run}
 use Rattle.rept_stub.proofs.pieces.known_bytes.Given as goal
 
 abbrev pub invariant-loop-i : goal.invariant-loop-i
 invariant-loop-i g l =
     let s = g.F.Findings.shown l.findings in
-    known_bytes s l.moment l.address l.count ≡ l.text ++ known_run (map (λ k. s.byte l.moment (wrapped (l.address + k))) (range_with_len l.i (l.most - l.i)))
+    known_bytes s l.moment l.address l.count ≡ l.text ++ known_run (map (λ k. byte_told s l.moment (wrapped (l.address + k))) (range_with_len l.i (l.most - l.i)))

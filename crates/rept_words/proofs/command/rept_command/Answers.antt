@@ -16,5 +16,6 @@ pub returns : goal.returns
 returns c =
     let opens = added c.files_command.result _ (files_app (codes "open")) _ _ c.bare_command.ensures c.files_command.ensures.app c.in_ok-program.ensures in
     let bits = added c.files_command-2.result _ (files_app (codes "bits")) _ _ opens c.files_command-2.ensures.app c.in_ok-program-2.ensures in
-    let maps = added c.maps_command.result _ maps_app _ _ bits c.maps_command.ensures.app c.in_ok-program-3.ensures in
-    IfOk-weaker c.with_command-4.result _ _ (λ x e. added c.self_command.result _ self_app _ x maps c.self_command.ensures.app e) c.with_command-4.ensures
+    let infers = added c.files_command-3.result _ (files_app (codes "infer")) _ _ bits c.files_command-3.ensures.app c.in_ok-program-3.ensures in
+    let maps = added c.maps_command.result _ maps_app _ _ infers c.maps_command.ensures.app c.in_ok-program-4.ensures in
+    IfOk-weaker c.with_command-5.result _ _ (λ x e. added c.self_command.result _ self_app _ x maps c.self_command.ensures.app e) c.with_command-5.ensures

@@ -1,0 +1,56 @@
+-- What a session tells of a report and of what was inferred beyond it. This project's own.
+use Rattle.std.specs.Prelude.{◌≡◌, ℕ, ◌≤◌, Bool, true, nat_lt, if◌then◌else◌, Option, None, Some, is_some, unwrap_or, bit_and, bit_or}
+use Rattle.std.specs.Option.{option_or}
+use Rattle.rept_infer.specs.Holding.{Holding}
+use Rattle.rept_known.specs.declared.both.Both.{Both}
+use Rattle.rept_known.specs.Both.{both_sets}
+use Rattle.rept_known.specs.BothMoves.{both_moves}
+use Rattle.rept_partial.specs.declared.range.Range.{Range}
+use Rattle.rept_partial.specs.Ranges.{range_meet}
+use Rattle.rept_reason.specs.declared.fact.Cell.{Cell}
+use Rattle.rept_session.specs.Shown.{Shown, known_value}
+
+-- a known value, or else the only one of a set
+abbrev pub value_by : Option ℕ → Option Both → Option ℕ
+value_by (Some v) w = Some v
+value_by None None = None
+value_by None (Some w) = both_sets.as_exact w
+
+-- the words of a range that lie between the bounds of a set, too
+abbrev pub range_by : Range → Option Both → Range
+range_by range None = range
+range_by range (Some w) = unwrap_or (range_meet range w.range) range
+
+-- the bits that the one or the other knows: a mask, and what they are
+abbrev pub joined : ℕ × ℕ → Option (ℕ × ℕ) → ℕ × ℕ
+joined n None = n
+joined n (Some m) = (bit_or n.0 m.0, bit_or n.1 m.1)
+
+-- and with those of a set
+abbrev pub note_by : Option (ℕ × ℕ) → Option Both → Option (ℕ × ℕ)
+note_by note None = note
+note_by None (Some w) = both_moves.note w
+note_by (Some n) (Some w) = Some (joined n (both_moves.note w))
+
+-- What is shown of a report, with the sets of registers narrowed by a holding, and with the bytes
+-- that it tells besides.
+abbrev pub narrowed : Holding → Shown → Shown
+narrowed h s = record s {
+  register = λ p r. value_by (s.register p r) (h.set p r);
+  range = λ p r. range_by (s.range p r) (h.set p r);
+  note = λ p r. note_by (s.note p r) (h.set p r);
+  byte = λ m a. option_or (s.byte m a) (if nat_lt m s.moments then h.byte m a else None);
+  is_inferred = λ m c. if is_some (known_value s m c) then s.is_inferred m c else true;
+}
+
+-- the same where more was inferred; else what is shown of the report
+abbrev pub shown_beyond : Option Holding → Shown → Shown
+shown_beyond None s = s
+shown_beyond (Some h) s = narrowed h s
+
+-- the second knows each value, bound and bit that the first one knows
+pub record TellsAll (s more : Shown) : Type 0 where
+  pub registers : (p r v : ℕ) → s.register p r ≡ Some v → more.register p r ≡ Some v
+  pub ranges : (p r : ℕ) → ((s.range p r).lo ≤ (more.range p r).lo) × ((more.range p r).hi ≤ (s.range p r).hi)
+  pub notes : (p r : ℕ) (n : ℕ × ℕ) → s.note p r ≡ Some n → (m : ℕ × ℕ) × (more.note p r ≡ Some m) × (bit_and n.0 m.0 ≡ n.0)
+  pub bytes : (m a v : ℕ) → s.byte m a ≡ Some v → more.byte m a ≡ Some v

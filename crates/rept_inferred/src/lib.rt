@@ -1,0 +1,9 @@
+//! What is inferred of a crash beyond its report: the findings of a session, narrowed.
+#![tactic(auto)]
+
+mod narrowing;
+mod overlay;
+mod reported;
+
+pub use overlay::InferredCrash;
+pub use reported::Reported;

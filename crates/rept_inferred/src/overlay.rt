@@ -1,0 +1,130 @@
+//! The findings of a report with what was inferred beyond it.
+
+use crate::narrowing::{note_by, range_by, value_by};
+use rept_elf::Symbol;
+use rept_infer::{InferredPath, KnownPath, PathPremises};
+use rept_isa::{Reg, StepRow};
+use rept_partial::Range;
+use rept_reason::{Cell, Fact, Reason};
+use rept_report::{Counts, Writer};
+use rept_session::{Findings, ThreadPlace, ThreadPoint};
+use rept_word::OutOfMemory;
+use std::alloc::Global;
+
+/// The findings of a run that is one path, and what was inferred of the path beyond them. What is
+/// told of registers and bytes is narrowed; all else is that of the findings. A value that only was
+/// inferred has no reason.
+#[derive(Drop)]
+pub struct InferredCrash<'a, F: Findings, K: KnownPath, P: PathPremises> {
+    pub found: F,
+    pub inferred: InferredPath<'a, K, P>,
+}
+
+impl<'a, F: Findings, K: KnownPath, P: PathPremises> Findings for InferredCrash<'a, F, K, P> {
+    ghost use Rattle.rept_infer.specs.Path.{path_reader, told_in};
+    ghost use Rattle.rept_inferred.specs.Narrowed.{narrowed};
+
+    ghost shown = { λ f. narrowed (told_in (path_reader K.set K.byte P.premises) f.inferred) (F.shown f.found) };
+
+    ghost reasons = { λ f fact why. F.reasons f.found fact why };
+
+    fn threads(&self) -> u32 {
+        self.found.threads()
+    }
+
+    fn process(&self, thread: u32) -> u32 {
+        self.found.process(thread)
+    }
+
+    fn rows(&self, thread: u32) -> &[StepRow] {
+        self.found.rows(thread)
+    }
+
+    fn end_pc(&self, thread: u32) -> u32 {
+        self.found.end_pc(thread)
+    }
+
+    fn first(&self, thread: u32) -> u32 {
+        self.found.first(thread)
+    }
+
+    fn points(&self) -> u32 {
+        self.found.points()
+    }
+
+    fn point(&self, number: u32) -> ThreadPoint {
+        self.found.point(number)
+    }
+
+    fn moment(&self, point: u32) -> u32 {
+        self.found.moment(point)
+    }
+
+    fn place(&self, moment: u32) -> ThreadPlace {
+        self.found.place(moment)
+    }
+
+    fn reg(&self, point: u32, register: Reg) -> Option<u32> {
+        value_by(
+            self.found.reg(point, register),
+            self.inferred.set(point, register),
+        )
+    }
+
+    fn range(&self, point: u32, register: Reg) -> Range {
+        range_by(
+            self.found.range(point, register),
+            self.inferred.set(point, register),
+        )
+    }
+
+    fn note(&self, point: u32, register: Reg) -> Option<(u32, u32)> {
+        note_by(
+            self.found.note(point, register),
+            self.inferred.set(point, register),
+        )
+    }
+
+    fn byte(&self, moment: u32, address: u32) -> Option<u8> {
+        match self.found.byte(moment, address) {
+            Some(value) => Some(value),
+            None => self.inferred.byte(moment, address),
+        }
+    }
+
+    fn code(&self, address: u32) -> Option<u8> {
+        self.found.code(address)
+    }
+
+    fn writer(&self, moment: u32, address: u32) -> Writer {
+        self.found.writer(moment, address)
+    }
+
+    fn counts(&self) -> Counts {
+        self.found.counts()
+    }
+
+    fn symbols(
+        &self,
+        alloc: Global,
+        addresses: &[u32],
+    ) -> Result<Vec<Option<Symbol<'_>>>, OutOfMemory> {
+        self.found.symbols(alloc, addresses)
+    }
+
+    fn is_inferred(&self, number: u32, cell: Cell) -> bool {
+        let known = match cell {
+            Cell::Register(register) => self.found.reg(number, register).is_some(),
+            Cell::Byte(address) => self.found.byte(number, address).is_some(),
+        };
+        if known {
+            self.found.is_inferred(number, cell)
+        } else {
+            true
+        }
+    }
+
+    fn why(&mut self, alloc: Global, fact: Fact) -> Result<Option<Reason>, OutOfMemory> {
+        self.found.why(alloc, fact)
+    }
+}

@@ -1,0 +1,199 @@
+//! From a run that is one path to what is asked of its report and of what is inferred beyond it.
+
+ghost use Rattle.std.specs.Prelude.{◌≡◌, ℕ, List, Some, IfOk, IfErr};
+ghost use Rattle.std.specs.Option.{option_map};
+ghost use Rattle.rept_elf.specs.Image.{file_of, segments_of};
+ghost use Rattle.rept_dump.specs.Dump.{core_of, exe_of};
+ghost use Rattle.rept_ports.specs.Port.{move};
+ghost use Rattle.rept_steps.specs.Runs.{course_of};
+ghost use Rattle.rept_moments.specs.Courses.{IsCourseOf};
+ghost use Rattle.rept_runs.specs.Kind.{path_rows};
+ghost use Rattle.rept_known.specs.Both.{both_sets};
+ghost use Rattle.rept_known.specs.BothMoves.{both_moves};
+ghost use Rattle.rept_found.specs.Crash.{crash_of, means, means_beyond};
+ghost use Rattle.rept_amo.specs.Atomic.{atomic_rules};
+ghost use Rattle.rept_infer.specs.Admitted.{IsAdmitted};
+ghost use Rattle.rept_infer.specs.Holding.{Holds};
+ghost use Rattle.rept_infer.specs.Path.{path_reader, told_in};
+ghost use Rattle.rept_machine.specs.State.{State};
+ghost use Rattle.rept_inferred.specs.Narrowed.{narrowed};
+ghost use Rattle.rept_session.specs.Shown.{session_told};
+ghost use Rattle.rept_opening.specs.Beyond.{executable_of, story_of};
+ghost use Rattle.rept_opening.specs.Opened.{crash_run};
+ghost use Rattle.rept_opening.specs.Reading.{AreNotesOf};
+ghost use Rattle.rept_opening.specs.Report.{AreEndsOf, HasNoReport, IsAsked, IsFoundOf};
+ghost use Rattle.rept_opening.specs.TraceRun.{FitsDump};
+
+use crate::analysis::{Basis, analyse, basis_of};
+use crate::answering::{Asking, Circumstances, open_by};
+use crate::dumping::CrashImages;
+use crate::premises::{CrashPremises, begun_program};
+use crate::refusal::Refusal;
+use rept_amo::Atomic;
+use rept_dump::Dump;
+use rept_found::{AnalysedCrash, reports_are_true};
+use rept_infer::{InferPath, InferStop, InferredPath, KnownPath, PathPremises, infer};
+use rept_inferred::{InferredCrash, Reported};
+use rept_known::Both;
+use rept_moments::one_path;
+use rept_ports::{Sink, Source};
+use rept_session::Findings;
+use rept_span::Transfer;
+use rept_steps::{Run, Steps};
+use std::alloc::Global;
+
+/// Analyses a run, infers more beyond its report where it is one path, and answers what is asked.
+pub fn open_beyond<A: Asking, S: Source, K: Sink>(
+    alloc: Global,
+    run: &Run,
+    dump: &Dump<'_>,
+    images: CrashImages<'_>,
+    input: &mut S,
+    out: &mut K,
+) -> Result<A, Refusal>
+    requires fits { FitsDump dump.now run.now }
+    requires core { segments_of images.core ≡ core_of dump.now }
+    requires exe { option_map file_of images.executable ≡ executable_of (exe_of dump.now) }
+    ensures asked { (notes : List (List ℕ)) → AreNotesOf dump.now notes → IfOk result (IsAsked A.asks (crash_run (means_beyond (means both_sets both_moves atomic_rules)) (crash_of dump.now notes) run.now) (move (S.port input.old) (S.port input.new)) (move (K.port out.old) (K.port out.new))) }
+    ensures refused { (notes : List (List ℕ)) → AreNotesOf dump.now notes → IfErr result (HasNoReport (crash_run (means_beyond (means both_sets both_moves atomic_rules)) (crash_of dump.now notes) run.now)) }
+    ensures unread { IfErr result (λ _. (input.new ≡ input.old) × (out.new ≡ out.old)) }
+{
+    let Some(steps) = one_path(run) else {
+        return open_by::<Both, A, S, K>(alloc, run, dump, input, out);
+    };
+    match basis_of(alloc, run, dump) {
+        Ok(basis) => {
+            let path = PathCrash {
+                run,
+                steps,
+                basis: &basis,
+                dump,
+                images,
+            };
+            open_path::<A, S, K>(alloc, path, input, out)
+        }
+        Err(_) => Err(Refusal::OutOfMemory),
+    }
+}
+
+/// A run that is one path, its steps, what its analysis rests on, the dump in which it ends, and the
+/// files of that.
+#[derive(Clone, Copy)]
+struct PathCrash<'a> {
+    run: &'a Run,
+    steps: &'a Steps,
+    basis: &'a Basis<'a>,
+    dump: &'a Dump<'a>,
+    images: CrashImages<'a>,
+}
+
+/// Analyses the path, infers more beyond its report, and answers what is asked.
+fn open_path<A: Asking, S: Source, K: Sink>(
+    alloc: Global,
+    path: PathCrash<'_>,
+    input: &mut S,
+    out: &mut K,
+) -> Result<A, Refusal>
+    requires fits { FitsDump path.dump.now path.run.now }
+    requires course { IsCourseOf (course_of path.run.now) path.basis.now.paths.ways }
+    requires ended { AreEndsOf path.dump.now path.run.now path.basis.now.ends }
+    requires one { path_rows path.run.now ≡ Some path.steps.now }
+    requires core { segments_of path.images.core ≡ core_of path.dump.now }
+    requires exe { option_map file_of path.images.executable ≡ executable_of (exe_of path.dump.now) }
+    ensures asked { (notes : List (List ℕ)) → AreNotesOf path.entry.dump.now notes → IfOk result (IsAsked A.asks (crash_run (means_beyond (means both_sets both_moves atomic_rules)) (crash_of path.entry.dump.now notes) path.entry.run.now) (move (S.port input.old) (S.port input.new)) (move (K.port out.old) (K.port out.new))) }
+    ensures refused { (notes : List (List ℕ)) → AreNotesOf path.entry.dump.now notes → IfErr result (HasNoReport (crash_run (means_beyond (means both_sets both_moves atomic_rules)) (crash_of path.entry.dump.now notes) path.entry.run.now)) }
+    ensures unread { IfErr result (λ _. (input.new ≡ input.old) × (out.new ≡ out.old)) }
+{
+    match analyse::<Both>(alloc, path.run, path.basis, path.dump) {
+        Ok(known) => open_known::<A, S, K>(alloc, path, &known, input, out),
+        Err(refusal) => Err(refusal),
+    }
+}
+
+/// Infers more beyond a report of the path, and answers what is asked.
+fn open_known<A: Asking, S: Source, K: Sink>(
+    alloc: Global,
+    path: PathCrash<'_>,
+    known: &AnalysedCrash<'_, Both, Atomic>,
+    input: &mut S,
+    out: &mut K,
+) -> Result<A, Refusal>
+    requires fits { FitsDump path.dump.now path.run.now }
+    requires course { IsCourseOf (course_of path.run.now) path.basis.now.paths.ways }
+    requires ended { AreEndsOf path.dump.now path.run.now path.basis.now.ends }
+    requires one { path_rows path.run.now ≡ Some path.steps.now }
+    requires core { segments_of path.images.core ≡ core_of path.dump.now }
+    requires exe { option_map file_of path.images.executable ≡ executable_of (exe_of path.dump.now) }
+    requires found { (notes : List (List ℕ)) → AreNotesOf path.dump.now notes → IsFoundOf (crash_run (means both_sets both_moves atomic_rules) (crash_of path.dump.now notes) path.run.now) known.now }
+    ensures asked { (notes : List (List ℕ)) → AreNotesOf path.entry.dump.now notes → IfOk result (IsAsked A.asks (crash_run (means_beyond (means both_sets both_moves atomic_rules)) (crash_of path.entry.dump.now notes) path.entry.run.now) (move (S.port input.old) (S.port input.new)) (move (K.port out.old) (K.port out.new))) }
+    ensures refused { (notes : List (List ℕ)) → AreNotesOf path.entry.dump.now notes → IfErr result (HasNoReport (crash_run (means_beyond (means both_sets both_moves atomic_rules)) (crash_of path.entry.dump.now notes) path.entry.run.now)) }
+    ensures unread { IfErr result (λ _. (input.new ≡ input.old) × (out.new ≡ out.old)) }
+{
+    reports_are_true::<Both, Atomic>();
+    let reported = Reported { found: known };
+    let steps = path.steps.rows();
+    let premises = CrashPremises {
+        dump: path.dump,
+        core: path.images.core,
+        pid: path.dump.status().pid,
+        begun: begun_program(path.images.executable, path.run.skipped, steps),
+    };
+    let rows = InferPath {
+        rows: steps,
+        image_end: path.dump.image_end(),
+    };
+    match infer(alloc, rows, &reported, &premises) {
+        Ok(inferred) => ask_beyond::<Both, A, _, _, S, K>(alloc, path, inferred, input, out),
+        Err(InferStop::Contradiction(empty)) => Err(Refusal::Refuted {
+            point: empty.point,
+            reg: empty.reg,
+        }),
+        Err(InferStop::OutOfMemory) => Err(Refusal::OutOfMemory),
+    }
+}
+
+/// Answers what is asked of the report of the path and of what was inferred beyond it. The report
+/// is made anew: what was inferred borrows the one from which it follows, and a reason of a fact
+/// changes the report that tells it.
+fn ask_beyond<W: Transfer, A: Asking, P: KnownPath, Q: PathPremises, S: Source, K: Sink>(
+    alloc: Global,
+    path: PathCrash<'_>,
+    inferred: InferredPath<'_, P, Q>,
+    input: &mut S,
+    out: &mut K,
+) -> Result<A, Refusal>
+    requires fits { FitsDump path.dump.now path.run.now }
+    requires course { IsCourseOf (course_of path.run.now) path.basis.now.paths.ways }
+    requires ended { AreEndsOf path.dump.now path.run.now path.basis.now.ends }
+    requires one { path_rows path.run.now ≡ Some path.steps.now }
+    requires holds { (notes : List (List ℕ)) → AreNotesOf path.dump.now notes → (states : ℕ → State) → IsAdmitted (story_of (crash_of path.dump.now notes) path.run.now.skipped path.steps.now) states → Holds (story_of (crash_of path.dump.now notes) path.run.now.skipped path.steps.now) (told_in (path_reader P.set P.byte Q.premises) inferred) states }
+    ensures asked { (notes : List (List ℕ)) → AreNotesOf path.entry.dump.now notes → IfOk result (IsAsked A.asks (crash_run (means_beyond (means W.sets W.moves atomic_rules)) (crash_of path.entry.dump.now notes) path.entry.run.now) (move (S.port input.old) (S.port input.new)) (move (K.port out.old) (K.port out.new))) }
+    ensures refused { (notes : List (List ℕ)) → AreNotesOf path.entry.dump.now notes → IfErr result (HasNoReport (crash_run (means_beyond (means W.sets W.moves atomic_rules)) (crash_of path.entry.dump.now notes) path.entry.run.now)) }
+    ensures unread { IfErr result (λ _. (input.new ≡ input.old) × (out.new ≡ out.old)) }
+{
+    match analyse::<W>(alloc, path.run, path.basis, path.dump) {
+        Ok(found) => {
+            let circumstances = Circumstances {
+                skipped: path.run.skipped,
+                signal: path.dump.status().signal,
+            };
+            Ok(ask_narrowed(alloc, found, inferred, circumstances, input, out))
+        }
+        Err(refusal) => Err(refusal),
+    }
+}
+
+/// Answers by findings with what was inferred beyond them.
+fn ask_narrowed<A: Asking, F: Findings + Drop, P: KnownPath, Q: PathPremises, S: Source, K: Sink>(
+    alloc: Global,
+    found: F,
+    inferred: InferredPath<'_, P, Q>,
+    circumstances: Circumstances,
+    input: &mut S,
+    out: &mut K,
+) -> A
+    ensures { A.asks (session_told (narrowed (told_in (path_reader P.set P.byte Q.premises) inferred.entry) (F.shown found)) circumstances.skipped (F.reasons found)) circumstances.signal (move (S.port input.old) (S.port input.new)) (move (K.port out.old) (K.port out.new)) result }
+{
+    let mut findings = InferredCrash { found, inferred };
+    A::ask(alloc, &mut findings, circumstances, input, out)
+}

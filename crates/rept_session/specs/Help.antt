@@ -1,0 +1,36 @@
+-- What `help` answers. This project's own.
+use Rattle.std.specs.Prelude.{ℕ, List, [], ◌∷◌, ◌++◌, codes}
+
+-- a line for each command, and for each `? N`
+unfoldable pub help_text : List ℕ
+help_text =
+    codes "where         the cursor, and the address there" ++ 10 ∷ []
+    ++ codes "goto I        moves the cursor to point I" ++ 10 ∷ []
+    ++ codes "back K        moves it K points down" ++ 10 ∷ []
+    ++ codes "fwd K         moves it K points up" ++ 10 ∷ []
+    ++ codes "thread T      moves it to the last point of thread T" ++ 10 ∷ []
+    ++ codes "at            the step at the cursor, what it reads and what it writes" ++ 10 ∷ []
+    ++ codes "around [K]    the steps so near to the cursor; K is 3 if not given" ++ 10 ∷ []
+    ++ codes "list [I [K]]  K steps from step I on; alone the last 16 before the cursor" ++ 10 ∷ []
+    ++ codes "stack         the calls that the thread is in" ++ 10 ∷ []
+    ++ codes "reg R         the value of a register; of pc the address" ++ 10 ∷ []
+    ++ codes "regs          the values of x1 to x31" ++ 10 ∷ []
+    ++ codes "range R       the lowest and the highest value of a register" ++ 10 ∷ []
+    ++ codes "mem A [LEN]   LEN bytes from address A on, 16 if not given" ++ 10 ∷ []
+    ++ codes "writer A      the last writer of the byte at address A" ++ 10 ∷ []
+    ++ codes "writers A     the steps that wrote it or may have, by instruction" ++ 10 ∷ []
+    ++ codes "why R         why a register has its value" ++ 10 ∷ []
+    ++ codes "why A         why the byte at address A has its value" ++ 10 ∷ []
+    ++ codes "from R        the steps that the value of register R came from" ++ 10 ∷ []
+    ++ codes "from A        the steps that the byte at address A came from" ++ 10 ∷ []
+    ++ codes "visits A      the points at which the path is at address A" ++ 10 ∷ []
+    ++ codes "find R V      the points at which register R is known to be V" ++ 10 ∷ []
+    ++ codes "summary       how much is known" ++ 10 ∷ []
+    ++ codes "help          these lines" ++ 10 ∷ []
+    ++ codes "quit          ends the session" ++ 10 ∷ []
+    ++ codes "? 1           no such command" ++ 10 ∷ []
+    ++ codes "? 2           a word is no number" ++ 10 ∷ []
+    ++ codes "? 3           the command takes more words, or fewer" ++ 10 ∷ []
+    ++ codes "? 4           a word is no register" ++ 10 ∷ []
+    ++ codes "? 5           a number is past its limit" ++ 10 ∷ []
+    ++ codes "? 6           the line has more than 256 bytes" ++ 10 ∷ []

@@ -1,0 +1,33 @@
+//! Questions that leave the cursor where it is and want no reason.
+
+use rept_isa::Reg;
+
+/// What a line asks of the path, and of what is known at its points.
+#[derive(Clone, Copy, Debug)]
+pub enum Question {
+    /// `at`: tells the step at the cursor, with the values of its registers.
+    At,
+    /// `around K`: tells so many steps to each side as well, 3 where no number is given.
+    Around(u32),
+    /// `visits A`: tells at which points the path is at an address.
+    Visits(u32),
+    /// `find R V`: tells at which points a register is known to have a value.
+    Find {
+        /// the register
+        register: Reg,
+        /// its value
+        value: u32,
+    },
+    /// `reg pc`: tells the address at the cursor.
+    Pc,
+    /// `list`: tells the last 16 steps before the cursor.
+    Recent,
+    /// `from R`: tells where the value of a register came from.
+    FromRegister(Reg),
+    /// `from A`: tells where the byte at an address came from.
+    FromByte(u32),
+    /// `writers A`: tells the steps that wrote the byte at an address, or may have, by instruction.
+    Writers(u32),
+    /// `help`: tells the commands, and what each `? N` means.
+    Help,
+}
