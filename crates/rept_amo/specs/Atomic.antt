@@ -1,5 +1,5 @@
 -- The rules of RV32IMA as one record of functions.
-use Rattle.rept_view.specs.Rules.{Rules}
+use Rattle.rept_reason.specs.View.Rules.{Rules}
 use Rattle.rept_rules.specs.MayWrite.{instr_may_write, tells_writes}
 use Rattle.rept_amo.specs.Conclusions.{form_of}
 use Rattle.rept_amo.specs.Listing.{inferred_of}

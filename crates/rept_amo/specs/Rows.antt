@@ -2,8 +2,8 @@
 -- this project's own; what the instructions do is in the RISC-V unprivileged manual 20191213.
 use Rattle.std.specs.Prelude.{Option, Some, None}
 use Rattle.rept_isa.specs.declared.row.StepRow.{StepRow}
-use Rattle.rept_view.specs.declared.inferred.Conclusion.{Conclusion}
-use Rattle.rept_view.specs.Seen.{Seen}
+use Rattle.rept_reason.specs.declared.view.inferred.Conclusion.{Conclusion}
+use Rattle.rept_reason.specs.View.Seen.{Seen}
 use Rattle.rept_rules.specs.Conclusions.{ConcludesByRow as ConcludesByBase}
 use Rattle.rept_amo.specs.declared.form.Form.{Form}
 use Rattle.rept_amo.specs.Conclusions.{AtomicConcludes, form_of}

@@ -6,8 +6,8 @@ use Rattle.rept_isa.specs.declared.instr.AmoOp.{AmoOp}
 use Rattle.rept_isa.specs.declared.instr.AmoOp.TheVariants as atomic
 use Rattle.rept_isa.specs.declared.row.StepRow.{StepRow}
 use Rattle.rept_amo.specs.declared.form.Form.{Form}
-use Rattle.rept_view.specs.declared.inferred.When.TheVariants.{Before, After}
-use Rattle.rept_view.specs.Seen.{Seen}
+use Rattle.rept_reason.specs.declared.view.inferred.When.TheVariants.{Before, After}
+use Rattle.rept_reason.specs.View.Seen.{Seen}
 use Rattle.rept_rules.specs.MayWrite as base
 
 -- an SC is known to have succeeded: its answer is 0, in another register than x0

@@ -1,7 +1,7 @@
 //! The rules of RV32IMA.
 
 ghost use Rattle.std.specs.Prelude.{◌≡◌, ℕ, ◌+◌, ◌++◌, ◌^◌, ◌<◌, min, Contains, Some};
-ghost use Rattle.rept_view.specs.declared.inferred.Conclusion.{Conclusion};
+ghost use Rattle.rept_reason.specs.declared.view.inferred.Conclusion.{Conclusion};
 ghost use Rattle.rept_amo.specs.Conclusions.{AtomicConcludes, form_of};
 ghost use Rattle.rept_amo.specs.Listing.{inferred_of, access_inferred};
 ghost use Rattle.rept_amo.specs.Needs.{needs_at};
@@ -16,10 +16,10 @@ use crate::sure::{is_sure, places_by};
 use rept_alias::CallAccess;
 use rept_isa::StepRow;
 use rept_partial::Flat;
+use rept_reason::{Conclusion, Premise, RegisterAt, RowRules, RowView, When};
 use rept_rules::Base;
 use rept_rules::infer::Conclusions;
 use rept_rules::rest::Needs;
-use rept_view::{Conclusion, Premise, RegisterAt, RowRules, RowView, When};
 use smallvec::SmallVec;
 use std::alloc::Global;
 

@@ -5,7 +5,7 @@ ghost use Rattle.rept_amo.specs.Conclusions.{form_of, word_before, word_after, w
 
 use crate::number;
 use rept_isa::{AmoOp, Instr, Reg};
-use rept_view::When;
+use rept_reason::When;
 
 /// The operation and the registers of an atomic instruction.
 #[derive(Clone, Copy)]

@@ -4,7 +4,7 @@ ghost use Rattle.std.specs.Prelude.{◌≡◌, ◌+◌, ◌<◌, ◌≤◌, ◌^
 ghost use Rattle.smallvec.specs.SmallVec.{HasRoomFor};
 ghost use Rattle.rept_partial.specs.declared.flat.Flat.{Flat};
 ghost use Rattle.rept_machine.specs.Arithmetic.{combined};
-ghost use Rattle.rept_view.specs.declared.inferred.When.TheVariants.{Before, After};
+ghost use Rattle.rept_reason.specs.declared.view.inferred.When.TheVariants.{Before, After};
 ghost use Rattle.rept_rules.specs.Operands.{less};
 ghost use Rattle.rept_amo.specs.Conclusions.{word_before, word_after, word_stored, undone};
 ghost use Rattle.rept_amo.specs.Listing.{bytes_inferred, word_inferred, from_both, word_there, word_left, source_of, answer_of, read_inferred, written_inferred, source_back, source_inferred, word_back_inferred, operation_inferred, if_success, stored_inferred, inferred_by};
@@ -14,10 +14,9 @@ use crate::number;
 use rept_isa::AmoOp;
 use rept_machine::arithmetic::combined;
 use rept_partial::Flat;
-use rept_reason::Cell;
+use rept_reason::{Cell, Conclusion, RowView, When};
 use rept_rules::infer::{Conclusions, infer_register};
 use rept_rules::look::{destination_after, word_from};
-use rept_view::{Conclusion, RowView, When};
 
 /// The four bytes of a word.
 fn infer_bytes(inferred: &mut Conclusions, word: &WordInferred)

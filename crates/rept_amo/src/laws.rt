@@ -3,8 +3,8 @@
 
 ghost use Rattle.std.specs.Prelude.{◌↔◌, Contains};
 ghost use Rattle.rept_isa.specs.declared.row.StepRow.{StepRow};
-ghost use Rattle.rept_view.specs.declared.inferred.Conclusion.{Conclusion};
-ghost use Rattle.rept_view.specs.Seen.{Seen};
+ghost use Rattle.rept_reason.specs.declared.view.inferred.Conclusion.{Conclusion};
+ghost use Rattle.rept_reason.specs.View.Seen.{Seen};
 ghost use Rattle.rept_amo.specs.Atomic.{atomic_rules};
 ghost use Rattle.rept_amo.specs.Rows.{RowConcludes};
 

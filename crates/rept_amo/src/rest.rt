@@ -7,8 +7,8 @@ ghost use Rattle.rept_amo.specs.Needs.{source_needs, access_needs};
 use crate::form::AtomicAccess;
 use crate::number;
 use rept_isa::AmoOp;
+use rept_reason::When;
 use rept_rules::rest::{Needs, need_both, need_bytes, need_register};
-use rept_view::When;
 
 /// The words that the source rests on.
 fn need_words(needs: &mut Needs, op: AmoOp, base: u32)

@@ -6,8 +6,8 @@ ghost use Rattle.rept_amo.specs.Writes.{form_is_sure, has_succeeded, is_done, pl
 use crate::form::Form;
 use rept_isa::{AmoOp, Reg, StepRow};
 use rept_partial::Flat;
+use rept_reason::{RowView, When};
 use rept_rules::look::is_known;
-use rept_view::{RowView, When};
 
 /// Whether an SC is known to have succeeded: its answer is 0, in another register than x0.
 fn has_succeeded<V: RowView>(rd: Reg, view: &V) -> bool

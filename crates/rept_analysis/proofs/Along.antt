@@ -1,11 +1,11 @@
 -- What is known of rows and moments.
 use Rattle.std.proofs.Common.{◌≡◌, ℕ, ◌<◌, ◌≤◌, Option, Some, None, IfSome, refl, sym, arith}
-use Rattle.rept_view.specs.declared.inferred.When.{When}
+use Rattle.rept_reason.specs.declared.view.inferred.When.{When}
 use Rattle.rept_report.specs.Views.{moment_of}
 use Rattle.rept_report.specs.Timeline.{Timeline, IsTimeline, IsLastFrom}
 use Rattle.rept_span.specs.Ranges.{Legs, AreLegs}
 use Rattle.std.specs.Option.{IsSome}
-use Rattle.rept_view.specs.declared.inferred.When.TheVariants.{Before, After}
+use Rattle.rept_reason.specs.declared.view.inferred.When.TheVariants.{Before, After}
 use Rattle.rept_isa.specs.declared.row.StepRow.{StepRow}
 
 -- a row isn't both there and not

@@ -9,7 +9,7 @@ use Rattle.rept_reason.specs.declared.fact.Cell.TheVariants.{Byte}
 use Rattle.rept_reason.specs.Facts.{Knowledge, IsCell, In, told, register_known}
 use Rattle.rept_span.specs.Ranges.{range}
 use Rattle.rept_span.specs.Filled.{entry_at}
-use Rattle.rept_view.specs.Seen.{Seen}
+use Rattle.rept_reason.specs.View.Seen.{Seen}
 use Rattle.rept_report.specs.declared.writer.Writer.{Writer}
 use Rattle.rept_report.specs.declared.writer.Writer as writers
 use Rattle.rept_report.specs.Setting.{Setting, HasLaws, IsInstant, way_of}

@@ -10,7 +10,7 @@ use Rattle.rept_alias.specs.declared.addresses.CallAccess.{CallAccess}
 use Rattle.rept_reason.specs.declared.fact.Cell.{Cell}
 use Rattle.rept_reason.specs.declared.fact.Cell.TheVariants.{Register}
 use Rattle.rept_span.proofs.Filling.{set_here, set_elsewhere}
-use Rattle.rept_reach.specs.Reaching.{IsExtent}
+use Rattle.rept_report.specs.Reach.Reaching.{IsExtent}
 use Rattle.rept_writing.specs.Hits.{AreInOrder}
 use Rattle.rept_writing.specs.declared.list.Writing.{Writing}
 use Rattle.rept_report.specs.Setting.{HasLaws}

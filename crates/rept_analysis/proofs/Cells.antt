@@ -7,10 +7,10 @@ use Rattle.rept_isa.specs.Numbers.{plus, beside}
 use Rattle.rept_isa.specs.Operands.{first_read, second_read, written_by}
 use Rattle.rept_reason.specs.declared.fact.Cell.{Cell}
 use Rattle.rept_reason.specs.declared.fact.Cell.TheVariants.{Register, Byte}
-use Rattle.rept_view.specs.declared.inferred.When.{When}
-use Rattle.rept_view.specs.declared.inferred.When.TheVariants.{Before, After}
-use Rattle.rept_view.specs.Seen.{Seen, seen_cell}
-use Rattle.rept_view.specs.Rules.{Rules, offset_of, IsRowByte, IsRowCell}
+use Rattle.rept_reason.specs.declared.view.inferred.When.{When}
+use Rattle.rept_reason.specs.declared.view.inferred.When.TheVariants.{Before, After}
+use Rattle.rept_reason.specs.View.Seen.{Seen, seen_cell}
+use Rattle.rept_reason.specs.View.Rules.{Rules, offset_of, IsRowByte, IsRowCell}
 use Rattle.rept_analysis.specs.Sums.{one_if}
 use Rattle.rept_analysis.specs.Cells.{operand_known, byte_known, base_known, bytes_from, bytes_known, cells_known}
 use Rattle.rept_analysis.proofs.Sums.{sum_le, sum_less}

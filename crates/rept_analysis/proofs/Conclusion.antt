@@ -7,7 +7,7 @@ use Rattle.rept_reason.specs.declared.fact.Cell.{Cell}
 use Rattle.rept_report.specs.Setting.{IsInstant}
 use Rattle.rept_analysis.specs.State.{AnalysisState, Subject, all_known, along}
 use Rattle.std.proofs.lemmas.Option.{slice_get-get_or, slice_get_within}
-use Rattle.rept_view.specs.declared.inferred.Conclusion.{Conclusion}
+use Rattle.rept_reason.specs.declared.view.inferred.Conclusion.{Conclusion}
 use Rattle.rept_report.proofs.Told.{same_some}
 use Rattle.rept_report.specs.Why.{fact_of}
 use Rattle.rept_analysis.specs.Inferring.{Knows, IsTracked, Grows, HasNews, HasInferred, IsFollowing, IsClash, KnowsInferred, InferredBelow, IsConclusion, AreConclusions, IsUncut, IsRowClosed}

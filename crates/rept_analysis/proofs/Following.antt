@@ -19,11 +19,11 @@ use Rattle.rept_reason.specs.Facts.{Knowledge, told, flat, register_known}
 use Rattle.rept_span.specs.Ranges.{Legs, range}
 use Rattle.rept_span.specs.Filled.{entry_at}
 use Rattle.rept_span.proofs.RangeLaws.{HasIn}
-use Rattle.rept_view.specs.declared.inferred.When.{When}
-use Rattle.rept_view.specs.declared.inferred.When.TheVariants.{Before, After}
-use Rattle.rept_view.specs.declared.inferred.Conclusion.{Conclusion}
-use Rattle.rept_view.specs.Seen.{Seen, KnowsMore, seen_cell}
-use Rattle.rept_view.specs.Rules.{offset_of, IsRowByte, IsRowCell, Rules}
+use Rattle.rept_reason.specs.declared.view.inferred.When.{When}
+use Rattle.rept_reason.specs.declared.view.inferred.When.TheVariants.{Before, After}
+use Rattle.rept_reason.specs.declared.view.inferred.Conclusion.{Conclusion}
+use Rattle.rept_reason.specs.View.Seen.{Seen, KnowsMore, seen_cell}
+use Rattle.rept_reason.specs.View.Rules.{offset_of, IsRowByte, IsRowCell, Rules}
 use Rattle.rept_log.specs.Around.{around, around_lawful}
 use Rattle.rept_report.specs.Setting.{HasLaws, IsLast, IsInstant, way_of}
 use Rattle.rept_report.specs.Timeline.{IsLastFrom}

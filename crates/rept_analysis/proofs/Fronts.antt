@@ -22,7 +22,7 @@ use Rattle.rept_report.proofs.Implied.{known_stands}
 use Rattle.rept_isa.specs.declared.row.StepRow.{StepRow}
 use Rattle.rept_partial.specs.Sets.{Sets}
 use Rattle.rept_span.specs.Moves.{Moves}
-use Rattle.rept_view.specs.Rules.{Rules}
+use Rattle.rept_reason.specs.View.Rules.{Rules}
 use Rattle.rept_versions.specs.Facts.{Store}
 use Rattle.rept_log.specs.Fronts.{FrontView, Stored, IsFront, basis_of, front_of, stands}
 use Rattle.rept_analysis.specs.State.{AnalysisState, Whole, Reader, setting_of, state_of, with_infers, along}

@@ -14,8 +14,8 @@ use Rattle.rept_report.specs.Setting.{HasLaws}
 use Rattle.rept_analysis.specs.Kept.{IsKept}
 use Rattle.rept_analysis.specs.State.{AnalysisState, Subject, timeline_of, along}
 use Rattle.rept_analysis.proofs.Spreading.{bridged_still}
-use Rattle.rept_reach.specs.Reaching.{IsLeaving}
-use Rattle.rept_reach.specs.declared.reaches.NumberWindow.{NumberWindow}
+use Rattle.rept_report.specs.Reach.Reaching.{IsLeaving}
+use Rattle.rept_report.specs.declared.reach.reaches.NumberWindow.{NumberWindow}
 use Rattle.rept_analysis.specs.Inferring.{Knows, Grows, IsCalm, IsCarriedFrom, IsCarriedIf, IsBridged, IsSparedBetween, IsBlocked, AreBlocked, IsEnd, IsPiece, IsCarriedBeside, IsCarriedBelow, IsCarriedIn, IsCarriedAlong, IsEven, IsEvenAround, AreLinksBelow, AreLinks, IsCarriedUpTo}
 
 module _ {W : Type 0} (s : AnalysisState W) where

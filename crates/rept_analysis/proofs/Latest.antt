@@ -4,7 +4,7 @@ use Rattle.std.specs.Option.{IsSome}
 use Rattle.std.proofs.lemmas.Bool.{false≢true}
 use Rattle.rept_isa.specs.declared.row.StepRow.{StepRow}
 use Rattle.rept_reason.specs.Facts.{Knowledge}
-use Rattle.rept_view.specs.Seen.{Seen}
+use Rattle.rept_reason.specs.View.Seen.{Seen}
 use Rattle.rept_report.specs.declared.writer.Writer.{Writer}
 use Rattle.rept_report.specs.declared.writer.Writer as writers
 use Rattle.rept_report.specs.Latest.{IsLatest}
@@ -12,7 +12,7 @@ use Rattle.rept_report.specs.Setting.{Setting}
 use Rattle.rept_report.specs.Spots.{Spot}
 use Rattle.rept_report.specs.Views.{registers_at, touched_by}
 use Rattle.rept_report.specs.Writers.{IsCandidate, IsLastCandidate, IsWriter}
-use Rattle.rept_latest.specs.Latest.{IsMaybe, IsLastWriter}
+use Rattle.rept_report.specs.Last.Latest.{IsMaybe, IsLastWriter}
 use Rattle.rept_analysis.specs.Latest.{time_of, writes_by}
 
 module _ {W : Type 0} (S : Setting W) (K : Knowledge) (x : Spot) where

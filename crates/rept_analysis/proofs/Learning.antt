@@ -28,8 +28,8 @@ use Rattle.rept_analysis.specs.Sums.{sum_to}
 use Rattle.rept_analysis.specs.Room.{places_at, HasRoom}
 use Rattle.rept_analysis.specs.Inferring.HasNews.{fact, address}
 use Rattle.rept_analysis.specs.Kept.{IsKept}
-use Rattle.rept_passes.specs.declared.pass.Pass.{Pass}
-use Rattle.rept_passes.specs.declared.pass.Pass.TheVariants.{Never}
+use Rattle.rept_writing.specs.declared.passes.pass.Pass.{Pass}
+use Rattle.rept_writing.specs.declared.passes.pass.Pass.TheVariants.{Never}
 use Rattle.rept_analysis.proofs.Barriers.{writings_still}
 use Rattle.rept_analysis.proofs.Begun.{log_added}
 use Rattle.rept_analysis.proofs.Passing.{passes_more, never_pass}

@@ -7,7 +7,7 @@ use Rattle.std.proofs.lemmas.List.{length_push, get_or_append_left, get_or_push}
 use Rattle.rept_alias.specs.Accesses.{call_hits}
 use Rattle.rept_alias.specs.declared.addresses.CallAccess.{CallAccess}
 use Rattle.rept_isa.specs.declared.row.StepRow.{StepRow}
-use Rattle.rept_reach.specs.Reaching.{IsExtent, IsBar}
+use Rattle.rept_report.specs.Reach.Reaching.{IsExtent, IsBar}
 use Rattle.rept_writing.specs.Hits.{hits_at, IsFirstHit, IsNextHitBelow, IsMeeting, IsNextMeeting, IsPastHitFrom, IsSplitAt, AreInOrder}
 use Rattle.rept_writing.specs.declared.list.Writing.{Writing}
 use Rattle.rept_reason.specs.Facts.{Knowledge, told}

@@ -11,16 +11,16 @@ use Rattle.rept_isa.specs.declared.row.StepRow.{StepRow}
 use Rattle.rept_reason.specs.declared.fact.Cell.{Cell}
 use Rattle.rept_reason.specs.declared.fact.Cell.TheVariants.{Register, Byte}
 use Rattle.rept_reason.specs.Facts.{told}
-use Rattle.rept_view.specs.declared.inferred.When.{When}
-use Rattle.rept_view.specs.declared.inferred.Conclusion.{Conclusion}
-use Rattle.rept_view.specs.Seen.{seen_cell}
+use Rattle.rept_reason.specs.declared.view.inferred.When.{When}
+use Rattle.rept_reason.specs.declared.view.inferred.Conclusion.{Conclusion}
+use Rattle.rept_reason.specs.View.Seen.{seen_cell}
 use Rattle.rept_log.specs.Around.{around, around_lawful}
 use Rattle.rept_report.specs.Setting.{HasLaws}
 use Rattle.rept_report.specs.Views.{point_of, instant_of}
 use Rattle.rept_report.specs.Conclusions.{HasWords}
 use Rattle.rept_report.proofs.ViewLaws.{known_more}
-use Rattle.rept_passes.specs.declared.pass.Pass.{Pass}
-use Rattle.rept_passes.specs.declared.pass.Pass.TheVariants.{Never, With, Cut}
+use Rattle.rept_writing.specs.declared.passes.pass.Pass.{Pass}
+use Rattle.rept_writing.specs.declared.passes.pass.Pass.TheVariants.{Never, With, Cut}
 use Rattle.rept_writing.specs.Hits.{Listed}
 use Rattle.rept_analysis.specs.Work.{Work, left, left_of}
 use Rattle.rept_analysis.specs.Cells.{cells_known}
@@ -34,7 +34,7 @@ use Rattle.rept_analysis.proofs.Barriers.{writings_still}
 use Rattle.rept_analysis.proofs.Conclusion.{list_known}
 use Rattle.rept_analysis.specs.Kept.{IsKept, IsInferredWith, IsPass}
 use Rattle.rept_analysis.proofs.Cells.{cells_less, cells_back}
-use Rattle.rept_view.specs.declared.inferred.When.TheVariants.{Before, After}
+use Rattle.rept_reason.specs.declared.view.inferred.When.TheVariants.{Before, After}
 
 -- where no less is known
 module _ {W : Type 0} (s t : AnalysisState W) (same : t.path ≡ s.path) (more : (p : ℕ) (c : Cell) (v : ℕ) → Knows p c v s → Knows p c v t) where

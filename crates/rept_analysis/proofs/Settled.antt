@@ -8,9 +8,9 @@ use Rattle.rept_alias.specs.Accesses.{call_hits}
 use Rattle.rept_isa.specs.declared.row.StepRow.{StepRow}
 use Rattle.rept_reason.specs.Facts.{Knowledge, told}
 use Rattle.rept_span.specs.Ranges.{Legs}
-use Rattle.rept_view.specs.Seen.{Seen}
-use Rattle.rept_reach.specs.Reaching.{IsExtent}
-use Rattle.rept_reach.specs.declared.reaches.NumberWindow.{NumberWindow}
+use Rattle.rept_reason.specs.View.Seen.{Seen}
+use Rattle.rept_report.specs.Reach.Reaching.{IsExtent}
+use Rattle.rept_report.specs.declared.reach.reaches.NumberWindow.{NumberWindow}
 use Rattle.rept_writing.specs.Hits.{IsSplitAt, IsFreeSince}
 use Rattle.rept_writing.specs.declared.list.Writing.{Writing}
 use Rattle.rept_report.specs.declared.paths.NumberChain.{NumberChain}

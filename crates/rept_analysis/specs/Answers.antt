@@ -3,7 +3,7 @@ use Rattle.std.specs.Prelude.{◌≡◌, ℕ, false, [], Option}
 use Rattle.rept_reason.specs.Facts.{told}
 use Rattle.rept_report.specs.Conflicts.{IsQuiet}
 use Rattle.rept_report.specs.Log.{oldest}
-use Rattle.rept_report.proofs.Search.{source}
+use Rattle.rept_report.specs.Origin.Logs.{source}
 use Rattle.rept_analysis.specs.State.{AnalysisState, along}
 
 -- the byte that is told at a point by the facts that are answered; at the last point also the

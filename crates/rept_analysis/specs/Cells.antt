@@ -3,10 +3,10 @@ use Rattle.std.specs.Prelude.{ℕ, ◌+◌, min, Option, Some, None, is_some}
 use Rattle.rept_isa.specs.declared.row.StepRow.{StepRow}
 use Rattle.rept_isa.specs.Numbers.{plus, beside}
 use Rattle.rept_isa.specs.Operands.{written_by, first_read, second_read}
-use Rattle.rept_view.specs.declared.inferred.When.{When}
-use Rattle.rept_view.specs.declared.inferred.When.TheVariants.{Before, After}
-use Rattle.rept_view.specs.Seen.{Seen}
-use Rattle.rept_view.specs.Rules.{Rules, offset_of}
+use Rattle.rept_reason.specs.declared.view.inferred.When.{When}
+use Rattle.rept_reason.specs.declared.view.inferred.When.TheVariants.{Before, After}
+use Rattle.rept_reason.specs.View.Seen.{Seen}
+use Rattle.rept_reason.specs.View.Rules.{Rules, offset_of}
 use Rattle.rept_analysis.specs.Sums.{one_if, sum_to}
 
 -- 1 where there is a register and it is known

@@ -14,8 +14,8 @@ use Rattle.rept_reason.specs.declared.fact.Cell.{Cell}
 use Rattle.rept_reason.specs.declared.fact.Cell.TheVariants.{Register, Byte}
 use Rattle.rept_reason.specs.Facts.{IsCell, told}
 use Rattle.rept_span.specs.Filled.{entry_at, IsFilled}
-use Rattle.rept_view.specs.declared.inferred.Conclusion.{Conclusion}
-use Rattle.rept_view.specs.Rules.{IsRowByte, Fits}
+use Rattle.rept_reason.specs.declared.view.inferred.Conclusion.{Conclusion}
+use Rattle.rept_reason.specs.View.Rules.{IsRowByte, Fits}
 use Rattle.rept_log.specs.Around.{around}
 use Rattle.rept_report.specs.Setting.{HasLaws, IsLast, IsInstant, way_of}
 use Rattle.rept_report.specs.Spots.{Passage, passage, Spot}
@@ -26,14 +26,14 @@ use Rattle.rept_report.specs.Log.{oldest}
 use Rattle.rept_report.specs.Why.{fact_of}
 use Rattle.rept_analysis.specs.declared.halt.LearnError.{LearnError}
 use Rattle.rept_analysis.specs.declared.halt.LearnError.TheVariants.{Clash, OutOfMemory}
-use Rattle.rept_reach.specs.Reaching.{IsExtent}
-use Rattle.rept_reach.specs.declared.reaches.NumberWindow.{NumberWindow}
+use Rattle.rept_report.specs.Reach.Reaching.{IsExtent}
+use Rattle.rept_report.specs.declared.reach.reaches.NumberWindow.{NumberWindow}
 use Rattle.rept_writing.specs.Hits.{AreInOrder}
 use Rattle.rept_writing.specs.declared.list.Writing.{Writing}
 use Rattle.rept_report.specs.declared.paths.Strip.{Strip}
 use Rattle.rept_analysis.specs.declared.piece.Piece.{Piece}
 use Rattle.rept_analysis.specs.declared.leap.ByteLeap.{ByteLeap}
-use Rattle.rept_passes.specs.declared.pass.Pass.TheVariants.{Cut}
+use Rattle.rept_writing.specs.declared.passes.pass.Pass.TheVariants.{Cut}
 use Rattle.rept_analysis.specs.Work.{left, number_past}
 use Rattle.rept_analysis.specs.Room.{IsInferable, IsInferredAt, own_at, IsOwnByte}
 use Rattle.rept_analysis.specs.State.{AnalysisState, IsRoomy, all_known, along}

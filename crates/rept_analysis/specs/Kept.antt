@@ -9,12 +9,12 @@ use Rattle.rept_report.specs.Closure.{ClosureHas, IsReport}
 use Rattle.rept_report.specs.Log.{oldest, Entry, facts_of, logged_of, IsTrace, OnceEach}
 use Rattle.rept_report.specs.Implied.{with_implied}
 use Rattle.rept_isa.specs.declared.row.StepRow.{StepRow}
-use Rattle.rept_view.specs.declared.inferred.When.{When}
-use Rattle.rept_view.specs.declared.inferred.Conclusion.{Conclusion}
-use Rattle.rept_view.specs.Seen.{Seen, IsLawful, seen_cell}
+use Rattle.rept_reason.specs.declared.view.inferred.When.{When}
+use Rattle.rept_reason.specs.declared.view.inferred.Conclusion.{Conclusion}
+use Rattle.rept_reason.specs.View.Seen.{Seen, IsLawful, seen_cell}
 use Rattle.rept_log.specs.Around.{around}
-use Rattle.rept_passes.specs.declared.pass.Pass.{Pass}
-use Rattle.rept_passes.specs.declared.pass.Pass.TheVariants.{Never, With, Cut}
+use Rattle.rept_writing.specs.declared.passes.pass.Pass.{Pass}
+use Rattle.rept_writing.specs.declared.passes.pass.Pass.TheVariants.{Never, With, Cut}
 use Rattle.rept_analysis.specs.Cells.{cells_known}
 use Rattle.rept_analysis.specs.Room.{HasRoom}
 use Rattle.rept_analysis.specs.State.{AnalysisState, IsRoomy, all_known, along}

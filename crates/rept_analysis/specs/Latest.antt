@@ -3,7 +3,7 @@ use Rattle.rept_reason.specs.Facts.{Knowledge}
 use Rattle.rept_report.specs.Setting.{Setting}
 use Rattle.rept_report.specs.Timeline.{Timeline}
 use Rattle.rept_report.specs.Views.{may_write, is_sure}
-use Rattle.rept_latest.specs.Latest.{Writes}
+use Rattle.rept_report.specs.Last.Latest.{Writes}
 
 -- the rows and moments of which a setting is
 abbrev pub time_of : {W : Type 0} → Setting W → Timeline

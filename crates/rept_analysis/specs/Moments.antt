@@ -5,7 +5,7 @@ use Rattle.rept_partial.specs.Sets.{Sets}
 use Rattle.rept_reason.specs.declared.fact.Fact.{Fact}
 use Rattle.rept_reason.specs.Facts.{told, register_known}
 use Rattle.rept_span.specs.Filled.{View, entry_at}
-use Rattle.rept_view.specs.Seen.{Seen, IsLawful}
+use Rattle.rept_reason.specs.View.Seen.{Seen, IsLawful}
 use Rattle.rept_report.specs.Moments.{points_of}
 use Rattle.rept_report.specs.Views.{all_words, bounds, seen_of}
 use Rattle.rept_report.specs.Conclusions.{HasWords}

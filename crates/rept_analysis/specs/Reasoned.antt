@@ -7,7 +7,7 @@ use Rattle.rept_report.specs.Setting.{Setting, way_of}
 use Rattle.rept_report.specs.Log.{oldest, entry}
 use Rattle.rept_partial.specs.Sets.{Sets}
 use Rattle.rept_span.specs.Moves.{Moves}
-use Rattle.rept_view.specs.Rules.{Rules}
+use Rattle.rept_reason.specs.View.Rules.{Rules}
 use Rattle.rept_report.specs.Timeline.{Timeline}
 use Rattle.rept_log.specs.Fronts.{FrontView}
 use Rattle.rept_analysis.specs.State.{Whole, AnalysisState, Reader, given_of}

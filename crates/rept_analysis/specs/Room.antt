@@ -9,10 +9,10 @@ use Rattle.rept_isa.specs.Operands.{first_read}
 use Rattle.rept_reason.specs.declared.fact.Fact.{Fact}
 use Rattle.rept_reason.specs.declared.fact.Cell.TheVariants.{Byte}
 use Rattle.rept_reason.specs.Facts.{told, register_known}
-use Rattle.rept_view.specs.declared.inferred.When.TheVariants.{Before}
-use Rattle.rept_view.specs.declared.inferred.Conclusion.{Conclusion}
-use Rattle.rept_view.specs.Seen.{Seen, IsLawful}
-use Rattle.rept_view.specs.Rules.{Rules, offset_of}
+use Rattle.rept_reason.specs.declared.view.inferred.When.TheVariants.{Before}
+use Rattle.rept_reason.specs.declared.view.inferred.Conclusion.{Conclusion}
+use Rattle.rept_reason.specs.View.Seen.{Seen, IsLawful}
+use Rattle.rept_reason.specs.View.Rules.{Rules, offset_of}
 use Rattle.rept_report.specs.Views.{moment_of}
 use Rattle.rept_log.specs.Known.{Known}
 use Rattle.rept_analysis.specs.Sums.{one_if, count_true, sum_to}

@@ -6,7 +6,7 @@ use Rattle.rept_dump.specs.Program.{Program, contents}
 use Rattle.rept_partial.specs.Sets.{Sets}
 use Rattle.rept_span.specs.Moves.{Moves}
 use Rattle.rept_span.specs.Filled.{View}
-use Rattle.rept_view.specs.Rules.{Rules}
+use Rattle.rept_reason.specs.View.Rules.{Rules}
 use Rattle.rept_versions.specs.Facts.{Store}
 use Rattle.rept_log.specs.Known.{Held, Known, known_of, knows}
 use Rattle.rept_report.specs.declared.conflict.ConflictKind.{ConflictKind}
@@ -15,7 +15,7 @@ use Rattle.rept_report.specs.Given.{Given, setting_by}
 use Rattle.rept_report.specs.Timeline.{Timeline}
 use Rattle.rept_reason.specs.Facts.{Knowledge}
 use Rattle.rept_writing.specs.declared.list.Writing.{Writing}
-use Rattle.rept_passes.specs.declared.pass.Pass.{Pass}
+use Rattle.rept_writing.specs.declared.passes.pass.Pass.{Pass}
 use Rattle.rept_analysis.specs.Work.{Work}
 
 -- The rows and moments, and the last register values of each thread; the files of the program, and

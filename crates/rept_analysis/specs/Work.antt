@@ -3,8 +3,8 @@
 use Rattle.std.specs.Prelude.{ℕ, Bool, ◌+◌, ◌-◌, List, Option, Some, None, sum_by}
 use Rattle.rept_writing.specs.declared.list.Writing.{Writing}
 use Rattle.rept_writing.specs.Hits.{Listed}
-use Rattle.rept_passes.specs.declared.pass.Pass.{Pass}
-use Rattle.rept_passes.specs.declared.pass.Pass.TheVariants.{Never, With, Cut}
+use Rattle.rept_writing.specs.declared.passes.pass.Pass.{Pass}
+use Rattle.rept_writing.specs.declared.passes.pass.Pass.TheVariants.{Never, With, Cut}
 
 -- Whether the store of bytes joins what stands side by side, in room that it took at first; the
 -- rows that may write; how often rules were applied; and how far those of each row were.

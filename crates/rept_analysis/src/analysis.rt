@@ -57,13 +57,11 @@ use rept_dump::Dump;
 use rept_isa::{Reg, StepRow};
 use rept_log::{FactLog, LastValues};
 use rept_partial::Flat;
-use rept_passes::RuleProgress;
-use rept_reach::Reaches;
-use rept_report::{ConflictKind, Paths};
+use rept_reason::{RowRules, When};
+use rept_report::{ConflictKind, Paths, Reaches};
 use rept_span::{Spans, Transfer};
 use rept_versions::ByteFacts;
-use rept_view::{RowRules, When};
-use rept_writing::StoreIndex;
+use rept_writing::{RuleProgress, StoreIndex};
 use std::alloc::{AllocError as OutOfMemory, Global};
 use std::marker::Model;
 

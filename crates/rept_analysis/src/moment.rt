@@ -10,10 +10,10 @@ use rept_isa::Reg;
 use rept_log::FactLog;
 use rept_log::views::{known_or, point_at};
 use rept_partial::{Flat, Range};
+use rept_reason::{RowView, When};
 use rept_report::bounds;
 use rept_span::{Spans, Transfer};
 use rept_versions::ByteFacts;
-use rept_view::{RowView, When};
 
 /// What the facts at places below a limit tell of registers around a row, with sets of values. Of
 /// bytes it says nothing.

@@ -2,11 +2,11 @@
 
 ghost use Rattle.std.specs.Prelude.{◌≡◌};
 ghost use Rattle.rept_isa.specs.Numbers.{plus};
-ghost use Rattle.rept_view.specs.Rules.{offset_of};
+ghost use Rattle.rept_reason.specs.View.Rules.{offset_of};
 
 use rept_isa::Instr;
 use rept_isa::number::plus;
-use rept_view::offset_of;
+use rept_reason::offset_of;
 
 /// Whether it is a store or an atomic instruction, which may write the bytes that it names. It only
 /// saves work: no clause rests on it.

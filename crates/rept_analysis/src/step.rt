@@ -1,6 +1,6 @@
 //! A step on which the bytes of a word go together.
 
-use rept_reach::NumberWindow;
+use rept_report::NumberWindow;
 
 /// What told something new of the first byte of a word, so that the others go the same way.
 #[derive(Clone, Copy)]

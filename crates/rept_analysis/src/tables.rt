@@ -2,16 +2,15 @@
 
 ghost use Rattle.std.specs.Prelude.{◌≡◌, ◌+◌, ◌<◌, ◌≤◌, ℕ, IfOk, Some, length, slice_get};
 ghost use Rattle.rept_log.specs.Known.{known_of, IsNew};
-ghost use Rattle.rept_passes.specs.declared.pass.Pass.{Pass};
+ghost use Rattle.rept_writing.specs.declared.passes.pass.Pass.{Pass};
 
 use crate::fresh::StepWorklist;
 use crate::recent::DirtyBytes;
 use crate::walls::BlockerCache;
 use rept_log::FactLog;
-use rept_passes::RuleProgress;
 use rept_span::{Spans, Transfer};
 use rept_versions::ByteFacts;
-use rept_writing::StoreIndex;
+use rept_writing::{RuleProgress, StoreIndex};
 use std::alloc::{AllocError as OutOfMemory, Global};
 
 /// The tables of an analysis: each is told where an analysis has it.

@@ -7,7 +7,7 @@ use Rattle.rept_path.specs.declared.fault.PathFault.TheVariants as fault
 use Rattle.rept_steps.specs.declared.run.Run.{Run}
 use Rattle.rept_runs.specs.Kind.{is_several}
 use Rattle.rept_ports.specs.Port.{Port, PortMove}
-use Rattle.rept_serve.specs.Serving.{Reading}
+use Rattle.rept_session.specs.Serving.Serving.{Reading}
 use Rattle.rept_opening.specs.Delivered.{SaysOrNoMemory, SaysRefusal}
 use Rattle.rept_app.specs.Ends.{Stopped, Yields, PortsEnd}
 use Rattle.rept_app.specs.Examine.{WalksTrace, Examines, RunYields, WalkYields, NoteYields, FilesEnd, FilesHold, IsRunStatus, IsWalkStatus, IsWalked, IsExamined, TraceExcludes, FilesExclude, WalkHolds}

@@ -3,10 +3,10 @@ use Rattle.std.proofs.Common.{◌≡◌, ◌⊎◌, ℕ, List, ◌++◌, inl, in
 use Rattle.rept_ports.specs.Causes.{OneFault}
 use Rattle.rept_ports.specs.Port.{Port, PortMove, move}
 use Rattle.rept_ports.proofs.CallerLemmas.{fault_after}
-use Rattle.rept_session.specs.Shown.{SessionTold}
-use Rattle.rept_serve.specs.Serving.{Reading, Serves, CountsAt, IsServeCaused as IsServed}
-use Rattle.rept_serve.specs.declared.serving.Served.{Served}
-use Rattle.rept_serve.specs.declared.serving.Served.TheVariants as served
+use Rattle.rept_findings.specs.Shown.{SessionTold}
+use Rattle.rept_session.specs.Serving.Serving.{Reading, Serves, CountsAt, IsServeCaused as IsServed}
+use Rattle.rept_session.specs.declared.serving.serving.Served.{Served}
+use Rattle.rept_session.specs.declared.serving.serving.Served.TheVariants as served
 use Rattle.rept_opening.specs.Delivered.{Delivers}
 use Rattle.rept_app.specs.Ends.{FaultEnds, EndsSession, IsCaused, TellsInputFault, Yields}
 use Rattle.rept_app.specs.Held.{IsHeldSession}

@@ -30,7 +30,7 @@ use Rattle.rept_make.specs.Files.{bytes_of_words}
 use Rattle.rept_make.specs.Laid.{laid}
 use Rattle.rept_make.specs.Made.{IsMade}
 use Rattle.rept_make.specs.declared.made.Made.{Made}
-use Rattle.rept_words.specs.declared.request.Domain.TheVariants as domain
+use Rattle.rept_opening.specs.declared.words.request.Domain.TheVariants as domain
 use Rattle.rept_opening.specs.Delivered.{Delivers, SaysOrNoMemory, SaysRefusal}
 use Rattle.rept_opening.specs.Domains.{means_of}
 use Rattle.rept_app.specs.Conflict.{EndsReport}

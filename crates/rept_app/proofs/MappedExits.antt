@@ -2,8 +2,8 @@
 use Rattle.std.proofs.Common.{◌≡◌, ◌⊎◌, ℕ, suc, ◌+◌, ◌≤◌, List, length, Option, None, Some, IfSome, Result, Ok, inl, inr, refl, sym, subst, ◌∙◌, arith}
 use Rattle.rept_maps.specs.Views.{desc_of}
 use Rattle.rept_maps.specs.declared.fault.MapFault.{MapFault}
-use Rattle.rept_mapped.specs.Mapped.{Mapping}
-use Rattle.rept_mapfiles.specs.Kept.{asked_names, loads_after}
+use Rattle.rept_maps.specs.Mapped.Mapped.{Mapping}
+use Rattle.rept_maps.specs.Mapfiles.Kept.{asked_names, loads_after}
 use Rattle.rept_ports.specs.Port.{Port, PortMove, move}
 use Rattle.rept_ports.specs.Shelves.{Files, Shelved}
 use Rattle.rept_opening.specs.Delivered.{Delivers, SaysOrNoMemory, SaysRefusal, TellsName}

@@ -3,7 +3,7 @@ use Rattle.std.proofs.Common.{◌≡◌, ◌⊎◌, ℕ, ◌≤◌, List, Option
 use Rattle.rept_ports.specs.Causes.{Rose, OneFault}
 use Rattle.rept_ports.specs.Port.{Port, PortMove, move}
 use Rattle.rept_ports.specs.Shelves.{Files, Shelved}
-use Rattle.rept_serve.specs.Serving.{Reading}
+use Rattle.rept_session.specs.Serving.Serving.{Reading}
 use Rattle.rept_app.specs.Ends.{EndsSession, FaultEnds, Stopped}
 use Rattle.rept_app.specs.Examine.{IsWalkStatus}
 use Rattle.rept_opening.specs.Loading.{CoreBytes, CrashBytes, Loading, loading, LoadsBoth, NamesNone, IsAsked, core_loads_to, FaultsEnd}
@@ -15,8 +15,8 @@ use Rattle.rept_app.specs.Claims.{ComeToReport, NoExecution}
 use Rattle.rept_app.specs.Told.{CallInput, call_input, ToldOf, CallWrites}
 use Rattle.rept_opening.specs.Opened.{IsCrashOf}
 use Rattle.rept_app.specs.Top.{AskedEnds, EndsAt, EndsByFiles, LacksFile, LoadEnds, LoadsOf, FileStoreCauses, TopCauses}
-use Rattle.rept_words.specs.Words.{Meaning}
-use Rattle.rept_words.specs.Words.Meaning.{Open, Maps, Made}
+use Rattle.rept_opening.specs.Words.Words.{Meaning}
+use Rattle.rept_opening.specs.Words.Words.Meaning.{Open, Maps, Made}
 use Rattle.rept_opening.specs.declared.load.LoadedRequest.{LoadedRequest}
 use Rattle.rept_opening.specs.declared.load.LoadedRequest.TheVariants as asked
 use Rattle.rept_opening.specs.declared.load.CoreFiles.{CoreFiles}

@@ -32,9 +32,9 @@ use Rattle.rept_app.proofs.Failing.{load_ending}
 use Rattle.rept_opening.proofs.BeyondLemmas.{told_beyond}
 use Rattle.rept_opening.proofs.RunLemmas.{IsWhole}
 use Rattle.rept_opening.proofs.TrueLemmas.{ReportsAreTrue, opened_whole}
-use Rattle.rept_words.specs.Words.{CoreNames, Names, Meaning, meaning_of}
-use Rattle.rept_words.specs.Words.Meaning.{Open, Maps, Made as MadeWords}
-use Rattle.rept_words.specs.declared.request.Domain.TheVariants as domain
+use Rattle.rept_opening.specs.Words.Words.{CoreNames, Names, Meaning, meaning_of}
+use Rattle.rept_opening.specs.Words.Words.Meaning.{Open, Maps, Made as MadeWords}
+use Rattle.rept_opening.specs.declared.words.request.Domain.TheVariants as domain
 
 -- a trace that is refused, or no memory
 path_status : (f : PathFault) → (status_of_path f ≡ ends.Trace) ⊎ (status_of_path f ≡ ends.OutOfMemory)

@@ -5,12 +5,12 @@ use Rattle.rept_steps.specs.declared.run.Run.{Run}
 use Rattle.rept_ports.specs.Port.{Port, PortMove, move}
 use Rattle.rept_report.specs.Closure.{ClosureHas, IsConsistent}
 use Rattle.rept_report.specs.declared.conflict.ConflictKind.{ConflictKind}
-use Rattle.rept_trip.specs.Trip.{Trip}
+use Rattle.rept_found.specs.Trip.Trip.{Trip}
 use Rattle.rept_found.specs.Contradictions.{contradiction_on}
 use Rattle.rept_found.specs.Crash.{Crash, Means, scene_of, setting, route}
 use Rattle.rept_found.specs.View.{CrashView, IsFoundIn, trip_in}
 use Rattle.rept_found.specs.declared.contradiction.Contradiction.{Contradiction}
-use Rattle.rept_serve.specs.Serving.{Reading}
+use Rattle.rept_session.specs.Serving.Serving.{Reading}
 use Rattle.rept_opening.specs.Delivered.{Delivers, SaysOrNoMemory}
 use Rattle.rept_app.specs.Ends.{Stopped, Yields, EndsSession, IsCaused, PortsEnd}
 use Rattle.rept_app.specs.Held.{IsHeldSession}

@@ -4,8 +4,8 @@ use Rattle.rept_ports.specs.Causes.{Rose, OneFault}
 use Rattle.rept_ports.specs.Port.{Port, PortMove, move}
 use Rattle.rept_ports.specs.Shelves.{Files, Shelved, IsOver}
 use Rattle.rept_steps.specs.declared.run.Run.{Run}
-use Rattle.rept_session.specs.Shown.{SessionTold}
-use Rattle.rept_serve.specs.Serving.{Reading}
+use Rattle.rept_findings.specs.Shown.{SessionTold}
+use Rattle.rept_session.specs.Serving.Serving.{Reading}
 use Rattle.rept_opening.specs.Delivered.{Delivers, SaysOrNoMemory, SaysRefusal}
 use Rattle.rept_app.specs.Ends.{Stopped, Yields, EndsSession, FaultEnds, PortsEnd}
 use Rattle.rept_app.specs.Held.{CutOff}
@@ -19,9 +19,9 @@ use Rattle.rept_app.specs.Claims.{ComeToReport, MadeHolds, AskedHolds, NoExecuti
 use Rattle.rept_app.specs.Told.{CallInput, call_input, ToldOf, summary_line, CallWrites}
 use Rattle.rept_opening.specs.Opened.{IsCrashOf, Opening, run_at, told_in}
 use Rattle.rept_app.specs.Top.{TopCauses, FileStoreCauses, LacksFile, LoadEnds, LoadsOf, EndsAt, EndsByFiles, AskedEnds, NoneFails, Completes}
-use Rattle.rept_words.specs.Words.{Meaning, meaning_of}
-use Rattle.rept_words.specs.Words.Meaning.{Open, Maps, Made}
-use Rattle.rept_words.specs.declared.request.Domain.TheVariants as domain
+use Rattle.rept_opening.specs.Words.Words.{Meaning, meaning_of}
+use Rattle.rept_opening.specs.Words.Words.Meaning.{Open, Maps, Made}
+use Rattle.rept_opening.specs.declared.words.request.Domain.TheVariants as domain
 use Rattle.rept_opening.specs.declared.load.OpenOptions.{OpenOptions}
 use Rattle.rept_opening.specs.declared.load.LoadedRequest.{LoadedRequest}
 use Rattle.rept_opening.specs.declared.load.LoadedRequest.TheVariants as asked

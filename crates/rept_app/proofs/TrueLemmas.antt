@@ -30,7 +30,7 @@ use Rattle.rept_known.specs.Laws.BothLaws.{both_lawful}
 use Rattle.rept_amo.specs.Atomic.{atomic_rules}
 use Rattle.rept_found.specs.Crash.{Means, ending_of, setting}
 use Rattle.rept_found.proofs.Trips.{uses_trip}
-use Rattle.rept_words.specs.declared.request.Domain.TheVariants as domain
+use Rattle.rept_opening.specs.declared.words.request.Domain.TheVariants as domain
 use Rattle.rept_app.proofs.Narrower.{no_wider}
 use Rattle.rept_app.specs.Claims.{BitsKnowMore, ReportHolds}
 use Rattle.rept_opening.specs.Domains.{means_of}

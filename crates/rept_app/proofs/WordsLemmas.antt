@@ -4,10 +4,10 @@ use Rattle.std.proofs.lemmas.Bool.Decides.{nat_tests}
 use Rattle.std.specs.List.{list_all}
 use Rattle.std.specs.Option.{option_and_then}
 use Rattle.std.specs.Str.{bytes_eq}
-use Rattle.rept_number.specs.Numbers.{decimal_of}
-use Rattle.rept_words.specs.Words.{CoreNames, Names, Meaning, maps_from, is_plain, steps_of, made_of, domain_of, plain_meaning, meaning_of}
-use Rattle.rept_words.specs.Words.Meaning.{Open, Maps, Made}
-use Rattle.rept_words.specs.declared.request.Domain.{Domain}
+use Rattle.rept_word.specs.Parsing.Numbers.{decimal_of}
+use Rattle.rept_opening.specs.Words.Words.{CoreNames, Names, Meaning, maps_from, is_plain, steps_of, made_of, domain_of, plain_meaning, meaning_of}
+use Rattle.rept_opening.specs.Words.Words.Meaning.{Open, Maps, Made}
+use Rattle.rept_opening.specs.declared.words.request.Domain.{Domain}
 
 -- it is one of 1 to 20000
 abbrev pub AsksFew : Option Meaning → Type 0

@@ -5,14 +5,14 @@ use Rattle.rept_ports.specs.Shelves.{Files}
 use Rattle.rept_reason.specs.Facts.{Knowledge}
 use Rattle.rept_report.specs.Knowing.{Extends}
 use Rattle.rept_report.specs.Closure.{IsConsistent, IsReport}
-use Rattle.rept_session.specs.Shown.{Shown}
+use Rattle.rept_findings.specs.Shown.{Shown}
 use Rattle.rept_found.specs.Telling.{shown_on}
 use Rattle.rept_make.specs.Made.{IsMade}
 use Rattle.rept_make.specs.declared.made.Made.{Made}
-use Rattle.rept_words.specs.Words.{Meaning}
-use Rattle.rept_words.specs.Words.Meaning.{Open, Maps, Made as MadeWords}
-use Rattle.rept_words.specs.declared.request.Domain.{Domain}
-use Rattle.rept_words.specs.declared.request.Domain.TheVariants as domain
+use Rattle.rept_opening.specs.Words.Words.{Meaning}
+use Rattle.rept_opening.specs.Words.Words.Meaning.{Open, Maps, Made as MadeWords}
+use Rattle.rept_opening.specs.declared.words.request.Domain.{Domain}
+use Rattle.rept_opening.specs.declared.words.request.Domain.TheVariants as domain
 use Rattle.rept_opening.specs.Domains.{means_of}
 use Rattle.rept_opening.specs.Opened.{Opening, Opens, IsAccountOf, RunAccount, crash_at, crash_run, route_of, run_at, setting_at}
 use Rattle.rept_app.specs.Told.{OpensMade}

@@ -6,7 +6,7 @@ use Rattle.rept_steps.specs.declared.run.Run.{Run}
 use Rattle.rept_ports.specs.Port.{Port, PortMove}
 use Rattle.rept_report.specs.Closure.{ClosureHas, IsConsistent}
 use Rattle.rept_report.specs.declared.conflict.ConflictKind.{ConflictKind}
-use Rattle.rept_serve.specs.Serving.{Reading}
+use Rattle.rept_session.specs.Serving.Serving.{Reading}
 use Rattle.rept_opening.specs.Delivered.{SaysRefusal}
 use Rattle.rept_app.specs.Ends.{Yields, EndsSession, PortsEnd}
 use Rattle.rept_opening.specs.Forms.{program_fault, core_image_fault, crash_in}

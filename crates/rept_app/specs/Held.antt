@@ -2,8 +2,8 @@
 -- line of what ended it.
 use Rattle.std.specs.Prelude.{◌≡◌, ◌⊎◌, List, ◌++◌, ℕ, IfSome}
 use Rattle.rept_ports.specs.Port.{Port, PortMove}
-use Rattle.rept_session.specs.Shown.{SessionTold}
-use Rattle.rept_serve.specs.Serving.{Reading, InputEnded, Failed, Overran, FirstAnswers}
+use Rattle.rept_findings.specs.Shown.{SessionTold}
+use Rattle.rept_session.specs.Serving.Serving.{Reading, InputEnded, Failed, Overran, FirstAnswers}
 use Rattle.rept_opening.specs.Delivered.{Delivers}
 use Rattle.rept_app.specs.Ends.{IsCaused}
 use Rattle.rept_app.specs.declared.hold.HeldSession.{HeldSession}

@@ -10,3 +10,4 @@ pub mod Promise
 pub mod Study
 pub mod Told
 pub mod Top
+pub mod Process

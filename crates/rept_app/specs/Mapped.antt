@@ -1,6 +1,6 @@
 -- The loads that the list of a core file brings, and how they end a call.
 use Rattle.std.specs.Prelude.{◌≡◌, ◌⊎◌, ℕ, suc, ◌+◌, ◌≤◌, List, ◌∷◌, ◌++◌, length, None, Some, Ok, slice_get, IfSome}
-use Rattle.rept_mapfiles.specs.Kept.{asked_names, loads_after}
+use Rattle.rept_maps.specs.Mapfiles.Kept.{asked_names, loads_after}
 use Rattle.rept_ports.specs.Causes.{Rose}
 use Rattle.rept_ports.specs.Port.{PortMove}
 use Rattle.rept_ports.specs.Shelves.{Shelved}

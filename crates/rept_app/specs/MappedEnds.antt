@@ -4,7 +4,7 @@ use Rattle.std.specs.Prelude.{◌≡◌, ◌⊎◌, ℕ, List, Result, MatchOpti
 use Rattle.rept_maps.specs.declared.fault.MapFault.{MapFault}
 use Rattle.rept_ports.specs.Port.{Port, PortMove, move}
 use Rattle.rept_ports.specs.Shelves.{Shelved}
-use Rattle.rept_serve.specs.Serving.{Reading}
+use Rattle.rept_session.specs.Serving.Serving.{Reading}
 use Rattle.rept_opening.specs.Delivered.{SaysRefusal}
 use Rattle.rept_app.specs.Ends.{Yields, PortsEnd}
 use Rattle.rept_app.specs.Examine.{FilesEnd, FilesExclude, FilesHold, IsWalkStatus, WalkCut}

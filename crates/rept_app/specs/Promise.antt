@@ -4,7 +4,7 @@
 use Rattle.std.specs.Prelude.{◌≡◌, ◌⊎◌, ℕ, List}
 use Rattle.std.specs.Io.KnownBytes.{Appends}
 use Rattle.rept_ports.specs.Port.{Port, PortMove}
-use Rattle.rept_serve.specs.Serving.{InputEnded}
+use Rattle.rept_session.specs.Serving.Serving.{InputEnded}
 use Rattle.rept_make.specs.Made.{IsMade}
 use Rattle.rept_make.specs.declared.made.Made.{Made}
 use Rattle.rept_opening.specs.Loading.{loading}

@@ -6,12 +6,12 @@ use Rattle.rept_path.specs.declared.fault.PathFault.{PathFault}
 use Rattle.rept_steps.specs.declared.run.Run.{Run}
 use Rattle.rept_ports.specs.Port.{PortMove, move}
 use Rattle.rept_ports.specs.Shelves.{Files, Shelved}
-use Rattle.rept_serve.specs.Serving.{Reading}
+use Rattle.rept_session.specs.Serving.Serving.{Reading}
 use Rattle.rept_make.specs.Made.{IsMade}
 use Rattle.rept_make.specs.declared.made.Made.{Made}
-use Rattle.rept_words.specs.Words.{meaning_of}
-use Rattle.rept_words.specs.Words.Meaning.{Made as MadeWords}
-use Rattle.rept_words.specs.declared.request.Domain.TheVariants as domain
+use Rattle.rept_opening.specs.Words.Words.{meaning_of}
+use Rattle.rept_opening.specs.Words.Words.Meaning.{Made as MadeWords}
+use Rattle.rept_opening.specs.declared.words.request.Domain.TheVariants as domain
 use Rattle.rept_opening.specs.Delivered.{SaysRefusal}
 use Rattle.rept_opening.specs.Forms.{program_fault, core_image_fault}
 use Rattle.rept_app.specs.Held.{Replies, CutOff}

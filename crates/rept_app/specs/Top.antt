@@ -13,8 +13,8 @@ use Rattle.rept_opening.specs.Mapped.{mapped_crash}
 use Rattle.rept_app.specs.Mapped.{NamesLoaded}
 use Rattle.rept_app.specs.MappedEnds.{MappedEnd}
 use Rattle.rept_app.specs.Told.{CallInput, CallTold}
-use Rattle.rept_words.specs.Words.{CoreNames, Names, Meaning}
-use Rattle.rept_words.specs.Words.Meaning.{Open, Maps, Made}
+use Rattle.rept_opening.specs.Words.Words.{CoreNames, Names, Meaning}
+use Rattle.rept_opening.specs.Words.Words.Meaning.{Open, Maps, Made}
 use Rattle.rept_opening.specs.declared.refusal.FileKind.{FileKind}
 use Rattle.rept_opening.specs.declared.refusal.FileKind.TheVariants as file
 use Rattle.rept_opening.specs.declared.status.ExitStatus.{ExitStatus}

@@ -2,15 +2,15 @@
 
 ghost use Rattle.std.specs.Prelude.{◌≡◌, IfSome};
 ghost use Rattle.rept_ports.specs.Port.{move};
-ghost use Rattle.rept_session.specs.Shown.{SameReasons, session_told};
+ghost use Rattle.rept_findings.specs.Shown.{SameReasons, session_told};
 ghost use Rattle.rept_opening.specs.Delivered.{Delivers};
 ghost use Rattle.rept_app.specs.Ends.{IsCaused};
 ghost use Rattle.rept_app.specs.Held.{HoldsSession, IsHeldSession};
 
+use rept_findings::Findings;
 use rept_opening::{Asking, Circumstances, ExitStatus, deliver};
 use rept_ports::{Sink, Source};
-use rept_serve::{Served, serve};
-use rept_session::Findings;
+use rept_session::{Served, serve};
 use std::alloc::Global;
 
 /// Answers the lines of the input by what was found, and tells what ended the session. `skipped` is

@@ -5,7 +5,9 @@ mod examine;
 mod hold;
 mod made_run;
 mod mapped;
+pub mod process;
 mod study;
 mod top;
 
+pub use process::{answer, run};
 pub use top::rept;

@@ -10,11 +10,10 @@ ghost use Rattle.rept_app.specs.MadeRun.{Sums};
 use crate::examine::examine;
 use rept_amo::Atomic;
 use rept_make::{Made, make};
-use rept_opening::{ExitStatus, OpenOptions, tell_no_memory};
+use rept_opening::{Domain, ExitStatus, OpenOptions, tell_no_memory};
 use rept_partial::Range;
 use rept_ports::{InfallibleSource, Sink};
 use rept_report::reports_are_sound;
-use rept_words::Domain;
 use std::alloc::Global;
 
 /// Makes the crash of a seed after so many steps, and writes the summary of its analysis. No file

@@ -4,7 +4,7 @@ ghost use Rattle.std.specs.Prelude.{◌≡◌, ◌⊎◌, ◌<◌, ◌^◌, None
 ghost use Rattle.rept_elf.specs.Image.{file_of};
 ghost use Rattle.rept_maps.specs.FileMap.{map_count};
 ghost use Rattle.rept_maps.specs.Views.{desc_of};
-ghost use Rattle.rept_mapped.specs.Mapped.{mappings};
+ghost use Rattle.rept_maps.specs.Mapped.Mapped.{mappings};
 ghost use Rattle.rept_ports.specs.Port.{move};
 ghost use Rattle.rept_opening.specs.Delivered.{Delivers};
 ghost use Rattle.rept_app.specs.Ends.{EndsSession};

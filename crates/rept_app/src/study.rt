@@ -17,10 +17,9 @@ ghost use Rattle.rept_opening.specs.True.{IsExcluded};
 
 use crate::hold::HeldSession;
 use rept_dump::Dump;
-use rept_opening::{CrashImages, ExitStatus, open_report, tell};
+use rept_opening::{CrashImages, Domain, ExitStatus, open_report, tell};
 use rept_ports::{Sink, Source};
 use rept_steps::Run;
-use rept_words::Domain;
 use std::alloc::Global;
 
 /// Analyses a run that ends in a dump, with values followed in a domain, and answers the input, or

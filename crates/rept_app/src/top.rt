@@ -2,8 +2,8 @@
 
 ghost use Rattle.std.specs.Prelude.{◌≡◌, ◌⊎◌, ◌↔◌, map, string_bytes, Contains, IfSome, None};
 ghost use Rattle.rept_isa.specs.declared.row.StepRow.{StepRow};
-ghost use Rattle.rept_view.specs.declared.inferred.Conclusion.{Conclusion};
-ghost use Rattle.rept_view.specs.Seen.{Seen};
+ghost use Rattle.rept_reason.specs.declared.view.inferred.Conclusion.{Conclusion};
+ghost use Rattle.rept_reason.specs.View.Seen.{Seen};
 ghost use Rattle.rept_amo.specs.Atomic.{atomic_rules};
 ghost use Rattle.rept_amo.specs.Rows.{RowConcludes};
 ghost use Rattle.rept_ports.specs.Port.{move};
@@ -14,7 +14,7 @@ ghost use Rattle.rept_app.specs.Promise.{Promise};
 ghost use Rattle.rept_app.specs.Claims.{AskedHolds, BitsKnowMore, ComeToReport, ReportHolds, NoExecution};
 ghost use Rattle.rept_app.specs.Told.{CallWrites, call_input};
 ghost use Rattle.rept_app.specs.Top.{AskedEnds, FileStoreCauses, TopCauses, LoadsOf, EndsByFiles, NoneFails, Completes};
-ghost use Rattle.rept_words.specs.Words.{meaning_of};
+ghost use Rattle.rept_opening.specs.Words.Words.{meaning_of};
 
 use crate::examine::examine;
 use crate::made_run::tell_made_run;

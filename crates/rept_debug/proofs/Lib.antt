@@ -3,3 +3,4 @@ pub mod NoticeLemmas
 pub mod OpenLemmas
 pub mod Sought
 pub mod TalkLemmas
+pub mod DialogLemmas

@@ -3,7 +3,7 @@ use Rattle.std.proofs.Common.{◌≡◌, ◌≤◌, ◌+◌, ℕ, List, Option, 
 use Rattle.rept_elf.specs.Segments.{segments}
 use Rattle.rept_elf.specs.declared.fault.ElfFault.{ElfFault}
 use Rattle.rept_maps.specs.declared.fault.MapFault.{MapFault}
-use Rattle.rept_mapped.specs.Mapped.{Mapping}
+use Rattle.rept_maps.specs.Mapped.Mapped.{Mapping}
 use Rattle.rept_dump.specs.Program.Program.{MappedFiles}
 use Rattle.rept_dump.specs.Dump.{core_of, exe_of}
 use Rattle.rept_dump.specs.declared.dump.Dump.{Dump}
@@ -11,8 +11,8 @@ use Rattle.rept_found.specs.Crash.{crash_of}
 use Rattle.rept_runs.specs.Kind.{is_several}
 use Rattle.rept_ports.specs.Port.{PortMove, move}
 use Rattle.rept_ports.specs.Shelves.{Files, Shelved}
-use Rattle.rept_words.specs.Words.{Meaning}
-use Rattle.rept_words.specs.Words.Meaning.{Open, Maps, Made}
+use Rattle.rept_opening.specs.Words.Words.{Meaning}
+use Rattle.rept_opening.specs.Words.Words.Meaning.{Open, Maps, Made}
 use Rattle.rept_opening.specs.Forms.{core_image_fault}
 use Rattle.rept_opening.specs.Lines.{status_of}
 use Rattle.rept_opening.specs.Listed.{HasNoFiles, LoadStops}

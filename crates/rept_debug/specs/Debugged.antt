@@ -5,16 +5,16 @@ use Rattle.std.specs.Io.KnownBytes.{Appends}
 use Rattle.rept_elf.specs.Header.{half_at}
 use Rattle.rept_ports.specs.Causes.{OneFault, AppendsPrefix}
 use Rattle.rept_maps.specs.declared.fault.MapFault.{MapFault}
-use Rattle.rept_mapfiles.specs.Kept.{asked_names, loads_after}
+use Rattle.rept_maps.specs.Mapfiles.Kept.{asked_names, loads_after}
 use Rattle.rept_ports.specs.Port.{Port, PortMove, move}
 use Rattle.rept_ports.specs.Shelves.{Files, Shelved}
 use Rattle.rept_path.specs.declared.fault.PathFault.{PathFault}
 use Rattle.rept_steps.specs.declared.run.Run.{Run}
 use Rattle.rept_runs.specs.Kind.{is_several}
 use Rattle.rept_found.specs.Crash.{note_at}
-use Rattle.rept_session.specs.Shown.{SessionTold}
-use Rattle.rept_dialog.specs.Converse.{Parties, Converses, parties_over}
-use Rattle.rept_dialog.specs.declared.conversation.SessionEnd.{SessionEnd}
+use Rattle.rept_findings.specs.Shown.{SessionTold}
+use Rattle.rept_debug.specs.Dialog.Converse.{Parties, Converses, parties_over}
+use Rattle.rept_debug.specs.declared.dialog.conversation.SessionEnd.{SessionEnd}
 use Rattle.rept_opening.specs.Forms.{core_image_fault}
 use Rattle.rept_opening.specs.Lines.{status_of}
 use Rattle.rept_opening.specs.Loading.{CrashBytes, CoreBytes, ComesTo, ComesToCore, Loading, core_loads_to, loading, loads_to}

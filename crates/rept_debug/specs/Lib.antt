@@ -1,3 +1,4 @@
 pub mod Begin
 pub mod Debugged
 pub mod Process
+pub mod Dialog

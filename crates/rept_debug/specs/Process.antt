@@ -7,8 +7,8 @@ use Rattle.rept_ports.specs.Shelves.{Shelved}
 use Rattle.rept_ports.specs.declared.arguments.Unreadable.{Unreadable}
 use Rattle.rept_ports.specs.declared.arguments.Unreadable.TheVariants.{NotText, OutOfMemory}
 use Rattle.rept_remote.specs.declared.arrival.Ending.TheVariants as ending
-use Rattle.rept_dialog.specs.declared.conversation.SessionEnd.{SessionEnd}
-use Rattle.rept_dialog.specs.declared.conversation.SessionEnd.TheVariants as conversed
+use Rattle.rept_debug.specs.declared.dialog.conversation.SessionEnd.{SessionEnd}
+use Rattle.rept_debug.specs.declared.dialog.conversation.SessionEnd.TheVariants as conversed
 use Rattle.rept_opening.specs.Delivered.{Delivers, SaysOrNoMemory, TellsName}
 use Rattle.rept_opening.specs.Status.{number_of_status}
 use Rattle.rept_opening.specs.declared.refusal.Refusal.{Refusal}

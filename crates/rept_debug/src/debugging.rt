@@ -3,7 +3,7 @@
 ghost use Rattle.std.specs.Prelude.{◌≡◌, ◌≤◌, ◌<◌, ◌^◌, map, length, string_bytes, IfOk, IfErr, IfSome};
 ghost use Rattle.rept_ports.specs.Port.{move};
 ghost use Rattle.rept_opening.specs.Loading.{FileStoreMoves, crash_bytes, FaultsEnd};
-ghost use Rattle.rept_words.specs.Words.{meaning_of};
+ghost use Rattle.rept_opening.specs.Words.Words.{meaning_of};
 ghost use Rattle.rept_debug.specs.Debugged.{HasNoTalk, IsDebugged, IsHeld, IsRefusedCrash, Notices, streams};
 
 use crate::mapped::debug_mapped;

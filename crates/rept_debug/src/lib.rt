@@ -4,6 +4,7 @@
 
 mod begin;
 mod debugging;
+pub mod dialog;
 mod mapped;
 mod no_talk;
 mod notice;
@@ -13,6 +14,7 @@ mod telling;
 
 pub use begin::{RunFrom, begin_run};
 pub use debugging::debug;
+pub use dialog::{Dialog, SessionEnd, converse, take_turn};
 pub use no_talk::GdbError;
 pub use process::{answer, run};
 pub use talk::GdbSession;

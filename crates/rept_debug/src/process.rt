@@ -7,10 +7,10 @@ ghost use Rattle.rept_ports.specs.Port.{move};
 ghost use Rattle.rept_debug.specs.Process.{AnswersDebugging, OpensTalk, names_way, process, session_words, status_of_end};
 
 use crate::debugging::debug;
+use crate::dialog::SessionEnd;
 use crate::no_talk::GdbError;
 use crate::talk::GdbSession;
 use crate::telling::tell_no_talk;
-use rept_dialog::SessionEnd;
 use rept_opening::{ExitStatus, Refusal};
 use rept_ports::{
     DiskFileStore, FileStore, Sink, Source, StdSink, StdSource, Unreadable, words_of,

@@ -13,12 +13,12 @@ ghost use Rattle.rept_opening.specs.Opened.{crash_trace};
 ghost use Rattle.rept_debug.specs.Debugged.{HoldsDialog, IsHeldTrace, IsRefusedTrace, Notices, streams};
 
 use crate::begin::begin_run;
+use crate::dialog::{SessionEnd, converse};
 use crate::notice::noticed;
-use rept_dialog::{SessionEnd, converse};
 use rept_dump::Dump;
+use rept_findings::Findings;
 use rept_opening::{Asking, Circumstances, CrashImages, OpenOptions, Refusal, open_report};
 use rept_ports::{Sink, Source};
-use rept_session::Findings;
 use rept_stub::Setting;
 use std::alloc::Global;
 

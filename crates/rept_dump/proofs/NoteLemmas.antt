@@ -4,9 +4,9 @@ use Rattle.std.specs.Prelude.{Result, Ok, Err, Some, None, nat_lt}
 use Rattle.std.specs.List.{filter}
 use Rattle.std.specs.Option.{option_map}
 use Rattle.rept_elf.specs.Segments.{ElfSegment}
-use Rattle.rept_notes.specs.Notes.{Note, note_segments}
-use Rattle.rept_notes.specs.Sought.{head, is_short}
-use Rattle.rept_notes.proofs.NoteLemmas.{same_all, same_cuts, whole_or_cuts}
+use Rattle.rept_maps.specs.Notes.Notes.{Note, note_segments}
+use Rattle.rept_maps.specs.Notes.Sought.{head, is_short}
+use Rattle.rept_maps.proofs.NotesLemmas.NoteLemmas.{same_all, same_cuts, whole_or_cuts}
 use Rattle.rept_dump.specs.Registers.{SaysRegisters, SaysOfAll, HaveThreads, all_registers, descs_of, first_short, only_registers, is_status, status_size}
 use Rattle.rept_dump.specs.declared.fault.CoreFault.{CoreFault}
 use Rattle.rept_dump.specs.declared.fault.CoreFault.TheVariants as fault

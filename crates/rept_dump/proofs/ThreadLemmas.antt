@@ -6,7 +6,7 @@ use Rattle.std.proofs.lemmas.Bool.{lt-ltb, le-ltb, ltb-false}
 use Rattle.std.proofs.Common.{◌≡◌, ◌≢◌, ◌==◌, nat_lt, take, Ok, Err, if◌then◌else◌, inl, inr, ℕ, zero, suc, ◌<◌, ◌≤◌, List, [], ◌∷◌, length, map, Bool, true, false, Option, Some, None, slice_get, refl, sym, ◌∙◌, ap, subst, arith}
 use Rattle.std.specs.List.{filter, list_any}
 use Rattle.rept_elf.specs.Segments.{ElfSegment}
-use Rattle.rept_notes.specs.Notes.{Note}
+use Rattle.rept_maps.specs.Notes.Notes.{Note}
 use Rattle.rept_dump.specs.Registers.{is_status, descs_of, HaveThreads, SaysRegisters, SaysOfAll, all_registers, by_size, only_registers, first_twin, first_of, first_short, short_size, status_size, pid_of, most_threads}
 use Rattle.rept_dump.specs.Threads.{AreThreadNotes, AllLong}
 use Rattle.rept_dump.specs.declared.fault.CoreFault.{CoreFault}

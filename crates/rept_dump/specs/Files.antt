@@ -1,6 +1,6 @@
 -- The files of a program as the code has them.
 use Rattle.rept_elf.specs.Image.{file_of}
-use Rattle.rept_mapped.specs.Mappings.{mappings_of}
+use Rattle.rept_maps.specs.Mapped.Mappings.{mappings_of}
 use Rattle.rept_dump.specs.Code.{code_of}
 use Rattle.rept_dump.specs.Memory.{Contents}
 use Rattle.rept_dump.specs.Program.{Program}

@@ -1,6 +1,6 @@
 -- The files of a program, and what they hold. This project's own.
 use Rattle.std.specs.Prelude.{ℕ, List, true}
-use Rattle.rept_mapped.specs.Mapped.{Mapping, mapped_word, mapped_half, mapped_byte, mapped_symbol}
+use Rattle.rept_maps.specs.Mapped.Mapped.{Mapping, mapped_word, mapped_half, mapped_byte, mapped_symbol}
 use Rattle.rept_dump.specs.Memory.{Contents, of_executable}
 
 -- the files of a program: the bytes of its executable, or the files that the process had mapped

@@ -5,8 +5,8 @@ use Rattle.std.specs.Prelude.{◌≡◌, ℕ, ◌+◌, ◌*◌, ◌⊎◌, List,
 use Rattle.std.specs.List.{filter, list_any}
 use Rattle.rept_elf.specs.Header.{word_at}
 use Rattle.rept_elf.specs.Segments.{ElfSegment}
-use Rattle.rept_notes.specs.Notes.{Note, HaveNotes, AreCutAt, note_segments}
-use Rattle.rept_notes.specs.Sought.{is_sought}
+use Rattle.rept_maps.specs.Notes.Notes.{Note, HaveNotes, AreCutAt, note_segments}
+use Rattle.rept_maps.specs.Notes.Sought.{is_sought}
 use Rattle.rept_dump.specs.declared.fault.CoreFault.{CoreFault}
 use Rattle.rept_dump.specs.declared.fault.CoreFault.TheVariants as fault
 

@@ -18,8 +18,7 @@ use crate::status::{Status, read_status};
 use crate::stretch::{NOWHERE, SegmentStretch, stretch_near};
 use crate::threads::{find_threads, search_core};
 use rept_elf::{Image, Symbol};
-use rept_mapped::Mapped;
-use rept_maps::{Images, Maps};
+use rept_maps::{Images, Mapped, Maps};
 use std::alloc::{AllocError, Global};
 
 /// An executable and the core file of its crash, whose notes are whole and have the registers of
@@ -41,7 +40,7 @@ impl<'a> Dump<'a> {
     ghost use Rattle.std.specs.Prelude.{Ok, Err, IfErr, MatchBool, slice_get};
     ghost use Rattle.rept_maps.specs.FileMap.{map_count};
     ghost use Rattle.rept_maps.specs.Views.{desc_of};
-    ghost use Rattle.rept_mapped.specs.Mapped.{mappings};
+    ghost use Rattle.rept_maps.specs.Mapped.Mapped.{mappings};
     ghost use Rattle.rept_dump.specs.Files.{program_of};
     ghost use Rattle.rept_dump.specs.Program.{contents};
     ghost use Rattle.rept_dump.specs.Program.Program.{OneFile, MappedFiles};

@@ -6,7 +6,7 @@ ghost use Rattle.rept_elf.specs.Symbols.{symbol_of};
 
 use crate::executable::Executable;
 use rept_elf::Symbol;
-use rept_mapped::Mapped;
+use rept_maps::Mapped;
 use std::alloc::{AllocError, Global};
 
 /// The files of a program.

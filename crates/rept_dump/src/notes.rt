@@ -5,13 +5,13 @@ ghost use Rattle.std.specs.List.{filter};
 ghost use Rattle.std.specs.Option.{option_map};
 ghost use Rattle.std.specs.Result.{result_map_both};
 ghost use Rattle.rept_elf.specs.Image.{file_of, segments_of};
-ghost use Rattle.rept_notes.specs.Found.{AreFound, note_of};
-ghost use Rattle.rept_notes.specs.Notes.{Note as NoteOf, HaveNotes, AreCutAt, note_segments};
+ghost use Rattle.rept_maps.specs.Notes.Found.{AreFound, note_of};
+ghost use Rattle.rept_maps.specs.Notes.Notes.{Note as NoteOf, HaveNotes, AreCutAt, note_segments};
 ghost use Rattle.rept_dump.specs.Registers.{SaysRegisters, status_size, is_status, first_short, only_registers};
 
 use crate::fault::CoreFault;
 use rept_elf::Image;
-use rept_notes::{FoundNotes, Note, find_notes, find_short};
+use rept_maps::{FoundNotes, Note, find_notes, find_short};
 
 /// The bytes of a register note's descriptor.
 pub const STATUS_SIZE: usize = 204;

@@ -10,7 +10,7 @@ ghost use Rattle.rept_dump.specs.Threads.{AllLong, AreThreadNotes};
 use crate::fault::CoreFault;
 use crate::notes::{NT_PRSTATUS, STATUS_SIZE, first_short, read_core};
 use rept_elf::{Image, word};
-use rept_notes::find_nth;
+use rept_maps::find_nth;
 
 /// The most threads.
 const MOST_THREADS: usize = 1024;

@@ -7,3 +7,4 @@ pub mod Sending
 pub mod Spelling
 pub mod Turns
 pub mod Walks
+pub mod WeavingLemmas

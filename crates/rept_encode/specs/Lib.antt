@@ -4,3 +4,4 @@ pub mod Encoded
 pub mod State
 pub mod Walkable
 pub mod Written
+pub mod Weaving

@@ -16,11 +16,11 @@ use Rattle.rept_order.specs.Times.{begin_of, wholly_before, may_act_between, not
 use Rattle.rept_order.proofs.Acting.{after_true, may_act_true}
 use Rattle.rept_report.specs.Moments.{AreMoments, points_of}
 use Rattle.rept_report.specs.Timeline.{Timeline, IsTimeline}
-use Rattle.rept_reach.specs.declared.reaches.NumberWindow.{NumberWindow}
-use Rattle.rept_reach.specs.Reaching.{IsExtent}
-use Rattle.rept_course.specs.Names.{IsLink, AreNames}
-use Rattle.rept_course.specs.Numbered.{row_on, may_act_by, legs_on}
-use Rattle.rept_course.proofs.Naming.{some_is, stores_inside, after_from_last, are_moments, last_end}
+use Rattle.rept_report.specs.declared.reach.reaches.NumberWindow.{NumberWindow}
+use Rattle.rept_report.specs.Reach.Reaching.{IsExtent}
+use Rattle.rept_moments.specs.Naming.Names.{IsLink, AreNames}
+use Rattle.rept_moments.specs.Naming.Numbered.{row_on, may_act_by, legs_on}
+use Rattle.rept_moments.proofs.NamingLemmas.Naming.{some_is, stores_inside, after_from_last, are_moments, last_end}
 use Rattle.rept_moments.specs.Numbers.{numbers_of, numbered}
 use Rattle.rept_moments.proofs.Apart.{are_numbers}
 use Rattle.rept_moments.proofs.Places.{get_end, get_before}

@@ -8,10 +8,10 @@ use Rattle.rept_steps.specs.Course.{Row, IsRow, IsSoundCourse}
 use Rattle.rept_steps.specs.Course as runs
 use Rattle.rept_order.specs.Moments.{stores}
 use Rattle.rept_order.specs.Moments.Moment.{before}
-use Rattle.rept_reach.specs.Reaching.{IsBar}
-use Rattle.rept_course.specs.Names.{NoOwn}
-use Rattle.rept_course.specs.Numbered.{row_on}
-use Rattle.rept_course.proofs.Ends.{else_may_act, ahead_back}
+use Rattle.rept_report.specs.Reach.Reaching.{IsBar}
+use Rattle.rept_moments.specs.Naming.Names.{NoOwn}
+use Rattle.rept_moments.specs.Naming.Numbered.{row_on}
+use Rattle.rept_moments.proofs.NamingLemmas.Ends.{else_may_act, ahead_back}
 use Rattle.rept_moments.specs.declared.course.NumberedRun.{NumberedRun}
 use Rattle.rept_moments.specs.declared.course.NumberedRun as courses
 use Rattle.rept_moments.specs.Numbers.{numbers_of, numbered}

@@ -2,8 +2,8 @@
 use Rattle.std.specs.Prelude.{◌≡◌, ℕ, List, Some, slice_get}
 use Rattle.std.specs.Option.{IsSome}
 use Rattle.rept_report.specs.Timeline.{Timeline}
-use Rattle.rept_reach.specs.declared.reaches.NumberWindow.{NumberWindow}
-use Rattle.rept_reach.specs.Reaching.{IsExtent}
+use Rattle.rept_report.specs.declared.reach.reaches.NumberWindow.{NumberWindow}
+use Rattle.rept_report.specs.Reach.Reaching.{IsExtent}
 
 -- each of the list has the numbers between which the row of its place may act
 abbrev pub AreExtents : Timeline → List NumberWindow → Type 0

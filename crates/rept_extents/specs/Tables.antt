@@ -3,7 +3,7 @@
 use Rattle.std.specs.Prelude.{◌≡◌, ℕ, ◌+◌, ◌≤◌, ◌<◌, true, List, Option, None, slice_index_or}
 use Rattle.std.specs.Option.{IfSome}
 use Rattle.rept_report.specs.Moments.{Moments}
-use Rattle.rept_reach.specs.Reaching.{IsLit}
+use Rattle.rept_report.specs.Reach.Reaching.{IsLit}
 use Rattle.rept_extents.specs.declared.hulls.Bounds.{Bounds}
 use Rattle.rept_extents.specs.declared.reaches.NextTables.{NextTables}
 use Rattle.rept_extents.specs.declared.reaches.NextTables as tables

@@ -7,7 +7,7 @@ ghost use Rattle.rept_order.specs.Ordered.{course_in};
 ghost use Rattle.rept_moments.specs.Courses.{IsCourseOf};
 ghost use Rattle.rept_moments.specs.Several.{seen_of};
 ghost use Rattle.rept_report.specs.Timeline.{IsTimeline};
-ghost use Rattle.rept_reach.specs.Reaching.{IsExtent};
+ghost use Rattle.rept_report.specs.Reach.Reaching.{IsExtent};
 ghost use Rattle.rept_timeline.specs.Times.{as_timeline, time_of};
 ghost use Rattle.rept_extents.specs.Times.{AreBegins, AreEndTimes};
 ghost use Rattle.rept_extents.specs.Extents.{AreExtents};
@@ -15,7 +15,7 @@ ghost use Rattle.rept_extents.specs.Extents.{AreExtents};
 use crate::times::{begins, ends, first_after, first_reaching, slice_end};
 use rept_moments::{Many, NumberedRun, PointOfThread};
 use rept_order::{Edge, Order};
-use rept_reach::NumberWindow;
+use rept_report::NumberWindow;
 use rept_steps::Run;
 use std::alloc::{AllocError as OutOfMemory, Global};
 use std::marker::Model;
@@ -29,7 +29,7 @@ pub struct Extents {
 
 impl Model for Extents {
     ghost use Rattle.std.specs.Prelude.{List};
-    ghost use Rattle.rept_reach.specs.declared.reaches.NumberWindow.{NumberWindow};
+    ghost use Rattle.rept_report.specs.declared.reach.reaches.NumberWindow.{NumberWindow};
 
     ghost Value = { List NumberWindow };
 

@@ -4,7 +4,7 @@ ghost use Rattle.std.specs.Prelude.{◌≡◌, true, IsSome};
 ghost use Rattle.rept_steps.specs.Course.{IsSoundCourse};
 ghost use Rattle.rept_moments.specs.Courses.{seen_in};
 ghost use Rattle.rept_moments.specs.Several.{seen_of};
-ghost use Rattle.rept_reach.specs.Reaching.{IsBar};
+ghost use Rattle.rept_report.specs.Reach.Reaching.{IsBar};
 ghost use Rattle.rept_timeline.specs.Listed.{IsSoundIn};
 
 use rept_moments::{Many, NumberedRun};

@@ -14,10 +14,10 @@ use Rattle.rept_order.specs.Legs.{points_before}
 use Rattle.rept_order.specs.Moments.{Moment}
 use Rattle.rept_order.specs.Moments.Moment.{before, after, at_end}
 use Rattle.rept_moments.specs.Seen.{alone_by, rows_in}
-use Rattle.rept_places.specs.Places.{last_on, named_on, place_on}
+use Rattle.rept_found.specs.Places.Places.{last_on, named_on, place_on}
 use Rattle.rept_report.specs.OneThread.{path_setting}
-use Rattle.rept_session.specs.Shown.{Shown}
-use Rattle.rept_session.specs.declared.place.ThreadPlace.{ThreadPlace}
+use Rattle.rept_findings.specs.Shown.{Shown}
+use Rattle.rept_findings.specs.declared.place.ThreadPlace.{ThreadPlace}
 use Rattle.rept_found.specs.Crash.{Crash, Means, Scene, path_of, route, setting}
 use Rattle.rept_found.specs.Telling.{shown_of, shown_on}
 

@@ -10,11 +10,11 @@ use Rattle.rept_steps.specs.declared.threads.ThreadRows.{ThreadRows}
 use Rattle.rept_steps.specs.Course.{Course, no_thread, rows_of}
 use Rattle.rept_order.specs.Legs.{Point, points_before, point_of_thread, number_of, point_at}
 use Rattle.rept_order.proofs.Legs.{point_number}
-use Rattle.rept_course.proofs.Naming.{points_next}
+use Rattle.rept_moments.proofs.NamingLemmas.Naming.{points_next}
 use Rattle.rept_moments.specs.Seen.{alone_by}
 use Rattle.rept_moments.proofs.Places.{get_end, get_before}
-use Rattle.rept_places.proofs.Naming.{is_only, past_points}
-use Rattle.rept_trip.specs.Trip.{thread_on, values_by}
+use Rattle.rept_found.proofs.PlacesLemmas.Naming.{is_only, past_points}
+use Rattle.rept_found.specs.Trip.Trip.{thread_on, values_by}
 use Rattle.rept_found.specs.Ends.{Ends, registers_in, last_values_in, AreEnds, AreNoted, AreWhole}
 
 -- the first point of the next thread

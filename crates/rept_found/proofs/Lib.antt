@@ -9,3 +9,5 @@ pub mod Tellings
 pub mod Trips
 pub mod Truths
 pub mod Whys
+pub mod PlacesLemmas
+pub mod TripLemmas

@@ -13,7 +13,7 @@ use Rattle.rept_moments.specs.declared.course.NumberedRun as courses
 use Rattle.rept_moments.specs.Courses.{first_in, seen_in, IsCourseOf}
 use Rattle.rept_report.specs.Timeline.{moment_by}
 use Rattle.rept_moments.specs.Seen.{SeenMoments, seen, moment_in}
-use Rattle.rept_places.proofs.Naming.{is_only}
+use Rattle.rept_found.proofs.PlacesLemmas.Naming.{is_only}
 use Rattle.rept_found.specs.Crash.{ended_at}
 use Rattle.rept_found.specs.View.{CrashView, IsOfRun, ended_as, read_in}
 use Rattle.rept_found.proofs.Enders.{points_fit}

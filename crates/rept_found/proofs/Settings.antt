@@ -15,12 +15,12 @@ use Rattle.rept_steps.specs.declared.threads.ThreadRows.{ThreadRows}
 use Rattle.rept_steps.specs.Course.{Course}
 use Rattle.rept_steps.specs.Runs.{course_of, run_of_one}
 use Rattle.rept_order.specs.Legs.{points_before}
-use Rattle.rept_course.proofs.Naming.{points_next}
+use Rattle.rept_moments.proofs.NamingLemmas.Naming.{points_next}
 use Rattle.rept_moments.specs.declared.course.NumberedRun as courses
 use Rattle.rept_moments.specs.Courses.{seen_in, IsCourseOf}
 use Rattle.rept_moments.specs.Points.{points_in}
 use Rattle.rept_moments.specs.Seen.{SeenMoments, seen, seen_by, alone_by}
-use Rattle.rept_places.proofs.Naming.{is_only}
+use Rattle.rept_found.proofs.PlacesLemmas.Naming.{is_only}
 use Rattle.rept_report.specs.Closure.{ClosureHas, IsReport}
 use Rattle.rept_report.specs.declared.conflict.ConflictKind.{ConflictKind}
 use Rattle.rept_report.specs.Given.{Given, setting_by}
@@ -29,8 +29,8 @@ use Rattle.rept_timeline.specs.declared.run_paths.RunPaths.{RunPaths}
 use Rattle.rept_analysis.specs.State.{Subject as Read, Whole, given_of, path_of, setting_of}
 use Rattle.rept_analysis.specs.Kept.{answers}
 use Rattle.rept_analysis.specs.Logged.{IsLogOf}
-use Rattle.rept_trip.specs.Alone.{registers_alone, trip_of}
-use Rattle.rept_trip.specs.Trip.{Trip, thread_on, given_on, setting_on}
+use Rattle.rept_found.specs.Trip.Alone.{registers_alone, trip_of}
+use Rattle.rept_found.specs.Trip.Trip.{Trip, thread_on, given_on, setting_on}
 use Rattle.rept_found.specs.Crash.{Crash, Means, ThreadEnd, Scene, ended, last_value, last_values, path_of as crash_path, route, trip_by, values_of}
 use Rattle.rept_found.specs.Ends.{Ends, registers_of_one, registers_in, last_values_in, AreEnds, AreNoted, AreWhole}
 use Rattle.rept_found.specs.View.{CrashView, read_in, ended_as, IsFoundIn, IsOfRun, IsPreparedFor, scene_in, state_in, trip_in}

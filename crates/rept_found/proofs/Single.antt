@@ -20,12 +20,12 @@ use Rattle.rept_report.specs.OneThread.{ThreadPath, path_setting}
 use Rattle.rept_moments.proofs.Apart.{legs_seen}
 use Rattle.rept_analysis.specs.Counts.{rows_below}
 use Rattle.rept_analysis.proofs.Counting.{count_full}
-use Rattle.rept_places.specs.Places.{thread_point, point_named, point_on, named_on, place_on}
-use Rattle.rept_places.proofs.Naming.{past_points}
-use Rattle.rept_trip.specs.Alone.{trip_of}
-use Rattle.rept_trip.specs.Last.{writer_found}
-use Rattle.rept_trip.proofs.Last.{found_fits}
-use Rattle.rept_trip.proofs.Single.{point_here, last_low, last_high, moment_alone}
+use Rattle.rept_found.specs.Places.Places.{thread_point, point_named, point_on, named_on, place_on}
+use Rattle.rept_found.proofs.PlacesLemmas.Naming.{past_points}
+use Rattle.rept_found.specs.Trip.Alone.{trip_of}
+use Rattle.rept_found.specs.Trip.Last.{writer_found}
+use Rattle.rept_found.proofs.TripLemmas.Last.{found_fits}
+use Rattle.rept_found.proofs.TripLemmas.Single.{point_here, last_low, last_high, moment_alone}
 use Rattle.rept_dump.specs.Program.{Program}
 use Rattle.rept_found.specs.Crash.{Scene, ThreadEnd, ended_at}
 use Rattle.rept_found.specs.Single.{writer_at, last_writer, IsOneThread}

@@ -3,7 +3,7 @@ use Rattle.std.proofs.Common.{◌≡◌, ℕ, ◌<◌, ◌≤◌, length, Some, 
 use Rattle.std.proofs.lemmas.Bool.{false≢true, cases_eq, cases_lt}
 use Rattle.rept_steps.specs.Course.{rows_of, IsSoundCourse}
 use Rattle.rept_order.specs.Legs.{number_of}
-use Rattle.rept_course.specs.Numbered.{row_on}
+use Rattle.rept_moments.specs.Naming.Numbered.{row_on}
 use Rattle.rept_moments.specs.Seen.{seen, moment_in}
 use Rattle.rept_moments.proofs.Apart.{legs_seen}
 use Rattle.rept_reason.specs.Facts.{Knowledge}
@@ -15,11 +15,11 @@ use Rattle.rept_report.specs.Spots.{Spot, spot}
 use Rattle.rept_report.specs.Writers.{IsLastCandidate, HasNoCandidate, IsWriter}
 use Rattle.rept_report.proofs.WriterLaws.{one_writer}
 use Rattle.rept_analysis.specs.Counts.{IsCounted}
-use Rattle.rept_session.specs.LastWriters.{AreLastWriters, named_row}
-use Rattle.rept_trip.specs.Trip.{Trip, setting_on}
-use Rattle.rept_trip.specs.Last.{writer_found}
-use Rattle.rept_trip.proofs.Last.{found_fits}
-use Rattle.rept_trip.proofs.Pointing.{own_ahead, own_not_ahead, candidate_row, candidate_on, last_back, none_back}
+use Rattle.rept_findings.specs.LastWriters.{AreLastWriters, named_row}
+use Rattle.rept_found.specs.Trip.Trip.{Trip, setting_on}
+use Rattle.rept_found.specs.Trip.Last.{writer_found}
+use Rattle.rept_found.proofs.TripLemmas.Last.{found_fits}
+use Rattle.rept_found.proofs.TripLemmas.Pointing.{own_ahead, own_not_ahead, candidate_row, candidate_on, last_back, none_back}
 use Rattle.rept_found.specs.Crash.{Scene}
 use Rattle.rept_found.specs.Telling.{counts_of, shown_on}
 

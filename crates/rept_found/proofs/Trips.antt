@@ -11,10 +11,10 @@ use Rattle.rept_order.specs.Legs.{number_of, registers_on}
 use Rattle.rept_order.specs.Moments.{Moment}
 use Rattle.rept_order.specs.Points.{memory_at, moment_of_point}
 use Rattle.rept_order.specs.Writers as order
-use Rattle.rept_course.specs.Numbered.{row_on}
-use Rattle.rept_course.proofs.Naming.{row_inside}
+use Rattle.rept_moments.specs.Naming.Numbered.{row_on}
+use Rattle.rept_moments.proofs.NamingLemmas.Naming.{row_inside}
 use Rattle.rept_moments.specs.Seen.{alone_by, moment_in, seen, seen_by}
-use Rattle.rept_places.specs.Places.{last_by, last_on, place_on, point_on, thread_point}
+use Rattle.rept_found.specs.Places.Places.{last_by, last_on, place_on, point_on, thread_point}
 use Rattle.rept_reason.specs.declared.fact.Fact.{Fact}
 use Rattle.rept_reason.specs.declared.fact.Cell.{Cell}
 use Rattle.rept_reason.specs.declared.fact.Cell.TheVariants.{Register, Byte}
@@ -34,15 +34,15 @@ use Rattle.rept_report.specs.Why.{Because, IsReason, IsGiven, RangeAlwaysHolds a
 use Rattle.rept_report.specs.Implied.{HasEnded, known_at_end}
 use Rattle.rept_report.specs.Log.{Entry, logged_of}
 use Rattle.rept_report.specs.OneThread.{ThreadPath, path_setting}
-use Rattle.rept_trip.specs.Trip.{Trip, setting_on}
-use Rattle.rept_trip.specs.Alone.{trip_of}
-use Rattle.rept_trip.specs.Executed.{IsHistoryOf, HasNoHistory, moment_named, run_on, writer_on}
-use Rattle.rept_trip.specs.Last.{writer_found}
-use Rattle.rept_trip.proofs.Acting.{writer_so}
-use Rattle.rept_trip.proofs.Naming.{place_named}
-use Rattle.rept_trip.proofs.Paths.{is_sound}
-use Rattle.rept_trip.proofs.Seeing.{history_runs}
-use Rattle.rept_trip.proofs.Telling.{IsTold, told_by}
+use Rattle.rept_found.specs.Trip.Trip.{Trip, setting_on}
+use Rattle.rept_found.specs.Trip.Alone.{trip_of}
+use Rattle.rept_found.specs.Trip.Executed.{IsHistoryOf, HasNoHistory, moment_named, run_on, writer_on}
+use Rattle.rept_found.specs.Trip.Last.{writer_found}
+use Rattle.rept_found.proofs.TripLemmas.Acting.{writer_so}
+use Rattle.rept_found.proofs.TripLemmas.Naming.{place_named}
+use Rattle.rept_found.proofs.TripLemmas.Paths.{is_sound}
+use Rattle.rept_found.proofs.TripLemmas.Seeing.{history_runs}
+use Rattle.rept_found.proofs.TripLemmas.Telling.{IsTold, told_by}
 use Rattle.rept_found.specs.Chains.{RestsOn}
 use Rattle.rept_found.specs.Crash.{Means, Scene, trip_by}
 use Rattle.rept_found.specs.Telling.{shown_on}

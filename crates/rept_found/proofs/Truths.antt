@@ -32,8 +32,8 @@ use Rattle.rept_report.proofs.OneThread.{rows_within, are_points, execution_runs
 use Rattle.rept_report.specs.OneThread.{ThreadPath, path_setting}
 use Rattle.rept_found.specs.Chains.{RestsOn}
 use Rattle.rept_found.specs.Crash.{Crash, Means, path_of, Scene}
-use Rattle.rept_trip.specs.Alone.{trip_of}
-use Rattle.rept_trip.specs.Last.{writer_found}
+use Rattle.rept_found.specs.Trip.Alone.{trip_of}
+use Rattle.rept_found.specs.Trip.Last.{writer_found}
 use Rattle.rept_found.specs.Telling.{noted, shown_of}
 use Rattle.rept_found.specs.Truth.{ExecutesPath, HasNoExecutionOfPath, StepOfPathWrites, WriterHoldsOnPath, RangeAlwaysHoldsOnPath, IsTrueOf, IsTrueReason, IsTrueReport}
 use Rattle.rept_found.proofs.Tellings.{writer_fits}

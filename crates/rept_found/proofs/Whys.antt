@@ -10,8 +10,8 @@ use Rattle.rept_report.specs.Why.{Because, IsReason}
 use Rattle.rept_analysis.specs.State.{AnalysisState}
 use Rattle.rept_analysis.specs.Kept.{answers}
 use Rattle.rept_analysis.specs.Reasoned.{KeepsAll}
-use Rattle.rept_session.specs.Shown.{known_value}
-use Rattle.rept_trip.specs.Trip.{Trip}
+use Rattle.rept_findings.specs.Shown.{known_value}
+use Rattle.rept_found.specs.Trip.Trip.{Trip}
 use Rattle.rept_found.specs.Crash.{Scene}
 use Rattle.rept_found.specs.Telling.{shown_on}
 

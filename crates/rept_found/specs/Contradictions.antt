@@ -4,9 +4,9 @@ use Rattle.std.specs.Prelude.{ℕ, length}
 use Rattle.rept_reason.specs.declared.fact.Cell.TheVariants.{Register, Byte}
 use Rattle.rept_report.specs.declared.conflict.ConflictKind.{ConflictKind}
 use Rattle.rept_report.specs.declared.conflict.ConflictKind.TheVariants.{TwoValues, EmptyRange, WrongTurn}
-use Rattle.rept_session.specs.declared.place.ThreadPlace.{ThreadPlace}
+use Rattle.rept_findings.specs.declared.place.ThreadPlace.{ThreadPlace}
 use Rattle.rept_steps.specs.Course.{Course}
-use Rattle.rept_places.specs.Places.{place_on, point_named, point_on}
+use Rattle.rept_found.specs.Places.Places.{place_on, point_named, point_on}
 use Rattle.rept_found.specs.declared.contradiction.Contradiction.{Contradiction}
 
 abbrev pub point_place : Course → ℕ → ThreadPlace

@@ -12,11 +12,11 @@ use Rattle.rept_isa.specs.declared.row.StepRow.{StepRow}
 use Rattle.rept_partial.specs.Sets.{Sets}
 use Rattle.rept_report.specs.Setting.{Setting}
 use Rattle.rept_span.specs.Moves.{Moves}
-use Rattle.rept_view.specs.Rules.{Rules}
+use Rattle.rept_reason.specs.View.Rules.{Rules}
 use Rattle.rept_report.specs.OneThread.{ThreadPath}
 use Rattle.rept_steps.specs.Course.{Course}
 use Rattle.rept_order.specs.History.{Ending}
-use Rattle.rept_trip.specs.Trip.{Trip, setting_on}
+use Rattle.rept_found.specs.Trip.Trip.{Trip, setting_on}
 
 -- a program and the core file of its crash: its files, the segments of the core file, and the
 -- descriptors of the register notes, one of each thread

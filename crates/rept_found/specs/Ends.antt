@@ -4,7 +4,7 @@ use Rattle.rept_dump.specs.Status.{IsStatus}
 use Rattle.rept_dump.specs.declared.status.Status.{Status}
 use Rattle.rept_steps.specs.Course.{Course}
 use Rattle.rept_moments.specs.Seen.{alone_by}
-use Rattle.rept_trip.specs.Trip.{values_by}
+use Rattle.rept_found.specs.Trip.Trip.{values_by}
 
 pub record Ends : Type 0 where
   pub course : Course

@@ -13,11 +13,11 @@ use Rattle.rept_reason.specs.declared.reason.RangePremise.{RangePremise}
 use Rattle.rept_reason.specs.Facts.{Knowledge}
 use Rattle.rept_report.specs.Why.{Because, IsReason, IsGiven}
 use Rattle.rept_analysis.specs.Logged.{IsLogOf}
-use Rattle.rept_session.specs.Shown.{IsThreadPoint, Shown, moment_at, number}
-use Rattle.rept_places.specs.Places.{point_on}
-use Rattle.rept_session.specs.declared.place.ThreadPoint.{ThreadPoint}
-use Rattle.rept_trip.specs.Trip.{Trip, setting_on}
-use Rattle.rept_trip.specs.Executed.{IsHistoryOf, moment_named, writer_on}
+use Rattle.rept_findings.specs.Shown.{IsThreadPoint, Shown, moment_at, number}
+use Rattle.rept_found.specs.Places.Places.{point_on}
+use Rattle.rept_findings.specs.declared.place.ThreadPoint.{ThreadPoint}
+use Rattle.rept_found.specs.Trip.Trip.{Trip, setting_on}
+use Rattle.rept_found.specs.Trip.Executed.{IsHistoryOf, moment_named, writer_on}
 use Rattle.rept_found.specs.Chains.{RestsOn}
 use Rattle.rept_found.specs.Crash.{Scene}
 use Rattle.rept_found.specs.Telling.{shown_on}

@@ -8,3 +8,5 @@ pub mod Single
 pub mod Telling
 pub mod Truth
 pub mod View
+pub mod Places
+pub mod Trip

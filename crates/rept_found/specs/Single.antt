@@ -7,8 +7,8 @@ use Rattle.rept_report.specs.declared.writer.Writer as writers
 use Rattle.rept_report.specs.Setting.{Setting}
 use Rattle.rept_report.specs.Views.{may_write, is_sure}
 use Rattle.rept_report.specs.OneThread.{ThreadPath, path_setting}
-use Rattle.rept_session.specs.Shown.{Shown}
-use Rattle.rept_session.specs.declared.place.Place.TheVariants as places
+use Rattle.rept_findings.specs.Shown.{Shown}
+use Rattle.rept_findings.specs.declared.place.Place.TheVariants as places
 
 -- of a step that may write a byte: whether it is known that it does
 abbrev pub writer_at : {W : Type 0} → Setting W → Knowledge → ℕ → Writer

@@ -17,12 +17,12 @@ use Rattle.rept_report.specs.Why.{IsReason}
 use Rattle.rept_report.specs.OneThread.{ThreadPath}
 use Rattle.rept_moments.specs.Seen.{seen, moment_in}
 use Rattle.rept_analysis.specs.Counts.{rows_below, calls_below, stores_below, known_below}
-use Rattle.rept_session.specs.Shown.{SessionTold, Shown, session_told}
-use Rattle.rept_places.specs.Places.{point_on, place_on}
+use Rattle.rept_findings.specs.Shown.{SessionTold, Shown, session_told}
+use Rattle.rept_found.specs.Places.Places.{point_on, place_on}
 use Rattle.rept_dump.specs.Program.{contents}
-use Rattle.rept_trip.specs.Trip.{Trip, setting_on}
-use Rattle.rept_trip.specs.Alone.{trip_of}
-use Rattle.rept_trip.specs.Last.{writer_found}
+use Rattle.rept_found.specs.Trip.Trip.{Trip, setting_on}
+use Rattle.rept_found.specs.Trip.Alone.{trip_of}
+use Rattle.rept_found.specs.Trip.Last.{writer_found}
 use Rattle.rept_found.specs.Crash.{Scene, ended_at}
 use Rattle.rept_found.specs.ProgramCode.{code_byte}
 

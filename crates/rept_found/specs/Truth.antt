@@ -7,7 +7,7 @@ use Rattle.rept_machine.specs.Execution.{Execution}
 use Rattle.rept_reason.specs.declared.fact.Fact.{Fact}
 use Rattle.rept_reason.specs.declared.reason.RangePremise.{RangePremise}
 use Rattle.rept_reason.specs.Facts.{Knowledge}
-use Rattle.rept_view.specs.Written.{Writes}
+use Rattle.rept_reason.specs.View.Written.{Writes}
 use Rattle.rept_report.specs.declared.writer.Writer.{Writer}
 use Rattle.rept_report.specs.declared.writer.Writer as writers
 use Rattle.rept_report.specs.Spots.{Spot, spot}
@@ -16,7 +16,7 @@ use Rattle.rept_analysis.specs.Logged.{IsLogOf}
 use Rattle.rept_report.specs.OneThread.{ThreadPath, path_setting}
 use Rattle.rept_report.specs.Setting.{way_of}
 use Rattle.rept_span.specs.Ranges.{range}
-use Rattle.rept_session.specs.Shown.{Shown}
+use Rattle.rept_findings.specs.Shown.{Shown}
 use Rattle.rept_found.specs.Chains.{RestsOn}
 use Rattle.rept_found.specs.Crash.{Scene}
 use Rattle.rept_found.specs.Telling.{shown_of}

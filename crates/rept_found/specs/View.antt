@@ -14,7 +14,7 @@ use Rattle.rept_versions.specs.OnLine.{LineParts, store}
 use Rattle.rept_analysis.specs.State.{AnalysisState, Whole, Reader, reader, given_of, state_of}
 use Rattle.rept_analysis.specs.Kept.{answers}
 use Rattle.rept_analysis.specs.Logged.{IsLogOf}
-use Rattle.rept_trip.specs.Trip.{Trip, given_on, setting_on}
+use Rattle.rept_found.specs.Trip.Trip.{Trip, given_on, setting_on}
 use Rattle.rept_found.specs.Crash.{Means, ThreadEnd, Scene, trip_by}
 use Rattle.rept_found.specs.Ends.{Ends, registers_in, last_values_in}
 use Rattle.rept_extents.specs.declared.run_rows.RunRows.{RunRows}

@@ -5,11 +5,11 @@ ghost use Rattle.rept_steps.specs.Course as runs;
 ghost use Rattle.rept_moments.specs.Courses.{IsCourseOf};
 ghost use Rattle.rept_found.specs.Contradictions.{conflict_place, contradiction_on, point_place};
 
+use crate::places::{place_of, point_of};
+use rept_findings::{Place, ThreadPlace};
 use rept_moments::NumberedRun;
-use rept_places::{place_of, point_of};
 use rept_reason::Cell;
 use rept_report::ConflictKind;
-use rept_session::{Place, ThreadPlace};
 
 /// A contradiction among what follows from a run and a dump, and where it is, as a session names
 /// it.

@@ -5,7 +5,7 @@ ghost use Rattle.rept_dump.specs.Dump.{HasThreads, threads_of};
 ghost use Rattle.rept_steps.specs.Course.{rows_of};
 ghost use Rattle.rept_steps.specs.Runs.{course_of};
 ghost use Rattle.rept_moments.specs.Points.{points_in};
-ghost use Rattle.rept_trip.specs.Trip.{thread_on};
+ghost use Rattle.rept_found.specs.Trip.Trip.{thread_on};
 ghost use Rattle.rept_found.specs.Ends.{AreEnds, AreNoted, AreWhole, last_values_in};
 
 use rept_dump::{Dump, Status};

@@ -4,8 +4,8 @@ ghost use Rattle.std.specs.Prelude.{◌≡◌, true, IfOk, IsOk, Err};
 ghost use Rattle.rept_report.specs.Closure.{ClosureHas, IsConsistent, IsReport};
 ghost use Rattle.rept_report.specs.Soundness.{HasNoExecution};
 ghost use Rattle.rept_report.specs.declared.conflict.ConflictKind.{ConflictKind};
-ghost use Rattle.rept_trip.specs.Executed.{HasNoHistory};
-ghost use Rattle.rept_trip.specs.Trip.{setting_on};
+ghost use Rattle.rept_found.specs.Trip.Executed.{HasNoHistory};
+ghost use Rattle.rept_found.specs.Trip.Trip.{setting_on};
 ghost use Rattle.rept_analysis.specs.Kept.{answers};
 ghost use Rattle.rept_analysis.specs.Logged.{IsLogOf};
 ghost use Rattle.rept_analysis.specs.State.{IsLined, path_of, reader, setting_of, state_of};
@@ -18,11 +18,11 @@ use rept_analysis::{Analysis, Stop};
 use rept_dump::Dump;
 use rept_extents::RunRows;
 use rept_log::LastValues;
-use rept_reach::Reaches;
+use rept_reason::RowRules;
+use rept_report::Reaches;
 use rept_span::Transfer;
 use rept_timeline::RunPaths;
 use rept_versions::{ByteFacts, SpanFacts};
-use rept_view::RowRules;
 use std::marker::Model;
 
 /// What an analysis found out: the report of a run and the dump in which it ends, by one kind of

@@ -11,21 +11,21 @@ ghost use Rattle.rept_report.specs.declared.conflict.ConflictKind.{ConflictKind}
 ghost use Rattle.rept_report.specs.Closure.{ClosureHas, IsReport};
 ghost use Rattle.rept_report.specs.OneThread.{ThreadPath, path_setting};
 ghost use Rattle.rept_steps.specs.Runs.{course_of, run_of_one};
-ghost use Rattle.rept_session.specs.LastWriters.{AreLastWriters};
-ghost use Rattle.rept_trip.specs.Alone.{trip_of};
-ghost use Rattle.rept_trip.specs.Trip.{setting_on};
-ghost use Rattle.rept_trip.specs.Executed.{HasNoHistory};
+ghost use Rattle.rept_findings.specs.LastWriters.{AreLastWriters};
+ghost use Rattle.rept_found.specs.Trip.Alone.{trip_of};
+ghost use Rattle.rept_found.specs.Trip.Trip.{setting_on};
+ghost use Rattle.rept_found.specs.Trip.Executed.{HasNoHistory};
 ghost use Rattle.rept_found.specs.Crash.{Crash, Scene, means, path_of, route, setting, trip_by};
 ghost use Rattle.rept_found.specs.Histories.{IsTrueTrip};
 ghost use Rattle.rept_found.specs.Single.{IsOneThread};
 ghost use Rattle.rept_found.specs.Telling.{shown_of, shown_on};
 ghost use Rattle.rept_found.specs.Truth.{HasNoExecutionOfPath, IsTrueReport};
 
-use rept_places::places_are_names;
+use crate::places::places_are_names;
+use crate::trip::points_are_moments;
+use rept_reason::RowRules;
 use rept_report::{facts_have_reasons, reports_are_sound};
 use rept_span::Transfer;
-use rept_trip::points_are_moments;
-use rept_view::RowRules;
 
 /// What a session tells of a report holds in every execution of the path that ends in the crash,
 /// and its reasons rest on the report. No chain of them leads back to its own fact. Where the

@@ -7,11 +7,15 @@ pub mod contradiction;
 pub mod ends;
 pub mod found;
 mod laws;
+pub mod places;
 pub mod prepared;
 mod telling;
+pub mod trip;
 
 pub use contradiction::{Contradiction, name_conflict};
 pub use ends::ThreadEnds;
 pub use found::{AnalysedCrash, search};
 pub use laws::{paths_are_one_thread, reports_are_true, runs_are_paths, trips_are_true};
+pub use places::{place_of, places_are_names, point_of};
 pub use prepared::{Prepared, prepare};
+pub use trip::{executions_are_runs, paths_are_trips, points_are_moments, writers_are_found};

@@ -7,20 +7,18 @@ ghost use Rattle.rept_analysis.specs.State.{reader, state_of};
 
 use crate::code::code_byte;
 use crate::found::AnalysedCrash;
+use crate::places::{place_of, point_of};
 use rept_analysis::Analysis;
 use rept_elf::Symbol;
+use rept_findings::{Findings, ThreadPlace, ThreadPoint};
 use rept_isa::{Reg, StepRow};
 use rept_log::LastValues;
 use rept_moments::NumberedRun;
 use rept_partial::{Partial, Range};
-use rept_places::{place_of, point_of};
-use rept_reach::Reaches;
-use rept_reason::{Cell, Fact, Reason};
-use rept_report::{Counts, Paths, Writer, bounds};
-use rept_session::{Findings, ThreadPlace, ThreadPoint};
+use rept_reason::{Cell, Fact, Reason, RowRules};
+use rept_report::{Counts, Paths, Reaches, Writer, bounds};
 use rept_span::Transfer;
 use rept_versions::ByteFacts;
-use rept_view::RowRules;
 use rept_word::OutOfMemory;
 use std::alloc::Global;
 
@@ -57,7 +55,7 @@ impl<'a, W: Transfer, R: RowRules> AnalysedCrash<'a, W, R> {
 impl<'a, W: Transfer, R: RowRules> Findings for AnalysedCrash<'a, W, R> {
     ghost use Rattle.rept_report.specs.Why.{IsReason};
     ghost use Rattle.rept_analysis.specs.Kept.{answers};
-    ghost use Rattle.rept_trip.specs.Trip.{setting_on};
+    ghost use Rattle.rept_found.specs.Trip.Trip.{setting_on};
     ghost use Rattle.rept_found.specs.Telling.{shown_on};
     ghost use Rattle.rept_found.specs.Crash.{means};
     ghost use Rattle.rept_found.specs.View.{scene_in, state_in, trip_in};

@@ -7,8 +7,8 @@ use Rattle.rept_machine.specs.State.{State}
 use Rattle.rept_known.specs.declared.both.Both.{Both}
 use Rattle.rept_known.specs.Both.{both_has}
 use Rattle.rept_span.specs.Filled.{View}
-use Rattle.rept_classes.specs.declared.node.ClassNode.{ClassNode}
-use Rattle.rept_classes.specs.Valuations.{word_of, IsValued}
+use Rattle.rept_relate.specs.declared.classes.node.ClassNode.{ClassNode}
+use Rattle.rept_relate.specs.Classes.Valuations.{word_of, IsValued}
 use Rattle.rept_relate.specs.Numbering.{value_in, IsWalk}
 use Rattle.rept_relate.proofs.Counting.{value_first, value_of_row}
 use Rattle.rept_relate.proofs.Summing.{own, plain}

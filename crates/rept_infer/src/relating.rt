@@ -3,18 +3,17 @@
 ghost use Rattle.std.specs.Prelude.{◌≡◌, ℕ, ◌+◌, ◌<◌, ◌≤◌, ◌^◌, true, length, IfOk, OnOk, OnErr, Err, Some, slice_get};
 ghost use Rattle.rept_machine.specs.State.{State};
 ghost use Rattle.rept_known.specs.Both.{both_has};
-ghost use Rattle.rept_classes.specs.Valuations.{IsValued, HaveSameWords};
+ghost use Rattle.rept_relate.specs.Classes.Valuations.{IsValued, HaveSameWords};
 ghost use Rattle.rept_relate.specs.Numbering.{value_in};
 ghost use Rattle.rept_infer.specs.Admitted.{Story};
 ghost use Rattle.rept_infer.specs.Rules.{HasSets, KeepsSets, RefusesSets};
 
 use crate::stop::InferStop;
 use crate::table::{Empty, Table};
-use rept_classes::{Classes, Term};
 use rept_isa::{StepRow, register, writes};
 use rept_known::Both;
 use rept_partial::Partial;
-use rept_relate::{RelateStop, relate};
+use rept_relate::{Classes, RelateStop, Term, relate};
 use std::alloc::{AllocError as OutOfMemory, Global};
 
 /// A node for each register at the first point, with its set there.

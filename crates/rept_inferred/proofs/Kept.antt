@@ -15,8 +15,8 @@ use Rattle.rept_known.specs.Laws.BothLaws.{both_lawful, both_parts}
 use Rattle.rept_reason.specs.declared.fact.Cell.{Cell}
 use Rattle.rept_reason.specs.declared.fact.Cell.TheVariants.{Register, Byte}
 use Rattle.rept_report.specs.OneThread.{ThreadPath}
-use Rattle.rept_session.specs.LastWriters.{AreLastWriters}
-use Rattle.rept_session.specs.Shown.{Shown, known_value, places_of}
+use Rattle.rept_findings.specs.LastWriters.{AreLastWriters}
+use Rattle.rept_findings.specs.Shown.{Shown, known_value, places_of}
 use Rattle.rept_found.specs.Truth.{IsTrueOf}
 use Rattle.rept_infer.specs.Admitted.{Story}
 use Rattle.rept_infer.specs.Holding.{Holding, Holds}

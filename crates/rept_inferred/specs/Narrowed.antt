@@ -8,7 +8,7 @@ use Rattle.rept_known.specs.BothMoves.{both_moves}
 use Rattle.rept_partial.specs.declared.range.Range.{Range}
 use Rattle.rept_partial.specs.Ranges.{range_meet}
 use Rattle.rept_reason.specs.declared.fact.Cell.{Cell}
-use Rattle.rept_session.specs.Shown.{Shown, known_value}
+use Rattle.rept_findings.specs.Shown.{Shown, known_value}
 
 -- a known value, or else the only one of a set
 abbrev pub value_by : Option ℕ → Option Both → Option ℕ

@@ -2,13 +2,13 @@
 
 ghost use Rattle.std.specs.Prelude.{◌≡◌};
 
+use rept_findings::Findings;
 use rept_found::AnalysedCrash;
 use rept_infer::KnownPath;
 use rept_isa::Reg;
 use rept_known::Both;
 use rept_partial::Partial;
-use rept_session::Findings;
-use rept_view::RowRules;
+use rept_reason::RowRules;
 
 /// The report of a crash, as what is known of its path: the sets of `bits` and the known bytes.
 #[derive(Clone, Copy)]

@@ -6,8 +6,8 @@ use Rattle.rept_reason.specs.declared.fact.Cell.{Cell}
 use Rattle.rept_reason.specs.declared.fact.Cell.TheVariants.{Byte}
 use Rattle.rept_reason.specs.declared.reason.RangePremise.{RangePremise}
 use Rattle.rept_reason.specs.Facts.{Knowledge, told}
-use Rattle.rept_nearest.specs.declared.found.NearestValue.{NearestValue}
-use Rattle.rept_nearest.specs.Nets.{IsNearest}
+use Rattle.rept_report.specs.declared.nearest.found.NearestValue.{NearestValue}
+use Rattle.rept_report.specs.Nearest.Nets.{IsNearest}
 use Rattle.rept_report.specs.Setting.{Setting, HasLaws}
 use Rattle.rept_report.specs.Spots.{Passage, passage, spot}
 use Rattle.rept_report.specs.Timeline.{IsBetween, IsRowBetween}
@@ -17,12 +17,12 @@ use Rattle.rept_report.specs.Reasons.IsReached.{here as reached_here, onward as 
 use Rattle.rept_report.specs.Why.{Because, because, fact_of, looked_across, encloses, looked_below, looked_between, IsNearer, IsCarriedBecause}
 use Rattle.rept_report.specs.Why.IsCarriedBecause.{last_byte as by_dump, onward as by_onward, back as by_back}
 use Rattle.rept_report.proofs.Why.{carries_is}
-use Rattle.rept_origin.specs.declared.step.Direction.{Direction}
-use Rattle.rept_origin.specs.declared.step.Direction.TheVariants.{Onward, Back}
-use Rattle.rept_origin.specs.declared.step.Carriage.{Carriage}
-use Rattle.rept_origin.specs.Bridges.{carries_by}
-use Rattle.rept_origin.specs.Logs.{time_of, byte_in, links_in}
-use Rattle.rept_origin.proofs.Reached.{as_soon, never}
+use Rattle.rept_report.specs.declared.origin.step.Direction.{Direction}
+use Rattle.rept_report.specs.declared.origin.step.Direction.TheVariants.{Onward, Back}
+use Rattle.rept_report.specs.declared.origin.step.Carriage.{Carriage}
+use Rattle.rept_report.specs.Origin.Bridges.{carries_by}
+use Rattle.rept_report.specs.Origin.Logs.{time_of, byte_in, links_in}
+use Rattle.rept_report.proofs.OriginLemmas.Reached.{as_soon, never}
 use Rattle.rept_log.specs.Fronts.{FrontView, setting_in, IsNotOfDump, IsCarriedBy}
 
 -- the ranges by which the row between two moments may not write a byte

@@ -4,18 +4,19 @@ use Rattle.std.proofs.lemmas.Bool.{cases_eq, cond-true, cond-false, eq-eqb, ne_e
 use Rattle.rept_reason.specs.declared.fact.Fact.{Fact}
 use Rattle.rept_reason.specs.declared.fact.Cell.TheVariants.{Byte}
 use Rattle.rept_reason.specs.Facts.{told}
-use Rattle.rept_nearest.specs.declared.found.NearestValue.{NearestValue}
-use Rattle.rept_nearest.specs.Nets.{IsWithinLinks, IsNearest}
-use Rattle.rept_nearest.specs.Nets.IsWithinLinks.{here, onward as one_more}
+use Rattle.rept_report.specs.declared.nearest.found.NearestValue.{NearestValue}
+use Rattle.rept_report.specs.Nearest.Nets.{IsWithinLinks, IsNearest}
+use Rattle.rept_report.specs.Nearest.Nets.IsWithinLinks.{here, onward as one_more}
 use Rattle.rept_report.specs.Setting.{Setting, HasLaws}
 use Rattle.rept_report.specs.Reasons.{StandsIn}
 use Rattle.rept_report.specs.Reasons.StandsIn.{listed, last_byte, onward, back}
 use Rattle.rept_report.specs.Why.{fact_of}
-use Rattle.rept_report.proofs.Search.{or_else, source, byte_at}
+use Rattle.rept_report.specs.Origin.Logs.{or_else, source}
+use Rattle.rept_report.proofs.Search.{byte_at}
 use Rattle.rept_report.proofs.Told.{told_in, none_some}
 use Rattle.rept_report.proofs.Why.{or_some, links_is, found_reached, found_stands, stands_found}
-use Rattle.rept_origin.specs.Logs.{links_in}
-use Rattle.rept_origin.proofs.Reached.{never}
+use Rattle.rept_report.specs.Origin.Logs.{links_in}
+use Rattle.rept_report.proofs.OriginLemmas.Reached.{never}
 use Rattle.rept_log.specs.Bytes.{AreTold}
 
 module _ {W : Type 0} (S : Setting W) (fs : List Fact) (a : ℕ) where

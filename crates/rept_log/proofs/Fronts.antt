@@ -4,15 +4,15 @@ use Rattle.rept_isa.specs.declared.row.StepRow.{StepRow}
 use Rattle.rept_partial.specs.Sets.{Sets}
 use Rattle.rept_span.specs.Moves.{Moves}
 use Rattle.rept_span.specs.Ranges.{Legs, AreLegs}
-use Rattle.rept_view.specs.declared.inferred.When.{When}
-use Rattle.rept_view.specs.declared.inferred.When.TheVariants.{Before, After}
-use Rattle.rept_view.specs.Rules.{Rules}
+use Rattle.rept_reason.specs.declared.view.inferred.When.{When}
+use Rattle.rept_reason.specs.declared.view.inferred.When.TheVariants.{Before, After}
+use Rattle.rept_reason.specs.View.Rules.{Rules}
 use Rattle.rept_report.specs.Moments.{Moments, AreMoments}
 use Rattle.rept_report.specs.Setting.{Setting}
 use Rattle.rept_report.specs.Timeline.{Timeline}
 use Rattle.rept_report.specs.Views.{moment_of}
-use Rattle.rept_origin.specs.Bridges.{ByteAlong}
-use Rattle.rept_origin.specs.Logs.{time_of, byte_in}
+use Rattle.rept_report.specs.Origin.Bridges.{ByteAlong}
+use Rattle.rept_report.specs.Origin.Logs.{time_of, byte_in}
 use Rattle.rept_log.specs.Fronts.{Stored, basis_of, front_of, setting_in}
 
 no_row : IsSome {T = StepRow} None → ⊥

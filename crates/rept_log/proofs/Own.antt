@@ -8,13 +8,13 @@ use Rattle.rept_isa.specs.Numbers.{plus, beside}
 use Rattle.rept_isa.specs.Operands.{first_read}
 use Rattle.rept_reason.specs.declared.fact.Fact.{Fact}
 use Rattle.rept_reason.specs.declared.fact.Cell.TheVariants.{Register, Byte}
-use Rattle.rept_view.specs.declared.inferred.When.{When}
-use Rattle.rept_view.specs.declared.inferred.When.TheVariants.{Before, After}
-use Rattle.rept_view.specs.declared.inferred.Conclusion.{Conclusion}
-use Rattle.rept_view.specs.declared.inferred.Premise.{Premise}
-use Rattle.rept_view.specs.Rules.{Rules, AreLawfulRules, HasSameCells, IsRowByte, IsRowCell, offset_of}
-use Rattle.rept_view.specs.Seen.{Seen, IsLawful}
-use Rattle.rept_view.proofs.Alike.{inferred_alike, same_cells_back}
+use Rattle.rept_reason.specs.declared.view.inferred.When.{When}
+use Rattle.rept_reason.specs.declared.view.inferred.When.TheVariants.{Before, After}
+use Rattle.rept_reason.specs.declared.view.inferred.Conclusion.{Conclusion}
+use Rattle.rept_reason.specs.declared.view.inferred.Premise.{Premise}
+use Rattle.rept_reason.specs.View.Rules.{Rules, AreLawfulRules, HasSameCells, IsRowByte, IsRowCell, offset_of}
+use Rattle.rept_reason.specs.View.Seen.{Seen, IsLawful}
+use Rattle.rept_reason.proofs.ViewLemmas.Alike.{inferred_alike, same_cells_back}
 use Rattle.rept_report.specs.Moments.{Moments}
 use Rattle.rept_report.specs.Views.{instant_of}
 use Rattle.rept_report.specs.Why.{fact_of, or_zero, premise_of}

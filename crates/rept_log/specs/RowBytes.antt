@@ -4,10 +4,10 @@ use Rattle.std.specs.Prelude.{ℕ, zero, suc, ◌==◌, if◌then◌else◌, min
 use Rattle.rept_isa.specs.declared.row.StepRow.{StepRow}
 use Rattle.rept_isa.specs.Numbers.{plus, beside}
 use Rattle.rept_isa.specs.Operands.{first_read}
-use Rattle.rept_view.specs.declared.inferred.When.{When}
-use Rattle.rept_view.specs.declared.inferred.When.TheVariants.{Before, After}
-use Rattle.rept_view.specs.Rules.{Rules, offset_of}
-use Rattle.rept_view.specs.Seen.{Seen, IsLawful}
+use Rattle.rept_reason.specs.declared.view.inferred.When.{When}
+use Rattle.rept_reason.specs.declared.view.inferred.When.TheVariants.{Before, After}
+use Rattle.rept_reason.specs.View.Rules.{Rules, offset_of}
+use Rattle.rept_reason.specs.View.Seen.{Seen, IsLawful}
 use Rattle.rept_log.specs.declared.row_bytes.RowByte.{RowByte}
 
 -- the byte before the row, or after it

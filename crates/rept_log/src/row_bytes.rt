@@ -3,7 +3,7 @@
 ghost use Rattle.std.specs.Prelude.{◌≡◌};
 ghost use Rattle.rept_log.specs.RowBytes.{on_side, byte_among};
 
-use rept_view::When;
+use rept_reason::When;
 
 /// A byte before and after a row, where it is known.
 #[derive(Clone, Copy, Default)]

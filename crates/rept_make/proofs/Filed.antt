@@ -9,7 +9,7 @@ use Rattle.rept_elf.specs.Segments.{ElfSegment, segments}
 use Rattle.rept_elf.specs.Symbols.{FunctionSymbol}
 use Rattle.rept_elf.specs.Checks.{checks, first_failure}
 use Rattle.rept_elf.specs.declared.fault.Want.TheVariants.{Exec, Core}
-use Rattle.rept_notes.specs.Notes.{Note, AreNotes, HaveNotes, first_note}
+use Rattle.rept_maps.specs.Notes.Notes.{Note, AreNotes, HaveNotes, first_note}
 use Rattle.rept_dump.specs.Registers.{SaysRegisters, only_registers}
 use Rattle.std.specs.Option.{option_map, option_or}
 use Rattle.rept_isa.specs.declared.instr.Instr.{Instr}

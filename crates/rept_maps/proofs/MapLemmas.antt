@@ -3,9 +3,9 @@ use Rattle.std.proofs.Common.{◌≡◌, ℕ, inl, inr, List, arith, sym, ◌∙
 use Rattle.std.specs.Prelude.{Option, Some, None, Result, Ok, Err}
 use Rattle.std.specs.List.{filter}
 use Rattle.rept_elf.specs.Segments.{ElfSegment}
-use Rattle.rept_notes.specs.Notes.{Note, note_segments}
-use Rattle.rept_notes.specs.Sought.{SaysOfType, CountedNotes, is_sought, head}
-use Rattle.rept_notes.proofs.NoteLemmas.{same_all, same_cuts, whole_or_cuts}
+use Rattle.rept_maps.specs.Notes.Notes.{Note, note_segments}
+use Rattle.rept_maps.specs.Notes.Sought.{SaysOfType, CountedNotes, is_sought, head}
+use Rattle.rept_maps.proofs.NotesLemmas.NoteLemmas.{same_all, same_cuts, whole_or_cuts}
 use Rattle.rept_maps.specs.FileMap.{file_kind}
 use Rattle.rept_maps.specs.Told.{NoteSays, FirstSays, MapsSay}
 use Rattle.rept_maps.specs.declared.fault.MapFault.{MapFault}

@@ -3,8 +3,8 @@
 use Rattle.std.specs.Prelude.{◌≡◌, ℕ, ◌<◌, ◌≤◌, ◌⊎◌, List, Option, None, Some, Result, Ok, Err}
 use Rattle.std.specs.List.{filter}
 use Rattle.rept_elf.specs.Segments.{ElfSegment}
-use Rattle.rept_notes.specs.Notes.{Note, HaveNotes, AreCutAt, note_segments}
-use Rattle.rept_notes.specs.Sought.{is_sought, head}
+use Rattle.rept_maps.specs.Notes.Notes.{Note, HaveNotes, AreCutAt, note_segments}
+use Rattle.rept_maps.specs.Notes.Sought.{is_sought, head}
 use Rattle.rept_maps.specs.FileMap.{IsFileMap, map_count, file_kind, most_entries}
 use Rattle.rept_maps.specs.declared.fault.MapFault.{MapFault}
 use Rattle.rept_maps.specs.declared.fault.MapFault.TheVariants as fault

@@ -2,14 +2,14 @@
 
 ghost use Rattle.std.specs.Prelude.{◌≡◌, ◌≤◌, ◌<◌, ◌+◌, ◌^◌, ℕ, List, Result, length};
 ghost use Rattle.rept_elf.specs.Image.{file_of, segments_of};
-ghost use Rattle.rept_notes.specs.Found.{note_of};
+ghost use Rattle.rept_maps.specs.Notes.Found.{note_of};
 ghost use Rattle.rept_maps.specs.FileMap.{IsFileMap, map_count, most_entries};
 
 use crate::entry::{Entry, MappedRange, is_map, name_at, place_at};
 use crate::fault::MapFault;
 use crate::names::Names;
+use crate::notes::{FoundNotes, Note, find_notes};
 use rept_elf::{Image, after, word};
-use rept_notes::{FoundNotes, Note, find_notes};
 
 /// The type of a note that lists mapped files.
 const NT_FILE: u32 = 0x4649_4c45;

@@ -9,13 +9,13 @@ use Rattle.rept_order.specs.Moments.{stretch}
 use Rattle.rept_order.specs.Moments.Moment.{before, after}
 use Rattle.rept_order.specs.Runs.{beside_by}
 use Rattle.rept_order.specs.Times.{begin_of}
-use Rattle.rept_course.specs.Making.{is_still, next_point}
+use Rattle.rept_moments.specs.Naming.Making.{is_still, next_point}
 use Rattle.rept_order.specs.Legs.{points_before, number_of, leg_row}
-use Rattle.rept_course.specs.Numbered.{row_on}
+use Rattle.rept_moments.specs.Naming.Numbered.{row_on}
 use Rattle.rept_moments.specs.declared.side.PointSide.{PointSide}
 use Rattle.rept_moments.specs.Points.{points_in}
 use Rattle.rept_moments.specs.Ordering.{moment_at_side, event_at}
-use Rattle.rept_crossing.specs.Writers.{not_past}
+use Rattle.rept_order.specs.Crossing.Writers.{not_past}
 use Rattle.rept_moments.specs.Merging.{merged_at}
 use Rattle.rept_moments.specs.Numbers.{numbers_of}
 use Rattle.rept_moments.specs.Nexts.{offers_at, is_first_later, first_offer, nexts_of, merged_nexts, point_nexts, side_nexts, last_nexts, ends_to, Member, AddsOthers}

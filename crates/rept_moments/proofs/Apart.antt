@@ -9,9 +9,9 @@ use Rattle.rept_order.specs.Moments.ArePause.{between, last}
 use Rattle.rept_span.specs.Ranges.{AreLegs}
 use Rattle.rept_report.specs.Moments.{AreMoments}
 use Rattle.rept_report.proofs.OneThread.{rows_within, are_points}
-use Rattle.rept_course.specs.Names.{MomentNames, AreNames}
-use Rattle.rept_course.proofs.Naming.{are_legs, are_moments}
-use Rattle.rept_course.proofs.Making.{are_names_by}
+use Rattle.rept_moments.specs.Naming.Names.{MomentNames, AreNames}
+use Rattle.rept_moments.proofs.NamingLemmas.Naming.{are_legs, are_moments}
+use Rattle.rept_moments.proofs.NamingLemmas.Making.{are_names_by}
 use Rattle.rept_moments.specs.Ordering.{in_order}
 use Rattle.rept_moments.specs.Numbers.{unless, apart, numbers_of}
 use Rattle.rept_moments.specs.Seen.{alone_by, seen_by, seen}

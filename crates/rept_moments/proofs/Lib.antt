@@ -18,3 +18,4 @@ pub mod Reaching
 pub mod Alone
 pub mod Standing
 pub mod Together
+pub mod NamingLemmas

@@ -7,8 +7,8 @@ use Rattle.rept_order.specs.Moments.{Moment, IsMoment}
 use Rattle.rept_order.specs.Moments.Moment.{before, after, at_end}
 use Rattle.rept_order.specs.Runs.{beside_by}
 use Rattle.rept_order.specs.Legs.{leg_row}
-use Rattle.rept_course.specs.Making.{Has, IsListing}
-use Rattle.rept_course.specs.Numbered.{row_on}
+use Rattle.rept_moments.specs.Naming.Making.{Has, IsListing}
+use Rattle.rept_moments.specs.Naming.Numbered.{row_on}
 use Rattle.rept_moments.specs.declared.side.Timed.{Timed}
 use Rattle.rept_moments.specs.Points.{points_in}
 use Rattle.rept_moments.specs.Ordering.{side, moment_at_side, timed, timed_at, timed_to, put, by_time, in_time, back, in_order}

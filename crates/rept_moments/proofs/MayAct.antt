@@ -13,11 +13,11 @@ use Rattle.rept_order.proofs.Between.{not_both}
 use Rattle.rept_order.proofs.Decide.{row_self}
 use Rattle.rept_order.proofs.Acting.{may_act_true, may_act_from}
 use Rattle.rept_order.proofs.Legs.{number_point}
-use Rattle.rept_course.specs.Names.{AreNames, NoOwn}
-use Rattle.rept_course.specs.Making.{lasts}
-use Rattle.rept_course.specs.Numbered.{row_on, may_act_by, untraced_by}
-use Rattle.rept_course.proofs.Naming.{stores_inside}
-use Rattle.rept_course.proofs.Ends.{else_may_act, else_untraced}
+use Rattle.rept_moments.specs.Naming.Names.{AreNames, NoOwn}
+use Rattle.rept_moments.specs.Naming.Making.{lasts}
+use Rattle.rept_moments.specs.Naming.Numbered.{row_on, may_act_by, untraced_by}
+use Rattle.rept_moments.proofs.NamingLemmas.Naming.{stores_inside}
+use Rattle.rept_moments.proofs.NamingLemmas.Ends.{else_may_act, else_untraced}
 use Rattle.rept_moments.specs.declared.side.PointSide.{PointSide}
 use Rattle.rept_moments.specs.Ordering.{moment_at_side, in_order}
 use Rattle.rept_moments.specs.Numbers.{numbers_of, numbered}

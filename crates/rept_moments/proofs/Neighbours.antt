@@ -10,11 +10,11 @@ use Rattle.rept_order.specs.Moments.ArePause.{between, last}
 use Rattle.rept_order.specs.Runs.{beside_by}
 use Rattle.rept_order.specs.Legs.{points_before, number_of, leg_row}
 use Rattle.rept_order.proofs.Legs.{number_point, thread_inside}
-use Rattle.rept_course.specs.Names.{AreNames}
-use Rattle.rept_course.specs.Making.{is_still, next_point, lasts, link_by, named_by, rank}
-use Rattle.rept_course.specs.Numbered.{row_on}
-use Rattle.rept_course.proofs.Naming.{some_is}
-use Rattle.rept_course.proofs.Making.{next_last, last_named}
+use Rattle.rept_moments.specs.Naming.Names.{AreNames}
+use Rattle.rept_moments.specs.Naming.Making.{is_still, next_point, lasts, link_by, named_by, rank}
+use Rattle.rept_moments.specs.Naming.Numbered.{row_on}
+use Rattle.rept_moments.proofs.NamingLemmas.Naming.{some_is}
+use Rattle.rept_moments.proofs.NamingLemmas.Making.{next_last, last_named}
 use Rattle.rept_moments.specs.declared.side.PointSide.{PointSide}
 use Rattle.rept_moments.specs.Ordering.{moment_at_side, in_order}
 use Rattle.rept_moments.specs.Merging.{merged_at}

@@ -13,8 +13,8 @@ use Rattle.rept_order.specs.Times.{same_row, same_moment}
 use Rattle.rept_order.specs.Legs.{number_of}
 use Rattle.rept_order.proofs.Decide.{row_true, row_self}
 use Rattle.rept_order.proofs.Legs.{number_point}
-use Rattle.rept_course.specs.Making.{is_still, next_point, last_of, holds, keeps, lasts, rank, ranked}
-use Rattle.rept_course.specs.Numbered.{row_on}
+use Rattle.rept_moments.specs.Naming.Making.{is_still, next_point, last_of, holds, keeps, lasts, rank, ranked}
+use Rattle.rept_moments.specs.Naming.Numbered.{row_on}
 use Rattle.rept_moments.specs.declared.side.PointSide.{PointSide}
 use Rattle.rept_moments.specs.declared.side.Timed.{Timed}
 use Rattle.rept_moments.specs.Points.{points_in, by_point}

@@ -6,8 +6,8 @@ use Rattle.rept_order.specs.Moments.{Moment, IsMoment, Earlier, Stretch, stretch
 use Rattle.rept_order.specs.Times.{is_earlier}
 use Rattle.rept_order.proofs.Decide.{earlier_true, earlier_from}
 use Rattle.rept_order.proofs.Nexts.{In, every, listed}
-use Rattle.rept_course.specs.Making.{moments_in, none_between, is_next}
-use Rattle.rept_course.proofs.Naming.{not_true}
+use Rattle.rept_moments.specs.Naming.Making.{moments_in, none_between, is_next}
+use Rattle.rept_moments.proofs.NamingLemmas.Naming.{not_true}
 use Rattle.rept_moments.specs.Numbers.{numbers_of}
 use Rattle.rept_moments.specs.Nexts.{nexts_among, nexts_of, Member}
 

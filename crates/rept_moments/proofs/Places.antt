@@ -10,8 +10,8 @@ use Rattle.rept_steps.specs.Course.{Course, Row, row_of, rows_of, no_thread, IsR
 use Rattle.rept_order.specs.Legs.{Point, points_before, number_of, row_from, leg_row}
 use Rattle.rept_order.specs.Moments.{is_writing, stores}
 use Rattle.rept_order.proofs.Legs.{point_number, thread_inside, leg_leads}
-use Rattle.rept_course.specs.Numbered.{row_on}
-use Rattle.rept_course.proofs.Naming.{some_is, row_inside, are_legs}
+use Rattle.rept_moments.specs.Naming.Numbered.{row_on}
+use Rattle.rept_moments.proofs.NamingLemmas.Naming.{some_is, row_inside, are_legs}
 use Rattle.rept_moments.specs.declared.points.Edges.{Edges}
 use Rattle.rept_moments.specs.declared.side.PointOfThread.{PointOfThread}
 use Rattle.rept_moments.specs.declared.side.PointSide.{PointSide}

@@ -10,14 +10,14 @@ use Rattle.rept_order.specs.Moments.Moment.{before, after, at_end}
 use Rattle.rept_order.specs.Runs.{beside_by}
 use Rattle.rept_order.specs.Legs.{leg_row}
 use Rattle.rept_order.proofs.Nexts.{earlier_trans}
-use Rattle.rept_course.specs.Numbered.{row_on}
+use Rattle.rept_moments.specs.Naming.Numbered.{row_on}
 use Rattle.rept_moments.specs.declared.begins.SliceStart.{SliceStart}
 use Rattle.rept_moments.specs.declared.nexts.Later.{Later}
 use Rattle.rept_moments.specs.declared.side.PointSide.{PointSide}
 use Rattle.rept_moments.specs.Ordering.{moment_at_side}
 use Rattle.rept_moments.specs.Edges.{begin_at, end_at}
 use Rattle.rept_moments.specs.Begins.{former_at, following_at, same_end, is_alike, is_first_by, is_first_at, sooner_end, later_from, IsBy, AreBegins}
-use Rattle.rept_crossing.specs.Writers.{not_past}
+use Rattle.rept_order.specs.Crossing.Writers.{not_past}
 use Rattle.rept_moments.specs.Numbers.{numbers_of}
 use Rattle.rept_moments.specs.Nexts.{nexts_of, Member, AddsOthers, IsAfter, IsOther, end_with, IsLaterBy, offers_at, none_late, is_first_later, first_offer, IsOffer}
 use Rattle.rept_moments.proofs.Places.{row_there, there_row}

@@ -11,7 +11,7 @@ use Rattle.rept_order.specs.Runs.{edge_part, beside_by}
 use Rattle.rept_order.specs.Times.{begin_of, ends_by, own_before, sooner, same_part, same_row, not_later}
 use Rattle.rept_order.proofs.Sequence.{first_is_event, last_is_event, directly}
 use Rattle.rept_order.proofs.Between.{row_forward}
-use Rattle.rept_course.specs.Numbered.{row_on}
+use Rattle.rept_moments.specs.Naming.Numbered.{row_on}
 use Rattle.rept_moments.specs.declared.side.PointSide.{PointSide}
 use Rattle.rept_moments.specs.Ordering.{moment_at_side, event_at}
 use Rattle.rept_moments.specs.Writers.{end_of}

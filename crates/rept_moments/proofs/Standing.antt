@@ -8,7 +8,7 @@ use Rattle.rept_steps.specs.declared.threads.ThreadRows.{ThreadRows}
 use Rattle.rept_steps.specs.Course.{Course, row_of, rows_of, no_thread, row_at}
 use Rattle.rept_order.specs.Legs.{Point, point_of_thread, points_before, point_in, point_at, row_from, leg_row}
 use Rattle.rept_order.proofs.Legs.{point_number, number_point}
-use Rattle.rept_course.specs.Numbered.{legs_on}
+use Rattle.rept_moments.specs.Naming.Numbered.{legs_on}
 use Rattle.rept_moments.specs.Points.{points_in}
 use Rattle.rept_span.specs.Ranges.{legs_of}
 use Rattle.rept_moments.specs.Seen.{seen_alone, IsRowAt, IsLastFrom}

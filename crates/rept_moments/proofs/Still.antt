@@ -17,14 +17,14 @@ use Rattle.rept_order.specs.Moments.Act.{row}
 use Rattle.rept_order.specs.Times.{begin_of, own_before, ends_by, sooner, same_part, same_row, late_by, wholly_before, wholly_after, may_act_between}
 use Rattle.rept_order.proofs.Decide.{row_self}
 use Rattle.rept_order.proofs.Nexts.{In, every, listed}
-use Rattle.rept_course.specs.Making.{moments_in, still_by, rows_still, is_still, next_point}
-use Rattle.rept_course.specs.Numbered.{row_on}
-use Rattle.rept_course.proofs.Naming.{stores_inside}
-use Rattle.rept_crossing.specs.declared.writer.TimedWriter.{TimedWriter}
-use Rattle.rept_crossing.specs.declared.writer.Rest.{Rest}
+use Rattle.rept_moments.specs.Naming.Making.{moments_in, still_by, rows_still, is_still, next_point}
+use Rattle.rept_moments.specs.Naming.Numbered.{row_on}
+use Rattle.rept_moments.proofs.NamingLemmas.Naming.{stores_inside}
+use Rattle.rept_order.specs.declared.crossing.writer.TimedWriter.{TimedWriter}
+use Rattle.rept_order.specs.declared.crossing.writer.Rest.{Rest}
 use Rattle.rept_moments.specs.Points.{points_in}
 use Rattle.rept_moments.specs.Writers.{end_of, end_in, writer_of, writers_at, writers_to}
-use Rattle.rept_crossing.specs.Writers.{lasts_to, not_past, crosses}
+use Rattle.rept_order.specs.Crossing.Writers.{lasts_to, not_past, crosses}
 use Rattle.rept_moments.specs.Merging.{until, untraced_from, rest_from, rest_end}
 use Rattle.rept_moments.proofs.Places.{row_there, point_of_row, row_point, row_before, next_row}
 

@@ -15,10 +15,10 @@ use Rattle.rept_order.specs.Runs.{edge_part, beside_by}
 use Rattle.rept_order.specs.Times.{ends_by, begin_of, not_later, may_act_between}
 use Rattle.rept_order.specs.Legs.{leg_row}
 use Rattle.rept_order.proofs.Acting.{may_act_true}
-use Rattle.rept_course.specs.Names.{AreNames, IsLink}
-use Rattle.rept_course.specs.Making.{lasts}
-use Rattle.rept_course.specs.Numbered.{row_on, may_act_by}
-use Rattle.rept_course.proofs.Naming.{some_is, stores_inside}
+use Rattle.rept_moments.specs.Naming.Names.{AreNames, IsLink}
+use Rattle.rept_moments.specs.Naming.Making.{lasts}
+use Rattle.rept_moments.specs.Naming.Numbered.{row_on, may_act_by}
+use Rattle.rept_moments.proofs.NamingLemmas.Naming.{some_is, stores_inside}
 use Rattle.rept_moments.specs.declared.side.PointSide.{PointSide}
 use Rattle.rept_moments.specs.Begins.{same_end, is_alike}
 use Rattle.rept_moments.specs.Edges.{begin_at, end_at}

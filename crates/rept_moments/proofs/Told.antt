@@ -9,9 +9,9 @@ use Rattle.rept_order.specs.Moments.{Moment, stretch, stores}
 use Rattle.rept_order.specs.Moments.Moment.{before, after, at_end}
 use Rattle.rept_order.specs.Times.{untraced_before, not_later}
 use Rattle.rept_order.specs.Legs.{leg_row}
-use Rattle.rept_course.specs.Making.{is_still, next_point, lasts, rank, ranked}
-use Rattle.rept_course.specs.Numbered.{row_on}
-use Rattle.rept_course.proofs.Naming.{some_is}
+use Rattle.rept_moments.specs.Naming.Making.{is_still, next_point, lasts, rank, ranked}
+use Rattle.rept_moments.specs.Naming.Numbered.{row_on}
+use Rattle.rept_moments.proofs.NamingLemmas.Naming.{some_is}
 use Rattle.rept_moments.specs.declared.side.PointSide.{PointSide}
 use Rattle.rept_moments.specs.Points.{points_in, by_point}
 use Rattle.rept_moments.specs.Ordering.{moment_at_side, in_order}

@@ -14,13 +14,13 @@ use Rattle.rept_order.specs.Legs.{points_before, leg_row}
 use Rattle.rept_order.proofs.Decide.{not_later_true, not_later_from}
 use Rattle.rept_order.proofs.Legs.{number_point}
 use Rattle.rept_order.proofs.Nexts.{earlier_trans}
-use Rattle.rept_course.specs.Numbered.{row_on}
+use Rattle.rept_moments.specs.Naming.Numbered.{row_on}
 use Rattle.rept_moments.specs.declared.side.PointSide.{PointSide}
 use Rattle.rept_moments.specs.Ordering.{side, moment_at_side, event_at}
 use Rattle.rept_moments.specs.Edges.{begin_at, end_at}
 use Rattle.rept_moments.specs.Begins.{stands_by, former_at, following_at}
 use Rattle.rept_moments.specs.Writers.{end_of}
-use Rattle.rept_crossing.specs.Writers.{not_past}
+use Rattle.rept_order.specs.Crossing.Writers.{not_past}
 use Rattle.rept_moments.proofs.Places.{row_there, there_row, point_of_row, row_point, next_row}
 use Rattle.rept_moments.proofs.Listing.{row_at_side}
 use Rattle.rept_moments.proofs.Sooner.{sides_apart, sides_ended, rows_apart, row_apart}

@@ -2,7 +2,7 @@
 use Rattle.std.specs.Prelude.{◌≡◌, ℕ, ◌==◌, ◌&&◌, not, if◌then◌else◌, false, Option, Some, None}
 use Rattle.rept_steps.specs.Course.{Course, IsRow, calls}
 use Rattle.rept_order.specs.Moments.Moment.{before, after}
-use Rattle.rept_course.specs.Numbered.{row_on}
+use Rattle.rept_moments.specs.Naming.Numbered.{row_on}
 use Rattle.rept_moments.specs.Numbers.{numbers_of}
 
 -- the row that leads from the point, if it is no call, with this number after it

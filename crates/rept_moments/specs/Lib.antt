@@ -13,3 +13,4 @@ pub mod Between
 pub mod Together
 pub mod Several
 pub mod Courses
+pub mod Naming

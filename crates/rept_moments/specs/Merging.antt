@@ -6,8 +6,8 @@ use Rattle.rept_order.specs.Events.{event_slice, first_event}
 use Rattle.rept_order.specs.Moments.{stretch}
 use Rattle.rept_order.specs.Moments.Moment.{after}
 use Rattle.rept_order.specs.Legs.{leg_row}
-use Rattle.rept_course.specs.Making.{is_still, next_point}
-use Rattle.rept_course.specs.Numbered.{row_on}
+use Rattle.rept_moments.specs.Naming.Making.{is_still, next_point}
+use Rattle.rept_moments.specs.Naming.Numbered.{row_on}
 use Rattle.rept_moments.specs.Writers.{end_of}
 
 abbrev pub until : Option ℕ → ℕ → Bool

@@ -7,14 +7,14 @@ use Rattle.rept_steps.specs.Course.{Course, rows_of}
 use Rattle.rept_order.specs.Moments.{Moment, Earlier, stretch}
 use Rattle.rept_order.specs.Moments.Moment.{after}
 use Rattle.rept_order.specs.Legs.{number_of, leg_row}
-use Rattle.rept_course.specs.Making.{is_next, moments_in}
-use Rattle.rept_course.specs.Numbered.{row_on}
+use Rattle.rept_moments.specs.Naming.Making.{is_next, moments_in}
+use Rattle.rept_moments.specs.Naming.Numbered.{row_on}
 use Rattle.rept_moments.specs.declared.side.PointSide.{PointSide}
 use Rattle.rept_moments.specs.declared.nexts.Later.{Later}
 use Rattle.rept_moments.specs.Ordering.{moment_at_side}
 use Rattle.rept_moments.specs.Edges.{begin_at, end_at}
 use Rattle.rept_moments.specs.Begins.{former_at, sooner_end, IsBy}
-use Rattle.rept_crossing.specs.Writers.{not_past}
+use Rattle.rept_order.specs.Crossing.Writers.{not_past}
 use Rattle.rept_moments.specs.Merging.{merged_at}
 use Rattle.rept_moments.specs.Numbers.{numbers_of}
 

@@ -5,9 +5,9 @@ use Rattle.std.specs.Prelude.{◌==◌, Bool, true, false, Option, None}
 use Rattle.rept_steps.specs.Course.{Course}
 use Rattle.rept_order.specs.Moments.{Stretch}
 use Rattle.rept_report.specs.Moments.{Moments}
-use Rattle.rept_course.specs.Names.{MomentNames}
-use Rattle.rept_course.specs.Making.{names_by}
-use Rattle.rept_course.specs.Numbered.{moments_of}
+use Rattle.rept_moments.specs.Naming.Names.{MomentNames}
+use Rattle.rept_moments.specs.Naming.Making.{names_by}
+use Rattle.rept_moments.specs.Naming.Numbered.{moments_of}
 use Rattle.rept_moments.specs.Ordering.{in_order}
 
 abbrev pub unless : Bool → Option Stretch → Option Stretch

@@ -9,7 +9,7 @@ use Rattle.rept_order.specs.Moments.{Moment}
 use Rattle.rept_order.specs.Runs.{edge_part, beside_by}
 use Rattle.rept_order.specs.Times.{begin_of}
 use Rattle.rept_order.specs.Legs.{leg_row}
-use Rattle.rept_course.specs.Numbered.{row_on}
+use Rattle.rept_moments.specs.Naming.Numbered.{row_on}
 use Rattle.rept_moments.specs.declared.side.PointSide.{PointSide}
 use Rattle.rept_moments.specs.declared.side.Timed.{Timed}
 use Rattle.rept_moments.specs.Points.{points_in}

@@ -10,7 +10,7 @@ use Rattle.rept_steps.specs.Course.{Course}
 use Rattle.rept_span.specs.Ranges.{Legs, legs_of}
 use Rattle.rept_report.specs.Moments.{Moments, points_of}
 use Rattle.rept_report.specs.Timeline.{moment_by}
-use Rattle.rept_course.specs.Numbered.{legs_on}
+use Rattle.rept_moments.specs.Naming.Numbered.{legs_on}
 use Rattle.rept_moments.specs.Numbers.{numbered}
 
 pub record SeenMoments : Type 0 where

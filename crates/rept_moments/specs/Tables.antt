@@ -3,7 +3,7 @@
 use Rattle.std.specs.Prelude.{◌≡◌, ◌<◌, ◌≤◌, ◌^◌, Bool, List, [], ◌∷◌, length}
 use Rattle.rept_steps.specs.Course.{Course, IsSoundCourse}
 use Rattle.rept_order.specs.Moments.{Moment}
-use Rattle.rept_course.specs.Making.{lasts}
+use Rattle.rept_moments.specs.Naming.Making.{lasts}
 use Rattle.rept_moments.specs.declared.begins.SliceStart.{SliceStart}
 use Rattle.rept_moments.specs.declared.side.PointSide.{PointSide}
 use Rattle.rept_moments.specs.Begins.{AreBegins}

@@ -5,8 +5,8 @@ use Rattle.rept_steps.specs.Course.{Course, Row}
 use Rattle.rept_order.specs.Events.{event_slice, first_event, last_event}
 use Rattle.rept_order.specs.Moments.{stores}
 use Rattle.rept_order.specs.Times.{begin_of}
-use Rattle.rept_course.specs.Numbered.{row_on}
-use Rattle.rept_crossing.specs.declared.writer.TimedWriter.{TimedWriter}
+use Rattle.rept_moments.specs.Naming.Numbered.{row_on}
+use Rattle.rept_order.specs.declared.crossing.writer.TimedWriter.{TimedWriter}
 
 -- where a slice ends
 abbrev pub end_of : Option Slice → Option ℕ

@@ -6,7 +6,7 @@ ghost use Rattle.rept_order.specs.Legs.{leg_row};
 ghost use Rattle.rept_moments.specs.Begins.{entry, first_of, firsts_at, firsts_to, following_at, former_at, is_alike, is_first_at, later_from, lowered, same_end, AreBegins};
 ghost use Rattle.rept_moments.specs.Ordering.{side};
 ghost use Rattle.rept_moments.specs.Points.{points_in};
-ghost use Rattle.rept_crossing.specs.Writers.{not_past};
+ghost use Rattle.rept_order.specs.Crossing.Writers.{not_past};
 ghost use Rattle.rept_moments.specs.declared.begins.SliceStart.{SliceStart};
 
 use crate::nexts::{Later, sooner};

@@ -4,7 +4,7 @@ ghost use Rattle.std.specs.Prelude.{◌≡◌};
 ghost use Rattle.rept_steps.specs.Course.{Course, IsSoundCourse};
 ghost use Rattle.rept_span.specs.Ranges.{AreLegs};
 ghost use Rattle.rept_report.specs.Moments.{AreMoments};
-ghost use Rattle.rept_course.specs.Names.{AreNames};
+ghost use Rattle.rept_moments.specs.Naming.Names.{AreNames};
 ghost use Rattle.rept_moments.specs.Numbers.{numbers_of};
 ghost use Rattle.rept_moments.specs.Seen.{seen};
 

@@ -7,6 +7,7 @@ mod course;
 pub mod laws;
 mod many;
 mod merging;
+pub mod naming;
 mod nexts;
 mod numbers;
 mod ordering;
@@ -20,5 +21,9 @@ mod writing;
 pub use course::{NumberedRun, one_path};
 pub use laws::numbers_are_names;
 pub use many::Many;
+pub use naming::{
+    courses_have_names, ends_tell_what_may_act, executions_are_seen, names_are_moments,
+    names_keep_the_order, quiet_is_carried,
+};
 pub use room::has_room;
 pub use side::PointOfThread;

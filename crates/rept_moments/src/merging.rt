@@ -5,8 +5,8 @@ ghost use Rattle.std.specs.List.Sorted.{IsPermutation};
 ghost use Rattle.rept_steps.specs.Course.{IsRow};
 ghost use Rattle.rept_order.specs.Moments.{stretch};
 ghost use Rattle.rept_order.specs.Moments.Moment.{after};
-ghost use Rattle.rept_course.specs.Making.{is_still, next_point};
-ghost use Rattle.rept_course.specs.Numbered.{row_on};
+ghost use Rattle.rept_moments.specs.Naming.Making.{is_still, next_point};
+ghost use Rattle.rept_moments.specs.Naming.Numbered.{row_on};
 ghost use Rattle.rept_moments.specs.Points.{by_point, points_in};
 ghost use Rattle.rept_moments.specs.Writers.{writers_to};
 ghost use Rattle.rept_moments.specs.Merging.{rest_from, merged_at};
@@ -14,7 +14,8 @@ ghost use Rattle.rept_moments.specs.Merging.{rest_from, merged_at};
 use crate::points::Points;
 use crate::side::PointSide;
 use crate::writing::neither;
-use rept_crossing::{Rest, Writers};
+use rept_order::Rest;
+use rept_order::crossing::Writers;
 use std::alloc::{AllocError as OutOfMemory, Global};
 
 /// The end of the slice of the row that leads from the point, where one does and its end is known.

@@ -4,7 +4,7 @@
 ghost use Rattle.std.specs.Prelude.{◌≡◌, [], ◌∷◌, IfSome, IsSome, OnOk};
 ghost use Rattle.rept_order.specs.Legs.{leg_row};
 ghost use Rattle.rept_moments.specs.Begins.{sooner_end};
-ghost use Rattle.rept_crossing.specs.Writers.{not_past};
+ghost use Rattle.rept_order.specs.Crossing.Writers.{not_past};
 ghost use Rattle.rept_moments.specs.Nexts.{end_with, AddsOthers, Member};
 
 use crate::points::Points;

@@ -10,7 +10,7 @@ ghost use Rattle.rept_order.specs.Moments.{stores};
 ghost use Rattle.rept_order.specs.Ordered.{course_in};
 ghost use Rattle.rept_order.specs.Runs.{edge_event, moment_named};
 ghost use Rattle.rept_order.specs.Times.{begin_of, untraced_before, not_later};
-ghost use Rattle.rept_course.specs.Numbered.{row_on};
+ghost use Rattle.rept_moments.specs.Naming.Numbered.{row_on};
 ghost use Rattle.rept_moments.specs.Begins.{stands_by};
 ghost use Rattle.rept_moments.specs.Edges.{edges_at, edges_in, times_at};
 ghost use Rattle.rept_moments.specs.Merging.{untraced_from};

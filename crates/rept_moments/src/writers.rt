@@ -2,13 +2,14 @@
 
 ghost use Rattle.std.specs.Prelude.{◌≡◌, ◌<◌, IfOk};
 ghost use Rattle.std.specs.List.Sorted.{IsPermutation};
-ghost use Rattle.rept_course.specs.Numbered.{row_on};
+ghost use Rattle.rept_moments.specs.Naming.Numbered.{row_on};
 ghost use Rattle.rept_moments.specs.Points.{points_in};
 ghost use Rattle.rept_moments.specs.Writers.{writer_of, writers_to};
 
 use crate::points::Points;
 use crate::side::PointSide;
-use rept_crossing::{TimedWriter, Writers};
+use rept_order::TimedWriter;
+use rept_order::crossing::Writers;
 use std::alloc::{AllocError as OutOfMemory, Global};
 
 /// The row with its times.

@@ -10,3 +10,4 @@ pub mod ReportLemmas
 pub mod RunLemmas
 pub mod ToldLemmas
 pub mod TrueLemmas
+pub mod WordsLemmas

@@ -4,7 +4,7 @@ use Rattle.rept_ports.specs.Causes.{Rose, next_count}
 use Rattle.rept_ports.specs.Port.{move}
 use Rattle.rept_ports.specs.Shelves.{Files, Shelved, IsOver}
 use Rattle.rept_opening.specs.Loading.{BothLoaded, CoreStopsAt, FileFits, IsLastLoad, LoadRefuses, limit_of}
-use Rattle.rept_words.specs.Words.{CoreNames, Names}
+use Rattle.rept_opening.specs.Words.Words.{CoreNames, Names}
 use Rattle.rept_opening.specs.declared.refusal.FileKind.{FileKind}
 use Rattle.rept_opening.specs.declared.refusal.FileKind.TheVariants as file
 use Rattle.rept_opening.specs.declared.refusal.Refusal.{Refusal}

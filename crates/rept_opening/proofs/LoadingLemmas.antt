@@ -6,10 +6,10 @@ use Rattle.rept_ports.specs.Port.{move}
 use Rattle.rept_ports.specs.Shelves.{Files, Shelved, IsOver}
 use Rattle.rept_opening.specs.Loading.{crash_bytes, core_bytes, Loading, loading, loading_by, fetched, fetched_all, fetched_core, limit_of, FileFits, FitBefore, CoreFitBefore, name_of, core_name_of, loads_to, core_loads_to, ComesTo, ComesToCore, LoadRefuses, MeaningStops, LoadingStops, manner_of}
 use Rattle.rept_opening.specs.Loading.Loading.{Refused, Loaded, LoadedCore, MadeRun}
-use Rattle.rept_words.specs.Words.{CoreNames, Names, Meaning, meaning_of}
-use Rattle.rept_words.specs.Words.Meaning.{Open, Maps, Made}
-use Rattle.rept_words.specs.declared.request.Domain.{Domain}
-use Rattle.rept_words.specs.declared.request.Domain.TheVariants as domain
+use Rattle.rept_opening.specs.Words.Words.{CoreNames, Names, Meaning, meaning_of}
+use Rattle.rept_opening.specs.Words.Words.Meaning.{Open, Maps, Made}
+use Rattle.rept_opening.specs.declared.words.request.Domain.{Domain}
+use Rattle.rept_opening.specs.declared.words.request.Domain.TheVariants as domain
 use Rattle.rept_opening.specs.declared.load.OpenOptions.{OpenOptions}
 use Rattle.rept_opening.specs.declared.refusal.FileKind.{FileKind}
 use Rattle.rept_opening.specs.declared.refusal.FileKind.TheVariants as file

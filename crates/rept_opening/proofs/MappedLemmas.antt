@@ -15,8 +15,8 @@ use Rattle.rept_maps.specs.declared.fault.MapFault.{MapFault}
 use Rattle.rept_elf.specs.Image.{file_of}
 use Rattle.rept_elf.specs.declared.image.Image.{Image}
 use Rattle.rept_maps.specs.FileMap.{entry_at, entry_named}
-use Rattle.rept_mapped.specs.Mapped.{Mapping, mapping_by, mappings, mappings_from}
-use Rattle.rept_mapfiles.specs.Kept.{as_image, asked_names, image_at, is_image, kept_all, kept_at, kept_by, kept_in, most_bytes, most_in_all, names_of, place_in, taken}
+use Rattle.rept_maps.specs.Mapped.Mapped.{Mapping, mapping_by, mappings, mappings_from}
+use Rattle.rept_maps.specs.Mapfiles.Kept.{as_image, asked_names, image_at, is_image, kept_all, kept_at, kept_by, kept_in, most_bytes, most_in_all, names_of, place_in, taken}
 use Rattle.rept_ports.specs.Shelves.{Files}
 use Rattle.rept_runs.specs.Kind.{is_several}
 use Rattle.rept_opening.specs.Forms.{core_image_fault, crash_in}

@@ -4,7 +4,7 @@ use Rattle.std.specs.Prelude.{MatchBool}
 use Rattle.std.specs.List.{filter}
 use Rattle.std.proofs.lemmas.Bool.{cases_lt, lt-ltb, le-ltb, true≢false}
 use Rattle.rept_elf.specs.Segments.{ElfSegment, segments}
-use Rattle.rept_notes.specs.Notes.{Note}
+use Rattle.rept_maps.specs.Notes.Notes.{Note}
 use Rattle.rept_dump.specs.Dump.{registers_of, threads_of, AreRead, AreReadOfAll}
 use Rattle.rept_dump.specs.Registers.{is_status, all_registers, by_size, by_count, by_twin, first_short, first_twin, descs_of, pid_of, most_threads, SaysRegisters, SaysOfAll}
 use Rattle.rept_dump.specs.declared.dump.Dump.{Dump}

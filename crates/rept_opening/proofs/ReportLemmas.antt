@@ -17,8 +17,8 @@ use Rattle.rept_report.specs.OneThread.{path_setting}
 use Rattle.rept_report.specs.Setting.{Setting}
 use Rattle.rept_report.specs.declared.conflict.ConflictKind.{ConflictKind}
 use Rattle.rept_analysis.specs.Kept.{answers}
-use Rattle.rept_trip.specs.Executed.{HasNoHistory}
-use Rattle.rept_trip.specs.Trip.{Trip, setting_on}
+use Rattle.rept_found.specs.Trip.Executed.{HasNoHistory}
+use Rattle.rept_found.specs.Trip.Trip.{Trip, setting_on}
 use Rattle.rept_found.specs.Crash.{Crash, Means, Scene, crash_of, note_at, path_of, scene_of, setting, route}
 use Rattle.rept_found.specs.Ends.{AreNoted, Ends}
 use Rattle.rept_found.specs.Truth.{HasNoExecutionOfPath}
@@ -27,9 +27,9 @@ use Rattle.rept_found.proofs.Alone.{alone_setting}
 use Rattle.rept_found.proofs.Settings.{found_there}
 use Rattle.rept_opening.specs.Reading.{AreNotesOf}
 use Rattle.rept_ports.specs.Port.{Port, PortMove}
-use Rattle.rept_session.specs.Shown.{SessionTold}
+use Rattle.rept_findings.specs.Shown.{SessionTold}
 use Rattle.rept_opening.specs.Report.{AreEndsOf, IsAsked}
-use Rattle.rept_words.specs.declared.request.Domain.{Domain}
+use Rattle.rept_opening.specs.declared.words.request.Domain.{Domain}
 use Rattle.rept_opening.specs.Domains.{SetsOf, means_of}
 use Rattle.rept_opening.specs.Opened.{CrashRun, IsBeyond, RunAccount, crash_run, told_by}
 use Rattle.rept_opening.specs.TraceRun.{FitsDump}

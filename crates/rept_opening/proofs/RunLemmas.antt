@@ -11,7 +11,7 @@ use Rattle.rept_path.specs.declared.fault.PathFault.{PathFault}
 use Rattle.rept_path.specs.declared.fault.PathFault.TheVariants as fault
 use Rattle.rept_path.specs.declared.rebuilding.Path.{Path}
 use Rattle.rept_timeline.specs.Small.{IsSmall}
-use Rattle.rept_trip.proofs.Paths.{is_sound}
+use Rattle.rept_found.proofs.TripLemmas.Paths.{is_sound}
 use Rattle.rept_runs.specs.Kind.{is_several}
 use Rattle.rept_runs.specs.Told.{Traced, IsTracedRun, HasNoTracedRun}
 use Rattle.rept_runs.proofs.Few.{each_noted, traced_sound}

@@ -10,13 +10,13 @@ use Rattle.rept_report.specs.Closure.{IsReport}
 use Rattle.rept_report.specs.OneThread.{path_setting}
 use Rattle.rept_report.specs.Setting.{Setting}
 use Rattle.rept_runs.specs.Kind.{is_several}
-use Rattle.rept_trip.specs.Trip.{setting_on}
+use Rattle.rept_found.specs.Trip.Trip.{setting_on}
 use Rattle.rept_found.specs.Crash.{Crash, Means, ending_of, means_beyond, path_of, setting, trip_by}
 use Rattle.rept_found.specs.Histories.{IsTrueTrip}
 use Rattle.rept_found.specs.Truth.{IsTrueReport}
 use Rattle.rept_found.proofs.Alone.{alone_setting, alone_shown}
-use Rattle.rept_words.specs.declared.request.Domain.{Domain}
-use Rattle.rept_words.specs.declared.request.Domain.TheVariants as domain
+use Rattle.rept_opening.specs.declared.words.request.Domain.{Domain}
+use Rattle.rept_opening.specs.declared.words.request.Domain.TheVariants as domain
 use Rattle.rept_opening.specs.Domains.{means_of}
 use Rattle.rept_opening.specs.Opened.{Opening, ReadsNotes, crash_at, crash_run}
 use Rattle.rept_opening.specs.TraceRun.{IsRunOf}

@@ -8,8 +8,8 @@ use Rattle.rept_known.specs.BothMoves.{both_moves}
 use Rattle.rept_known.specs.declared.both.Both.{Both}
 use Rattle.rept_amo.specs.Atomic.{atomic_rules}
 use Rattle.rept_found.specs.Crash.{Means, means, means_beyond}
-use Rattle.rept_words.specs.declared.request.Domain.{Domain}
-use Rattle.rept_words.specs.declared.request.Domain.TheVariants as domain
+use Rattle.rept_opening.specs.declared.words.request.Domain.{Domain}
+use Rattle.rept_opening.specs.declared.words.request.Domain.TheVariants as domain
 
 -- ranges, or ranges with known bits, beyond whose report more may be inferred
 abbrev pub SetsOf : Domain → Type 0

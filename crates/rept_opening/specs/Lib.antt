@@ -13,3 +13,4 @@ pub mod Report
 pub mod Status
 pub mod TraceRun
 pub mod True
+pub mod Words

@@ -17,8 +17,8 @@ use Rattle.rept_reason.specs.declared.fact.Cell.TheVariants.{Register, Byte}
 use Rattle.rept_report.specs.declared.conflict.ConflictKind.{ConflictKind}
 use Rattle.rept_report.specs.declared.conflict.ConflictKind.TheVariants.{TwoValues, EmptyRange, WrongTurn}
 use Rattle.rept_found.specs.declared.contradiction.Contradiction.{Contradiction}
-use Rattle.rept_session.specs.Texts.{place_text, thread_named}
-use Rattle.rept_session.specs.declared.place.Place.{Place}
+use Rattle.rept_findings.specs.Texts.{place_text, thread_named}
+use Rattle.rept_findings.specs.declared.place.Place.{Place}
 use Rattle.rept_opening.specs.declared.refusal.FileKind.{FileKind}
 use Rattle.rept_opening.specs.declared.refusal.FileKind.TheVariants as file
 use Rattle.rept_opening.specs.declared.refusal.Refusal.{Refusal}

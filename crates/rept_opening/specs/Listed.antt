@@ -5,7 +5,7 @@ use Rattle.rept_elf.specs.Image.{file_of}
 use Rattle.rept_elf.specs.declared.fault.ElfFault.{ElfFault}
 use Rattle.rept_maps.specs.Views.{desc_of}
 use Rattle.rept_maps.specs.declared.fault.MapFault.{MapFault}
-use Rattle.rept_mapfiles.specs.Kept.{asked_names, kept_all, loads_after, most_in_all}
+use Rattle.rept_maps.specs.Mapfiles.Kept.{asked_names, kept_all, loads_after, most_in_all}
 use Rattle.rept_ports.specs.Causes.{Rose}
 use Rattle.rept_ports.specs.Port.{PortMove, move}
 use Rattle.rept_ports.specs.Shelves.{Shelved}

@@ -4,12 +4,12 @@ use Rattle.rept_ports.specs.Causes.{Rose, next_count}
 use Rattle.rept_ports.specs.Port.{PortMove}
 use Rattle.rept_ports.specs.Shelves.{Files, Shelved, IsOver}
 use Rattle.rept_dump.specs.Program.{Program}
-use Rattle.rept_mapped.specs.Mapped.{Mapping}
+use Rattle.rept_maps.specs.Mapped.Mapped.{Mapping}
 use Rattle.rept_dump.specs.Program.Program.{OneFile, MappedFiles}
-use Rattle.rept_words.specs.Words.{CoreNames, Names, Meaning, meaning_of}
-use Rattle.rept_words.specs.Words.Meaning.{Open, Maps, Made}
-use Rattle.rept_words.specs.declared.request.Domain.{Domain}
-use Rattle.rept_words.specs.declared.request.Domain.TheVariants as domain
+use Rattle.rept_opening.specs.Words.Words.{CoreNames, Names, Meaning, meaning_of}
+use Rattle.rept_opening.specs.Words.Words.Meaning.{Open, Maps, Made}
+use Rattle.rept_opening.specs.declared.words.request.Domain.{Domain}
+use Rattle.rept_opening.specs.declared.words.request.Domain.TheVariants as domain
 use Rattle.rept_opening.specs.declared.load.LoadedRequest.{LoadedRequest}
 use Rattle.rept_opening.specs.declared.load.LoadedRequest.TheVariants as asked
 use Rattle.rept_opening.specs.declared.load.OpenOptions.{OpenOptions}

@@ -4,10 +4,10 @@ use Rattle.rept_elf.specs.Segments.{segments}
 use Rattle.rept_maps.specs.FileMap.{MapEntry, entry_named}
 use Rattle.rept_maps.specs.Told.{MapsSay}
 use Rattle.rept_maps.specs.declared.fault.MapFault.{MapFault}
-use Rattle.rept_mapped.specs.Mapped.{Mapping}
-use Rattle.rept_mapfiles.specs.Kept.{asked_names, kept_all, kept_at, most_in_all, names_of}
+use Rattle.rept_maps.specs.Mapped.Mapped.{Mapping}
+use Rattle.rept_maps.specs.Mapfiles.Kept.{asked_names, kept_all, kept_at, most_in_all, names_of}
 use Rattle.rept_ports.specs.Shelves.{Files}
-use Rattle.rept_session.specs.Texts.{visible}
+use Rattle.rept_findings.specs.Texts.{visible}
 use Rattle.rept_opening.specs.Forms.{core_image_fault}
 use Rattle.rept_opening.specs.Loading.{CrashBytes, CoreBytes, parts_bytes}
 

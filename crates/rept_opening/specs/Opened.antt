@@ -14,8 +14,8 @@ use Rattle.rept_analysis.specs.Logged.{IsLogOf}
 use Rattle.rept_reason.specs.declared.fact.Fact.{Fact}
 use Rattle.rept_reason.specs.Facts.{Knowledge}
 use Rattle.rept_report.specs.Why.{IsReason}
-use Rattle.rept_session.specs.Shown.{SessionTold, session_told}
-use Rattle.rept_trip.specs.Trip.{Trip, setting_on}
+use Rattle.rept_findings.specs.Shown.{SessionTold, session_told}
+use Rattle.rept_found.specs.Trip.Trip.{Trip, setting_on}
 use Rattle.rept_found.specs.Contradictions.{contradiction_on}
 use Rattle.rept_found.specs.Crash.{Crash, Means, Scene, route, scene_of, setting}
 use Rattle.rept_found.specs.Telling.{shown_on}
@@ -23,7 +23,7 @@ use Rattle.rept_infer.specs.Admitted.{IsAdmitted}
 use Rattle.rept_infer.specs.Holding.{Holding, Holds}
 use Rattle.rept_inferred.specs.Narrowed.{shown_beyond}
 use Rattle.rept_found.specs.declared.contradiction.Contradiction.{Contradiction}
-use Rattle.rept_words.specs.declared.request.Domain.{Domain}
+use Rattle.rept_opening.specs.declared.words.request.Domain.{Domain}
 use Rattle.rept_opening.specs.Beyond.{story_of}
 use Rattle.rept_opening.specs.Domains.{SetsOf, means_of}
 use Rattle.rept_opening.specs.Forms.{program_fault, core_image_fault, crash_in}

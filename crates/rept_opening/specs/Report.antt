@@ -12,7 +12,7 @@ use Rattle.rept_report.specs.declared.conflict.ConflictKind.{ConflictKind}
 use Rattle.rept_found.specs.Ends.{AreNoted, Ends}
 use Rattle.rept_found.specs.Crash.{note_at, scene_of}
 use Rattle.rept_found.specs.View.{CrashView, IsFoundIn}
-use Rattle.rept_session.specs.Shown.{SessionTold}
+use Rattle.rept_findings.specs.Shown.{SessionTold}
 use Rattle.rept_opening.specs.Opened.{CrashRun, IsAccountOf, RunAccount, contradiction_in, run_setting, route_of, told_in}
 use Rattle.rept_opening.specs.True.{HasNoExecutionToCrash, IsRefuted}
 use Rattle.rept_opening.specs.declared.refusal.Refusal.{Refusal}

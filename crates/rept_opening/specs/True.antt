@@ -7,7 +7,7 @@ use Rattle.rept_machine.specs.State.{State}
 use Rattle.rept_reason.specs.Facts.{Knowledge}
 use Rattle.rept_report.specs.OneThread.{ThreadPath}
 use Rattle.rept_runs.specs.Kind.{path_rows}
-use Rattle.rept_trip.specs.Executed.{HasNoHistory}
+use Rattle.rept_found.specs.Trip.Executed.{HasNoHistory}
 use Rattle.rept_found.specs.Crash.{Scene, path_of}
 use Rattle.rept_found.specs.Histories.{IsTrueTrip}
 use Rattle.rept_found.specs.Telling.{shown_of, shown_on}

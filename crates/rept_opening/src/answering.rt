@@ -7,7 +7,7 @@ ghost use Rattle.rept_dump.specs.Dump.{core_of, exe_of};
 ghost use Rattle.rept_ports.specs.Port.{Port, PortMove, move};
 ghost use Rattle.rept_steps.specs.Runs.{course_of};
 ghost use Rattle.rept_moments.specs.Courses.{IsCourseOf};
-ghost use Rattle.rept_session.specs.Shown.{SessionTold, session_told};
+ghost use Rattle.rept_findings.specs.Shown.{SessionTold, session_told};
 ghost use Rattle.rept_found.specs.Crash.{crash_of, means};
 ghost use Rattle.rept_amo.specs.Atomic.{atomic_rules};
 ghost use Rattle.rept_opening.specs.Beyond.{executable_of};
@@ -21,14 +21,14 @@ use crate::analysis::{Basis, analyse, basis_of};
 use crate::beyond::open_beyond;
 use crate::dumping::CrashImages;
 use crate::refusal::Refusal;
+use crate::words::Domain;
 use rept_dump::Dump;
+use rept_findings::Findings;
 use rept_known::Both;
 use rept_partial::Range;
 use rept_ports::{Sink, Source};
-use rept_session::Findings;
 use rept_span::Transfer;
 use rept_steps::Run;
-use rept_words::Domain;
 use std::alloc::Global;
 
 /// What is told of a crash beside its report.

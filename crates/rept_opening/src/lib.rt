@@ -16,6 +16,7 @@ mod running;
 mod status;
 mod telling;
 mod texts;
+pub mod words;
 
 pub use answering::{Asking, Circumstances, open_report};
 pub use dumping::{CrashImages, crash_images, read_dump};
@@ -25,3 +26,4 @@ pub use refusal::{FileKind, Refusal};
 pub use running::trace_run;
 pub use status::ExitStatus;
 pub use telling::{deliver, tell, tell_failed, tell_no_memory};
+pub use words::{CoreNames, Domain, FileNames, Request, meaning};

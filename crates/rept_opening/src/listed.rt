@@ -3,7 +3,7 @@
 ghost use Rattle.std.specs.Prelude.{◌≡◌, ◌≤◌, ◌+◌, ℕ, List, length, IfOk, IfErr, IfSome, OnOk};
 ghost use Rattle.rept_maps.specs.FileMap.{map_count};
 ghost use Rattle.rept_maps.specs.Views.{desc_of};
-ghost use Rattle.rept_mapped.specs.Mapped.{mappings};
+ghost use Rattle.rept_maps.specs.Mapped.Mapped.{mappings};
 ghost use Rattle.rept_ports.specs.Port.{PortMove, move};
 ghost use Rattle.rept_ports.specs.Shelves.{Shelved};
 ghost use Rattle.rept_opening.specs.Listed.{AreLoaded, HasNoFiles};
@@ -11,8 +11,7 @@ ghost use Rattle.rept_opening.specs.Mapped.{mapped_files};
 
 use crate::refusal::Refusal;
 use rept_elf::{Image, Want};
-use rept_mapfiles::{LoadStop, asked_names, images_of, load_names};
-use rept_maps::{Images, Maps};
+use rept_maps::{Images, LoadStop, Maps, asked_names, images_of, load_names};
 use rept_ports::FileStore;
 use rept_word::OutOfMemory;
 use std::alloc::Global;

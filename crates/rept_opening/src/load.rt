@@ -3,15 +3,15 @@
 ghost use Rattle.std.specs.Prelude.{◌≡◌, ◌⊎◌, ◌≤◌, map, length, string_bytes, IsOk, IfOk, IfErr, IfSome, Some, None, Err};
 ghost use Rattle.rept_ports.specs.Port.{move};
 ghost use Rattle.rept_ports.specs.Shelves.{Loads};
-ghost use Rattle.rept_words.specs.Words.{meaning_of};
-ghost use Rattle.rept_words.specs.Asked.{core_named_by, named_by};
+ghost use Rattle.rept_opening.specs.Words.Words.{meaning_of};
+ghost use Rattle.rept_opening.specs.Words.Asked.{core_named_by, named_by};
 ghost use Rattle.rept_opening.specs.declared.refusal.FileKind.{FileKind};
 ghost use Rattle.rept_opening.specs.Loading.{core_bytes, crash_bytes, limit_of, fetched_all, fetched_core, first_packet, loading, loads_to, asked_for, BothLoaded, CoreStopsAt, FitBefore, IsAsked, LoadRefuses, LoadingStops, NamesNone, FileStoreMoves, IsLastLoad};
 ghost use Rattle.rept_opening.specs.Loading.Loading.{Loaded, LoadedCore};
 
 use crate::refusal::{FileKind, Refusal};
+use crate::words::{CoreNames, Domain, FileNames, Request, meaning};
 use rept_ports::{FileStore, LoadFault};
-use rept_words::{CoreNames, Domain, FileNames, Request, meaning};
 use std::alloc::Global;
 
 /// How the files of a crash are studied: the number of the packet from which the path is rebuilt,

@@ -2,7 +2,7 @@
 
 ghost use Rattle.std.specs.Prelude.{◌≡◌, ◌++◌, IfOk, OnOk, codes};
 ghost use Rattle.std.specs.Fmt.{decimal};
-ghost use Rattle.rept_session.specs.Texts.{place_text};
+ghost use Rattle.rept_findings.specs.Texts.{place_text};
 ghost use Rattle.rept_opening.specs.Lines.{line_of, words_of, status_of, status_of_path, file_word, elf_fault_text, core_fault_text, map_fault_text, contradiction_text, conflict_text, two_values_text, cell_text, value_text_in};
 
 use crate::path_line::push_path_fault;
@@ -10,13 +10,13 @@ use crate::status::ExitStatus;
 use crate::texts::push_numbered;
 use rept_dump::CoreFault;
 use rept_elf::ElfFault;
+use rept_findings::{Place, push_place, push_thread_named};
 use rept_found::Contradiction;
 use rept_isa::Reg;
 use rept_maps::MapFault;
 use rept_path::PathFault;
 use rept_reason::Cell;
 use rept_report::ConflictKind;
-use rept_session::{Place, push_place, push_thread_named};
 use rept_word::{OutOfMemory, Text};
 use std::alloc::Global;
 

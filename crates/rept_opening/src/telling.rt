@@ -7,8 +7,8 @@ ghost use Rattle.rept_opening.specs.Mapped.{name_line};
 
 use crate::refusal::Refusal;
 use crate::status::ExitStatus;
+use rept_findings::push_visible;
 use rept_ports::{Sink, write_all};
-use rept_session::push_visible;
 use rept_word::{OutOfMemory, Text};
 use std::alloc::Global;
 

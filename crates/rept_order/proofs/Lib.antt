@@ -20,3 +20,4 @@ pub mod Interleaved
 pub mod Links
 pub mod Arrangements
 pub mod Examples
+pub mod CrossingLemmas

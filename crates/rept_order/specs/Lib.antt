@@ -13,3 +13,4 @@ pub mod Ordered
 pub mod Interleaved
 pub mod Links
 pub mod Arrangements
+pub mod Crossing

@@ -2,11 +2,13 @@
 //! that these give, and the executions that keep it.
 #![tactic(auto)]
 
+pub mod crossing;
 mod edge;
 pub mod laws;
 pub mod moment;
 pub mod order;
 
+pub use crossing::{Rest, TimedWriter};
 pub use edge::Edge;
 pub use moment::{Act, Moment};
 pub use order::Order;

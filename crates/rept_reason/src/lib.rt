@@ -3,6 +3,8 @@
 
 pub mod fact;
 pub mod reason;
+pub mod view;
 
 pub use fact::{Cell, Fact};
 pub use reason::{RangePremise, Reason};
+pub use view::{Conclusion, Premise, RegisterAt, RowRules, RowView, When, offset_of};

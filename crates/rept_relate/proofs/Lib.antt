@@ -2,3 +2,4 @@ pub mod Counting
 pub mod Summing
 pub mod Rowing
 pub mod Remembering
+pub mod ClassesLemmas

@@ -19,9 +19,9 @@ use Rattle.rept_machine.proofs.StepLaws.{effect_keeps_byte}
 use Rattle.rept_known.specs.declared.both.Both.{Both}
 use Rattle.rept_known.specs.Both.{both_has, both_sets}
 use Rattle.rept_known.specs.Laws.BothLaws.{both_lawful}
-use Rattle.rept_classes.specs.declared.node.Term.{Term}
-use Rattle.rept_classes.specs.Valuations.{word_of}
-use Rattle.rept_classes.proofs.Changing.{further}
+use Rattle.rept_relate.specs.declared.classes.node.Term.{Term}
+use Rattle.rept_relate.specs.Classes.Valuations.{word_of}
+use Rattle.rept_relate.proofs.ClassesLemmas.Changing.{further}
 use Rattle.rept_relate.specs.declared.numbering.OperandNodes.{OperandNodes}
 use Rattle.rept_relate.specs.declared.words.WordPlace.{WordPlace}
 use Rattle.rept_relate.specs.declared.words.WordSlot.{WordSlot}

@@ -19,9 +19,9 @@ use Rattle.rept_machine.specs.Arithmetic.{branch_holds, computed, register_form}
 use Rattle.rept_machine.specs.State.{State}
 use Rattle.rept_machine.specs.Step.{HasEffect, IsStep}
 use Rattle.rept_machine.specs.Ways.{TurnTells, way_tells}
-use Rattle.rept_classes.specs.declared.node.ClassNode.{ClassNode}
-use Rattle.rept_classes.specs.declared.node.Term.{Term}
-use Rattle.rept_classes.specs.Valuations.{word_of, IsValued}
+use Rattle.rept_relate.specs.declared.classes.node.ClassNode.{ClassNode}
+use Rattle.rept_relate.specs.declared.classes.node.Term.{Term}
+use Rattle.rept_relate.specs.Classes.Valuations.{word_of, IsValued}
 use Rattle.rept_relate.specs.declared.numbering.OperandNodes.{OperandNodes}
 use Rattle.rept_relate.specs.Numbering.{value_in, IsWalk, IsNumbered}
 use Rattle.rept_relate.specs.Relations.{equates, IsRowOf, IsOfRow, IsComputed, IsComputedOf, IsResult}

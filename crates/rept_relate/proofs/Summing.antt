@@ -7,8 +7,8 @@ use Rattle.rept_machine.specs.Arithmetic.{computed}
 use Rattle.rept_known.specs.declared.both.Both.{Both}
 use Rattle.rept_known.specs.Both.{both_has, both_sets}
 use Rattle.rept_known.specs.Laws.BothLaws.{both_lawful}
-use Rattle.rept_classes.specs.declared.node.Term.{Term}
-use Rattle.rept_classes.specs.Valuations.{word_of}
+use Rattle.rept_relate.specs.declared.classes.node.Term.{Term}
+use Rattle.rept_relate.specs.Classes.Valuations.{word_of}
 use Rattle.rept_relate.specs.declared.operations.Operation.{Operation}
 use Rattle.rept_relate.specs.Relations.{IsResult, AreResults, AreBelow, code_of}
 use Rattle.rept_relate.proofs.Counting.{pushed_cases}

@@ -5,7 +5,7 @@ use Rattle.rept_isa.specs.declared.instr.Instr.TheVariants.{Store, Amo, Ecall}
 use Rattle.rept_isa.specs.Numbers.{beside}
 use Rattle.rept_machine.specs.Arithmetic.{word_at}
 use Rattle.rept_machine.specs.State.{State}
-use Rattle.rept_classes.specs.Valuations.{word_of}
+use Rattle.rept_relate.specs.Classes.Valuations.{word_of}
 use Rattle.rept_relate.specs.declared.words.WordPlace.{WordPlace}
 use Rattle.rept_relate.specs.declared.words.WordSlot.{WordSlot}
 

@@ -1,3 +1,4 @@
 pub mod Numbering
 pub mod Relations
 pub mod Holding
+pub mod Classes

@@ -11,8 +11,8 @@ use Rattle.rept_isa.specs.Operands.{written_by, first_read, second_read}
 use Rattle.rept_machine.specs.Arithmetic.{computed}
 use Rattle.rept_machine.specs.State.{State, IsState}
 use Rattle.rept_machine.specs.Step.{IsStep}
-use Rattle.rept_classes.specs.declared.node.ClassNode.{ClassNode}
-use Rattle.rept_classes.specs.Valuations.{word_of, IsValued}
+use Rattle.rept_relate.specs.declared.classes.node.ClassNode.{ClassNode}
+use Rattle.rept_relate.specs.Classes.Valuations.{word_of, IsValued}
 use Rattle.rept_relate.specs.declared.numbering.OperandNodes.{OperandNodes}
 use Rattle.rept_relate.specs.declared.operations.Operation.{Operation}
 

@@ -1,6 +1,7 @@
 //! Registers of a path whose values differ by constants.
 #![tactic(auto)]
 
+pub mod classes;
 mod numbering;
 mod operations;
 mod passes;
@@ -9,4 +10,5 @@ mod rules;
 mod storing;
 mod words;
 
+pub use classes::{ClassNode, Classes, Impossible, Term, shifted};
 pub use passes::{RelateStop, relate};

@@ -4,8 +4,8 @@ ghost use Rattle.std.specs.Prelude.{◌≡◌, ℕ, ◌<◌, [], true, IfSome, S
 ghost use Rattle.rept_relate.specs.declared.operations.Operation.{Operation};
 ghost use Rattle.rept_relate.specs.Relations.{code_of, IsResult, AreResults, AreBelow};
 
+use crate::classes::Term;
 use indexmap::IndexMap;
-use rept_classes::Term;
 use rept_isa::RegOp;
 use std::alloc::Global;
 use std::marker::Model;

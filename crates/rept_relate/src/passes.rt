@@ -2,15 +2,15 @@
 
 ghost use Rattle.std.specs.Prelude.{◌≡◌, ℕ, ◌+◌, ◌<◌, ◌^◌, length, OnOk, OnErr, Err, Some, slice_get};
 ghost use Rattle.rept_machine.specs.State.{State};
-ghost use Rattle.rept_classes.specs.Valuations.{IsValued};
+ghost use Rattle.rept_relate.specs.Classes.Valuations.{IsValued};
 ghost use Rattle.rept_relate.specs.Numbering.{value_in, IsWalk, AreNumbered};
 
+use crate::classes::Classes;
 use crate::numbering::{OperandNodes, number};
 use crate::operations::Operations;
 use crate::relating::relate_row;
 use crate::storing::relate_memory;
 use crate::words::WordTable;
-use rept_classes::Classes;
 use rept_isa::StepRow;
 use std::alloc::Global;
 

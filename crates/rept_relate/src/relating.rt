@@ -3,13 +3,13 @@
 ghost use Rattle.std.specs.Prelude.{◌≡◌, ℕ, ◌<◌, true, length, OnOk, OnErr};
 ghost use Rattle.rept_isa.specs.Operands.{turn_of};
 ghost use Rattle.rept_machine.specs.Arithmetic.{register_form};
-ghost use Rattle.rept_classes.specs.Valuations.{IsValued};
+ghost use Rattle.rept_relate.specs.Classes.Valuations.{IsValued};
 ghost use Rattle.rept_relate.specs.Relations.{equates, IsOfRow, IsComputed, IsComputedOf, IsResult, AreResults, AreBelow, KeepsIf, RefusesIf, KeepsBoth};
 
+use crate::classes::{Classes, Impossible, Term};
 use crate::numbering::OperandNodes;
 use crate::operations::{Operation, Operations};
 use crate::rules::{join_result, join_sum, root_term};
-use rept_classes::{Classes, Impossible, Term};
 use rept_isa::number::word;
 use rept_isa::{BranchOp, ImmOp, Instr, RegOp, StepRow, Turn, turn};
 

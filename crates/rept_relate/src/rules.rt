@@ -1,11 +1,11 @@
 //! What operations tell of the classes of their operands and results.
 
 ghost use Rattle.std.specs.Prelude.{◌≡◌, ℕ, ◌+◌, ◌-◌, ◌%◌, ◌<◌, ◌^◌, length, IfOk, OnOk, OnErr};
-ghost use Rattle.rept_classes.specs.Valuations.{word_of, IsValued};
+ghost use Rattle.rept_relate.specs.Classes.Valuations.{word_of, IsValued};
 ghost use Rattle.rept_relate.specs.Relations.{KeepsIf, RefusesIf, IsResult};
 
+use crate::classes::{Classes, Impossible, Term};
 use crate::operations::Operation;
-use rept_classes::{Classes, Impossible, Term};
 use rept_isa::RegOp;
 use rept_partial::Partial;
 

@@ -4,14 +4,14 @@ ghost use Rattle.std.specs.Prelude.{◌≡◌, ℕ, ◌<◌, ◌≤◌, ◌^◌,
 ghost use Rattle.rept_isa.specs.Numbers.{beside};
 ghost use Rattle.rept_machine.specs.Arithmetic.{word_at};
 ghost use Rattle.rept_machine.specs.State.{State};
-ghost use Rattle.rept_classes.specs.Valuations.{IsValued};
+ghost use Rattle.rept_relate.specs.Classes.Valuations.{IsValued};
 ghost use Rattle.rept_relate.specs.Relations.{IsRowOf};
 ghost use Rattle.rept_relate.specs.Holding.{IsPlaceOf, AreHeld, AreNodesBelow, KeepsOthers, is_quiet};
 
+use crate::classes::{Classes, Impossible, Term};
 use crate::numbering::OperandNodes;
 use crate::rules::{join_sum, root_term};
 use crate::words::{WordPlace, WordSlot, WordTable, clear, keep, like};
-use rept_classes::{Classes, Impossible, Term};
 use rept_isa::number::word;
 use rept_isa::{Instr, LoadOp, StepRow};
 use rept_machine::store_width;

@@ -4,11 +4,11 @@ ghost use Rattle.std.specs.Prelude.{◌≡◌, ℕ, ◌<◌, ◌≤◌, ◌^◌,
 ghost use Rattle.rept_machine.specs.Arithmetic.{word_at};
 ghost use Rattle.rept_machine.specs.State.{State};
 ghost use Rattle.rept_isa.specs.Numbers.{beside};
-ghost use Rattle.rept_classes.specs.Valuations.{word_of};
+ghost use Rattle.rept_relate.specs.Classes.Valuations.{word_of};
 ghost use Rattle.rept_relate.specs.declared.words.WordSlot.{WordSlot};
 ghost use Rattle.rept_relate.specs.Holding.{IsApart, IsWordHeld, AreHeld, AreNodesBelow, IsCleared, AreCleared};
 
-use rept_classes::Term;
+use crate::classes::Term;
 
 /// The most words that are kept at one time.
 const MOST: usize = 512;

@@ -2,3 +2,4 @@ pub mod Escapes
 pub mod Frames
 pub mod Reading
 pub mod Steps
+pub mod Request

@@ -7,10 +7,12 @@ mod check;
 mod frame;
 pub mod laws;
 pub mod reader;
+pub mod request;
 mod unescape;
 pub mod writer;
 
 pub use arrival::{Arrival, Ending};
 pub use check::digits_value;
 pub use reader::GdbPackets;
+pub use request::{CodeRange, GdbRequest, Movement, ThreadName, WatchKind, parse};
 pub use writer::push_packet;

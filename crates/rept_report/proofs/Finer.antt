@@ -12,7 +12,7 @@ use Rattle.rept_span.specs.Finer.{kind, IsFiner}
 use Rattle.rept_span.specs.Ranges.{range}
 use Rattle.rept_span.proofs.RangeLaws.{HasIn}
 use Rattle.rept_span.proofs.FinerLaws.{sets_within}
-use Rattle.rept_view.specs.Seen.{KnowsMore}
+use Rattle.rept_reason.specs.View.Seen.{KnowsMore}
 use Rattle.rept_report.specs.Knowing.{Extends}
 use Rattle.rept_report.specs.Setting.{Setting, HasLaws, Uses, IsInstant, way_of}
 use Rattle.rept_report.specs.Beside.{by_other_sets}

@@ -11,9 +11,9 @@ use Rattle.rept_reason.specs.declared.fact.Cell.{Cell}
 use Rattle.rept_reason.specs.declared.fact.Cell.TheVariants.{Register, Byte}
 use Rattle.rept_reason.specs.Facts.{Knowledge, told}
 use Rattle.rept_span.specs.Moves.{Moves}
-use Rattle.rept_view.specs.declared.inferred.When.{When}
-use Rattle.rept_view.specs.declared.inferred.When.TheVariants.{Before, After}
-use Rattle.rept_view.specs.Rules.{Rules}
+use Rattle.rept_reason.specs.declared.view.inferred.When.{When}
+use Rattle.rept_reason.specs.declared.view.inferred.When.TheVariants.{Before, After}
+use Rattle.rept_reason.specs.View.Rules.{Rules}
 use Rattle.rept_report.specs.Moments.{Moments, points_of}
 use Rattle.rept_report.specs.Setting.{Setting, IsLast, IsInstant}
 use Rattle.rept_report.specs.Given.{Given, setting_by}

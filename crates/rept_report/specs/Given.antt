@@ -5,7 +5,7 @@ use Rattle.std.specs.Prelude.{ℕ, List, Option}
 use Rattle.rept_partial.specs.Sets.{Sets}
 use Rattle.rept_span.specs.Moves.{Moves}
 use Rattle.rept_span.specs.Ranges.{Legs}
-use Rattle.rept_view.specs.Rules.{Rules}
+use Rattle.rept_reason.specs.View.Rules.{Rules}
 use Rattle.rept_report.specs.Moments.{Moments}
 use Rattle.rept_report.specs.Setting.{Setting}
 

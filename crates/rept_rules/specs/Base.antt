@@ -1,5 +1,5 @@
 -- The rules of RV32IM as one record of functions.
-use Rattle.rept_view.specs.Rules.{Rules}
+use Rattle.rept_reason.specs.View.Rules.{Rules}
 use Rattle.rept_rules.specs.Listing.{conclusions}
 use Rattle.rept_rules.specs.Needs.{needs_of}
 use Rattle.rept_rules.specs.MayWrite.{instr_may_write, tells_writes, instr_is_sure, places_of}

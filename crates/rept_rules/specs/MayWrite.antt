@@ -12,10 +12,10 @@ use Rattle.rept_partial.specs.Ranges.{from_to}
 use Rattle.rept_machine.specs.Arithmetic.{store_width}
 use Rattle.rept_alias.specs.Accesses.{hits, call_hits, access_of}
 use Rattle.rept_havoc.specs.Havoc.{changed, IsExact, AreExact}
-use Rattle.rept_view.specs.declared.inferred.When.{When}
-use Rattle.rept_view.specs.declared.inferred.When.TheVariants.{Before, After}
-use Rattle.rept_view.specs.declared.inferred.RegisterAt.{RegisterAt}
-use Rattle.rept_view.specs.Seen.{Seen}
+use Rattle.rept_reason.specs.declared.view.inferred.When.{When}
+use Rattle.rept_reason.specs.declared.view.inferred.When.TheVariants.{Before, After}
+use Rattle.rept_reason.specs.declared.view.inferred.RegisterAt.{RegisterAt}
+use Rattle.rept_reason.specs.View.Seen.{Seen}
 use Rattle.rept_rules.specs.Conclusions.{load_width}
 
 -- x0 to x31

@@ -7,9 +7,9 @@ use Rattle.rept_partial.specs.declared.flat.Flat.TheVariants.{Unknown, Known}
 use Rattle.rept_partial.specs.Ranges.{from_to}
 use Rattle.rept_reason.specs.Facts.{flat}
 use Rattle.rept_machine.specs.Arithmetic.{byte_of}
-use Rattle.rept_view.specs.declared.inferred.When.{When}
-use Rattle.rept_view.specs.declared.inferred.When.TheVariants.{Before, After}
-use Rattle.rept_view.specs.Seen.{Seen, IsLawful}
+use Rattle.rept_reason.specs.declared.view.inferred.When.{When}
+use Rattle.rept_reason.specs.declared.view.inferred.When.TheVariants.{Before, After}
+use Rattle.rept_reason.specs.View.Seen.{Seen, IsLawful}
 
 -- x5 and x6 before the row, x7 after it, and the words of the bytes before and after it
 pub record SampleShown : Type 0 where

@@ -3,7 +3,7 @@
 ghost use Rattle.std.specs.Prelude.{◌≡◌, ℕ, ◌+◌, ◌^◌, ◌<◌, min, Contains};
 ghost use Rattle.rept_alias.specs.Accesses.{call_hits};
 ghost use Rattle.rept_machine.specs.Calls.{may_change};
-ghost use Rattle.rept_view.specs.declared.inferred.Conclusion.{Conclusion};
+ghost use Rattle.rept_reason.specs.declared.view.inferred.Conclusion.{Conclusion};
 ghost use Rattle.rept_rules.specs.Conclusions.{ConcludesByRow};
 ghost use Rattle.rept_rules.specs.Listing.{conclusions};
 ghost use Rattle.rept_rules.specs.MayWrite.{IsKnownCall, instr_may_write};
@@ -15,7 +15,7 @@ use crate::touch::{is_sure, touched};
 use rept_alias::CallAccess;
 use rept_isa::{Instr, StepRow};
 use rept_machine::store_width;
-use rept_view::{Conclusion, Premise, RegisterAt, RowRules, RowView};
+use rept_reason::{Conclusion, Premise, RegisterAt, RowRules, RowView};
 use smallvec::SmallVec;
 use std::alloc::Global;
 

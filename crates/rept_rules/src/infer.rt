@@ -15,8 +15,7 @@ use rept_isa::{BranchOp, Instr, LoadOp, Reg, RegOp, StepRow, StoreOp, Turn, read
 use rept_machine::arithmetic::register_form;
 use rept_machine::store_width;
 use rept_partial::Flat;
-use rept_reason::Cell;
-use rept_view::{Conclusion, RowView, When};
+use rept_reason::{Cell, Conclusion, RowView, When};
 use smallvec::SmallVec;
 
 /// A list of conclusions, which keeps within the room that it has in place.

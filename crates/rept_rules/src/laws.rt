@@ -3,9 +3,9 @@
 
 ghost use Rattle.std.specs.Prelude.{◌≡◌, ◌<◌, ◌^◌, ℕ, Contains, true, Some};
 ghost use Rattle.rept_isa.specs.declared.row.StepRow.{StepRow};
-ghost use Rattle.rept_view.specs.declared.inferred.Conclusion.{Conclusion};
-ghost use Rattle.rept_view.specs.Seen.{Seen, IsLawful, KnowsMore};
-ghost use Rattle.rept_view.specs.Rules.{AreLawfulRules};
+ghost use Rattle.rept_reason.specs.declared.view.inferred.Conclusion.{Conclusion};
+ghost use Rattle.rept_reason.specs.View.Seen.{Seen, IsLawful, KnowsMore};
+ghost use Rattle.rept_reason.specs.View.Rules.{AreLawfulRules};
 ghost use Rattle.rept_reason.specs.declared.fact.Cell.TheVariants.{Byte};
 ghost use Rattle.rept_rules.specs.Conclusions.{ConcludesByRow};
 ghost use Rattle.rept_rules.specs.Base.{base_rules};

@@ -16,4 +16,4 @@ pub use base::Base;
 pub use operand::{Side, solve};
 pub use outcome::forward;
 pub use rept_machine::arithmetic::branch_holds;
-pub use rept_view::{Conclusion, Premise, RegisterAt, RowRules, RowView, When};
+pub use rept_reason::{Conclusion, Premise, RegisterAt, RowRules, RowView, When};

@@ -8,12 +8,12 @@ ghost use Rattle.rept_reason.specs.Facts.{flat};
 ghost use Rattle.rept_rules.specs.Conclusions.{seen_operand};
 ghost use Rattle.rept_rules.specs.MayWrite.{is_register};
 ghost use Rattle.rept_rules.specs.Listing.{two_bytes, four_bytes, half_from, word_from, extended_from, loaded_from, at_known, known_after};
-ghost use Rattle.rept_view.specs.declared.inferred.When.TheVariants.{Before, After};
+ghost use Rattle.rept_reason.specs.declared.view.inferred.When.TheVariants.{Before, After};
 
 use rept_isa::number::plus;
 use rept_isa::{Instr, LoadOp, Reg, writes};
 use rept_partial::Flat;
-use rept_view::{RowView, When};
+use rept_reason::{RowView, When};
 
 /// What is known before the row of the register in an operand's place. Unknown where there is none.
 pub fn operand_before<V: RowView>(view: &V, r: Option<Reg>) -> Flat

@@ -17,8 +17,7 @@ use rept_isa::number::{plus, word};
 use rept_isa::{ImmOp, Instr, LoadOp, Reg, RegOp};
 use rept_machine::arithmetic::register_form;
 use rept_partial::Flat;
-use rept_reason::Cell;
-use rept_view::{Conclusion, Premise, RowView, When};
+use rept_reason::{Cell, Conclusion, Premise, RowView, When};
 use smallvec::SmallVec;
 
 /// A list of what a conclusion rests on, which keeps within the room that it has in place.

@@ -5,7 +5,7 @@ ghost use Rattle.smallvec.specs.SmallVec.{HasRoomFor};
 ghost use Rattle.rept_rules.specs.MayWrite.{register_at, tells_atomic, tells_writes};
 
 use rept_isa::{AmoOp, Instr, Reg, register};
-use rept_view::{RegisterAt, When};
+use rept_reason::{RegisterAt, When};
 use smallvec::SmallVec;
 
 /// A list of such registers, which keeps within the room that it has in place.

@@ -5,7 +5,7 @@ ghost use Rattle.rept_alias.specs.Accesses.{hits, call_hits, access_of};
 ghost use Rattle.rept_havoc.specs.Havoc.{changed};
 ghost use Rattle.rept_machine.specs.Arithmetic.{store_width};
 ghost use Rattle.rept_partial.specs.declared.flat.Flat.{Flat};
-ghost use Rattle.rept_view.specs.declared.inferred.When.TheVariants.{Before, After};
+ghost use Rattle.rept_reason.specs.declared.view.inferred.When.TheVariants.{Before, After};
 ghost use Rattle.rept_rules.specs.MayWrite.{range_of, only_value, is_failure, has_failed, writes_word, instr_may_write, instr_is_sure};
 
 use crate::look::is_known;
@@ -14,7 +14,7 @@ use rept_havoc::havoc;
 use rept_isa::{AmoOp, Instr, Reg, StoreOp, register};
 use rept_machine::store_width;
 use rept_partial::{Flat, Partial, Range};
-use rept_view::{RowView, When};
+use rept_reason::{RowView, When};
 
 /// The bytes that the row of this instruction may write, where the program's own memory ends at
 /// `image_end`.

@@ -5,16 +5,16 @@ use Rattle.std.proofs.lemmas.List.{map_more}
 use Rattle.std.proofs.lemmas.Bool.Decides.{leb_tells, eqb_tells}
 use Rattle.rept_dump.specs.Registers.{saved_pc}
 use Rattle.rept_path.specs.declared.fault.PathFault.{PathFault}
-use Rattle.rept_slices.specs.Joins.{ThreadNote}
-use Rattle.rept_slices.specs.Raw.{note_in}
+use Rattle.rept_streams.specs.Slices.Joins.{ThreadNote}
+use Rattle.rept_streams.specs.Slices.Raw.{note_in}
 use Rattle.rept_steps.specs.Course.{Course, rows_of, slices_of, TakeRows}
 use Rattle.rept_steps.specs.declared.run.Run.{Run}
 use Rattle.rept_steps.specs.declared.slice.Slice.{Slice}
 use Rattle.rept_steps.specs.declared.threads.ThreadRows.{ThreadRows}
 use Rattle.rept_steps.specs.Linked.{AreLinked, EndBefore}
 use Rattle.rept_isa.specs.declared.row.StepRow.{StepRow}
-use Rattle.rept_threads.specs.Notes.{known_by}
-use Rattle.rept_threads.specs.declared.notes.KeptNote.{KeptNote}
+use Rattle.rept_streams.specs.Threads.Notes.{known_by}
+use Rattle.rept_streams.specs.declared.threads.notes.KeptNote.{KeptNote}
 use Rattle.rept_path.specs.Code.{Code, alignment, by_code, by_instruction, by_word, calls_there, expansion, look, short_half}
 use Rattle.rept_path.specs.declared.fault.PathFault.TheVariants.{Unaligned}
 use Rattle.rept_timeline.specs.Small.{rows_in}

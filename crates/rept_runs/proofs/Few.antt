@@ -18,18 +18,18 @@ use Rattle.rept_path.specs.declared.fault.PathFault.TheVariants.{TooLong}
 use Rattle.rept_path.specs.Moves.{Stand, site, successor, way_by, ◌>>=◌}
 use Rattle.rept_path.specs.Gap.{Goal, Edge, gap, row, call_row, crossing, by_flow, by_successor}
 use Rattle.rept_path.proofs.MoveLemmas.{bind_ok}
-use Rattle.rept_slices.specs.Parts.{thread_of, begin_of}
-use Rattle.rept_slices.specs.Order.{put, by_time, head_of}
-use Rattle.rept_slices.specs.Stretches.{RanSlice, ran}
-use Rattle.rept_slices.specs.Joins.{ThreadNote, ThreadGround, JoinGround, JoinedSlice, bridge, with_rows, join, thread, thread_ground, of_thread, rows_in, ran_rows, threads, stand_at}
-use Rattle.rept_slices.specs.Checks.{first_fault}
-use Rattle.rept_slices.specs.Many.{Traces, IsRunOfStreams, processes, left, ground, overlap_fault, unmet, run_by}
-use Rattle.rept_slices.specs.Raw.{note_in, code_in, traces}
+use Rattle.rept_streams.specs.Slices.Parts.{thread_of, begin_of}
+use Rattle.rept_streams.specs.Slices.Order.{put, by_time, head_of}
+use Rattle.rept_streams.specs.Slices.Stretches.{RanSlice, ran}
+use Rattle.rept_streams.specs.Slices.Joins.{ThreadNote, ThreadGround, JoinGround, JoinedSlice, bridge, with_rows, join, thread, thread_ground, of_thread, rows_in, ran_rows, threads, stand_at}
+use Rattle.rept_streams.specs.Slices.Checks.{first_fault}
+use Rattle.rept_streams.specs.Slices.Many.{Traces, IsRunOfStreams, processes, left, ground, overlap_fault, unmet, run_by}
+use Rattle.rept_streams.specs.Slices.Raw.{note_in, code_in, traces}
 use Rattle.rept_dump.specs.Registers.{first_twin, pid_of, saved_pc}
 use Rattle.rept_steps.specs.declared.run.Run.{Run}
 use Rattle.rept_steps.specs.Course.{IsSoundCourse}
 use Rattle.rept_steps.specs.Runs.{course_of}
-use Rattle.rept_threads.proofs.Wholes.{file_sound}
+use Rattle.rept_streams.proofs.ThreadsLemmas.Wholes.{file_sound}
 use Rattle.rept_timeline.specs.Small.{IsSmall, rows_in as rows_of_threads}
 use Rattle.rept_runs.proofs.Entering.{entered_count, entered_small, entered_sound}
 use Rattle.rept_runs.specs.Told.{Traced, IsTracedRun, AreNotesApart, files_in}

@@ -4,7 +4,7 @@ use Rattle.std.proofs.Common.{◌≡◌, ℕ, nat_lt, cond, Bool, List, [], ◌�
 use Rattle.std.specs.List.{filter}
 use Rattle.std.proofs.lemmas.Bool.{cases_lt, lt-ltb, le-ltb}
 use Rattle.rept_elf.specs.Segments.{segments}
-use Rattle.rept_notes.specs.Notes.{Note}
+use Rattle.rept_maps.specs.Notes.Notes.{Note}
 use Rattle.rept_dump.specs.Registers.{is_status, all_registers, by_size, by_count, by_twin, first_short, first_twin, descs_of, pid_of, most_threads}
 use Rattle.rept_dump.specs.declared.fault.CoreFault.{CoreFault}
 use Rattle.rept_dump.specs.declared.fault.CoreFault.TheVariants.{TooManyThreads}

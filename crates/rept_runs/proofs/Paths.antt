@@ -19,11 +19,11 @@ use Rattle.rept_path.specs.declared.fault.PathFault.TheVariants.{TooLong}
 use Rattle.rept_path.specs.Moves.{Stand, ◌>>=◌}
 use Rattle.rept_path.specs.Gap.{Goal, Edge, gap, row, call_row, crossing, by_flow, by_successor}
 use Rattle.rept_path.proofs.MoveLemmas.{bind_ok}
-use Rattle.rept_slices.specs.Order.{head_of}
-use Rattle.rept_slices.specs.Stretches.{RanSlice, ran}
-use Rattle.rept_slices.specs.Joins.{ThreadNote, ThreadGround, JoinGround, JoinedSlice, bridge, with_rows, join, slices, thread, thread_ground, of_thread, rows_in, ran_rows, threads, stand_at}
-use Rattle.rept_slices.specs.Many.{left, ground}
-use Rattle.rept_slices.specs.Raw.{note_in, code_in, traces}
+use Rattle.rept_streams.specs.Slices.Order.{head_of}
+use Rattle.rept_streams.specs.Slices.Stretches.{RanSlice, ran}
+use Rattle.rept_streams.specs.Slices.Joins.{ThreadNote, ThreadGround, JoinGround, JoinedSlice, bridge, with_rows, join, slices, thread, thread_ground, of_thread, rows_in, ran_rows, threads, stand_at}
+use Rattle.rept_streams.specs.Slices.Many.{left, ground}
+use Rattle.rept_streams.specs.Slices.Raw.{note_in, code_in, traces}
 use Rattle.rept_moments.specs.Seen.{rows_in as rows_of_slices, alone_by}
 use Rattle.rept_dump.specs.Registers.{saved_pc}
 use Rattle.rept_runs.specs.Calls.{entered}

@@ -10,7 +10,7 @@ use Rattle.rept_trace.specs.Streams.{StreamFile, AreStreams, AreNoStreams}
 use Rattle.rept_trace.specs.declared.fault.TraceFault.{TraceFault}
 use Rattle.rept_path.specs.declared.fault.PathFault.{PathFault}
 use Rattle.rept_path.specs.declared.fault.PathFault.TheVariants.{Packet}
-use Rattle.rept_slices.specs.Raw.{RawFiles, note_in, code_in, IsRunOfFiles, HasNoRun}
+use Rattle.rept_streams.specs.Slices.Raw.{RawFiles, note_in, code_in, IsRunOfFiles, HasNoRun}
 use Rattle.rept_runs.specs.Calls.{entered}
 
 -- what a run is told by: the files of the program, the descriptors of the register notes, one of

@@ -9,14 +9,14 @@ ghost use Rattle.rept_steps.specs.Course.{TakeRows, rows_of, slices_of};
 ghost use Rattle.rept_steps.specs.declared.threads.ThreadRows.{ThreadRows};
 ghost use Rattle.rept_steps.specs.Runs.{course_of};
 ghost use Rattle.rept_timeline.specs.Small.{rows_in};
-ghost use Rattle.rept_threads.specs.declared.notes.KeptNote.{KeptNote};
+ghost use Rattle.rept_streams.specs.declared.threads.notes.KeptNote.{KeptNote};
 ghost use Rattle.rept_runs.specs.Calls.{begin_address, call_before, entered, is_shared, later_by, with_call, with_calls, with_row};
 
 use rept_isa::{Instr, StepRow};
 use rept_path::program::Program;
 use rept_path::{PathFault, by_half, by_word};
 use rept_steps::{LIMIT, Run, Slice, Slices, Steps, ThreadRows, Threads};
-use rept_threads::notes::KeptNote;
+use rept_streams::threads::notes::KeptNote;
 use std::alloc::Global;
 
 /// The slice of such a call.

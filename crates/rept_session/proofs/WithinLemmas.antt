@@ -17,7 +17,7 @@ use Rattle.rept_session.specs.declared.verb.Single.TheVariants as single
 use Rattle.rept_session.specs.declared.verb.Double.{Double}
 use Rattle.rept_session.specs.declared.verb.Double.TheVariants as double
 use Rattle.rept_session.specs.Commands.{IsCommandWithin, around_command, asked_command, bare_command, begins_with_digit, command_of, command_of_first, command_of_words, double_command, double_verb, find_command, from_command, goto_command, question_word, reg_command, thread_command, is_count, lone_command, single_command, single_verb, verb_of, why_command, with_number, with_register}
-use Rattle.rept_number.specs.Numbers.{number_of_word}
+use Rattle.rept_word.specs.Parsing.Numbers.{number_of_word}
 use Rattle.rept_session.specs.Registers.{register_of}
 use Rattle.rept_session.specs.Words.{words_in}
 

@@ -16,7 +16,7 @@ use Rattle.rept_session.specs.declared.verb.Single.{Single}
 use Rattle.rept_session.specs.declared.verb.Single.TheVariants as single
 use Rattle.rept_session.specs.declared.verb.Double.{Double}
 use Rattle.rept_session.specs.declared.verb.Double.TheVariants as double
-use Rattle.rept_number.specs.Numbers.{number_of_word}
+use Rattle.rept_word.specs.Parsing.Numbers.{number_of_word}
 use Rattle.rept_session.specs.Registers.{register_of}
 use Rattle.rept_session.specs.Words.{words_in}
 

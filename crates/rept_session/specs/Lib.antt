@@ -1,12 +1,8 @@
 pub mod Commands
 pub mod Help
-pub mod LastWriters
 pub mod Registers
 pub mod Session
 pub mod SessionLaws
-pub mod Shown
-pub mod Spots
 pub mod Texts
-pub mod Trail
 pub mod Words
-pub mod Writers
+pub mod Serving

@@ -4,8 +4,8 @@ use Rattle.std.specs.Prelude.{◌≡◌, ℕ, List, [], ◌∷◌, ◌++◌, len
 use Rattle.rept_session.specs.declared.command.Command.{Command}
 use Rattle.rept_session.specs.declared.command.BadCommand.{BadCommand}
 use Rattle.rept_session.specs.Commands.{command_of}
-use Rattle.rept_session.specs.Shown.{SessionTold, Shown}
-use Rattle.rept_session.specs.declared.place.ThreadPoint.{ThreadPoint}
+use Rattle.rept_findings.specs.Shown.{SessionTold, Shown}
+use Rattle.rept_findings.specs.declared.place.ThreadPoint.{ThreadPoint}
 use Rattle.rept_session.specs.Texts.{IsText, cursor_after, is_quit, refusal_line}
 
 -- what is said of a line: its command, or why it is none

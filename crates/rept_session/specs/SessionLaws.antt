@@ -2,12 +2,13 @@
 use Rattle.std.specs.Prelude.{◌≡◌, ℕ, List, [], ◌∷◌, ◌++◌, length, Bool, true, false, Option, None, Some, Ok, Err, MatchBool, ◌==◌, ◌&&◌, nat_le, nat_lt, if◌then◌else◌}
 use Rattle.std.proofs.Common.{refl, sym, subst, subst₂, ◌∙◌, append_assoc, append-nil}
 use Rattle.rept_session.specs.Session.{HasAnswered, IsDivided, IsReply, IsSession, Said, cursor_of, ends, said_at}
-use Rattle.rept_session.specs.declared.place.ThreadPoint.{ThreadPoint}
-use Rattle.rept_session.specs.Shown.{SameReasons, SessionTold, Shown, moment_at, number, session_told}
-use Rattle.rept_session.specs.Texts.{IsExplained, IsReasoned, IsText, cursor_after}
+use Rattle.rept_findings.specs.declared.place.ThreadPoint.{ThreadPoint}
+use Rattle.rept_findings.specs.Shown.{SameReasons, SessionTold, Shown, moment_at, number, session_told}
+use Rattle.rept_questions.specs.Texts.{IsExplained, IsReasoned}
+use Rattle.rept_session.specs.Texts.{IsText, cursor_after}
 use Rattle.rept_session.specs.Commands.{command_of, command_of_first, command_of_words, double_command, goto_command, is_count, single_command, thread_command, verb_of}
 use Rattle.rept_session.specs.Words.{words_in}
-use Rattle.rept_number.specs.Numbers.{number_of_word}
+use Rattle.rept_word.specs.Parsing.Numbers.{number_of_word}
 use Rattle.rept_session.specs.declared.command.Command.{Command}
 use Rattle.rept_session.specs.declared.command.BadCommand.TheVariants as bad
 use Rattle.rept_session.specs.declared.verb.Verb.{Verb}

@@ -3,20 +3,21 @@
 ghost use Rattle.std.specs.Prelude.{◌≡◌, ℕ, ◌<◌, ◌≤◌, ◌++◌, false, length, IfOk, OnOk};
 ghost use Rattle.rept_session.specs.Commands.{IsCommandWithin};
 ghost use Rattle.rept_session.specs.Session.{IsReply, cursor_of, ends, said_at};
-ghost use Rattle.rept_session.specs.Shown.{IsThreadPoint, SameReasons, session_told};
-ghost use Rattle.rept_session.specs.Texts.{IsText, cursor_after, is_quit, last_of, point_after, point_line, range_line, refusal_line, register_line, registers_line, steps_line, stores_line, summary_lines, thread_lines, writer_line};
+ghost use Rattle.rept_findings.specs.Shown.{IsThreadPoint, SameReasons, session_told};
+ghost use Rattle.rept_findings.specs.Texts.{register_line};
+ghost use Rattle.rept_session.specs.Texts.{IsText, cursor_after, is_quit, last_of, point_after, point_line, range_line, refusal_line, registers_line, steps_line, stores_line, summary_lines, thread_lines};
 
 use crate::command::{BadCommand, Command};
-use crate::findings::{Findings, address_at, moment_of, number_of};
-use crate::lines::{memory_text, register_texts, step_texts};
 use crate::parser::parse;
-use crate::pieces::{push_note, push_numbered, push_range, push_value, push_writer};
-use crate::place::ThreadPoint;
 use crate::questions::question_text;
-use crate::reasons::{why_byte, why_register};
 use crate::reply::Answer;
-use crate::stack::stack_text;
+use rept_findings::findings::{address_at, moment_of, number_of};
+use rept_findings::lines::{memory_text, register_texts, step_texts, writer_text};
+use rept_findings::pieces::{push_note, push_numbered, push_range, push_value};
+use rept_findings::{Findings, ThreadPoint};
 use rept_isa::Reg;
+use rept_questions::reasons::{why_byte, why_register};
+use rept_questions::stack::stack_text;
 use rept_report::Counts;
 use rept_word::{OutOfMemory, Text};
 use std::alloc::Global;
@@ -281,23 +282,6 @@ fn range_text<F: Findings>(
     let mut text = Text::new(alloc);
     push_range(&mut text, register, range)?;
     push_note(&mut text, note)?;
-    text.push(b"\n")?;
-    Ok(text)
-}
-
-/// The line of the last writer of a byte.
-pub fn writer_text<F: Findings>(
-    alloc: Global,
-    findings: &F,
-    moment: u32,
-    address: u32,
-) -> Result<Text, OutOfMemory>
-    requires { moment < (F.shown findings.now).moments }
-    ensures { IfOk result (λ text. text ≡ writer_line (F.shown findings.now) ((F.shown findings.now).writer moment address)) }
-{
-    let writer = findings.writer(moment, address);
-    let mut text = Text::new(alloc);
-    push_writer(&mut text, findings, writer)?;
     text.push(b"\n")?;
     Ok(text)
 }

@@ -4,7 +4,7 @@ ghost use Rattle.std.specs.Prelude.{◌≡◌, ◌<◌};
 ghost use Rattle.rept_session.specs.Registers.{named, plain_index, indexed, register_of};
 
 use rept_isa::Reg;
-use rept_number::is_word;
+use rept_word::is_word;
 
 /// The register that a word names. None exactly where it names none.
 pub fn register_named(word: &[u8]) -> Option<Reg>

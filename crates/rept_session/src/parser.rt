@@ -2,7 +2,7 @@
 
 ghost use Rattle.std.specs.Prelude.{◌≡◌, ℕ, IfOk, MatchResult, None, Some};
 ghost use Rattle.rept_session.specs.Commands.{IsCommandWithin, alone, around_command, asked_command, bare_command, command_of, begins_with_digit, command_of_verb, double_command, find_command, from_command, goto_command, reg_command, single_command, thread_command, why_command};
-ghost use Rattle.rept_number.specs.Numbers.{number_of_word};
+ghost use Rattle.rept_word.specs.Parsing.Numbers.{number_of_word};
 ghost use Rattle.rept_session.specs.Registers.{register_of};
 ghost use Rattle.rept_session.specs.Words.{words_in};
 ghost use Rattle.rept_session.specs.declared.command.BadCommand.TheVariants as bad;
@@ -15,7 +15,7 @@ use crate::question::Question;
 use crate::verb::{Double, QuestionWord, Single, Verb, verb_named};
 use crate::words::{count_words, first_word};
 use rept_isa::Reg;
-use rept_number::{is_word, number_in};
+use rept_word::{is_word, number_in};
 
 /// The most bytes of a line that is a command.
 const MOST_BYTES: usize = 256;

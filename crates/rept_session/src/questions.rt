@@ -2,18 +2,18 @@
 
 ghost use Rattle.std.specs.Prelude.{◌≡◌, IfOk};
 ghost use Rattle.rept_session.specs.Help.{help_text};
-ghost use Rattle.rept_session.specs.Shown.{IsThreadPoint};
+ghost use Rattle.rept_findings.specs.Shown.{IsThreadPoint};
 ghost use Rattle.rept_session.specs.Texts.{IsAnswered, pc_line, recent_lines};
 
-use crate::findings::{Findings, address_at};
 use crate::help::help_text;
-use crate::lines::step_texts;
-use crate::place::ThreadPoint;
 use crate::question::Question;
-use crate::rows::{around_text, at_text};
-use crate::spots::{find_text, visits_text};
-use crate::trail_text::{byte_from, register_from};
-use crate::writers::writers_text;
+use rept_findings::findings::address_at;
+use rept_findings::lines::step_texts;
+use rept_findings::{Findings, ThreadPoint};
+use rept_questions::rows::{around_text, at_text};
+use rept_questions::spots::{find_text, visits_text};
+use rept_questions::trail_text::{byte_from, register_from};
+use rept_questions::writers::writers_text;
 use rept_word::{OutOfMemory, Text};
 use std::alloc::Global;
 

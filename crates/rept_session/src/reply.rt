@@ -1,6 +1,6 @@
 //! The answer to a command.
 
-use crate::place::ThreadPoint;
+use rept_findings::ThreadPoint;
 use rept_word::Text;
 
 /// The answer to a command, and where the session stands after it.

@@ -5,7 +5,7 @@ ghost use Rattle.rept_session.specs.Commands.{lone_command, single_verb, double_
 
 use crate::command::Command;
 use crate::question::Question;
-use rept_number::is_word;
+use rept_word::is_word;
 
 /// What a first word asks for: a command, or one that still wants its words.
 #[derive(Clone, Copy)]

@@ -1,3 +1,5 @@
 pub mod Entries
 pub mod Numerals
 pub mod Reading
+pub mod HartlogLemmas
+pub mod RecordingLemmas

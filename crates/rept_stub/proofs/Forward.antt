@@ -9,10 +9,10 @@ use Rattle.std.proofs.lemmas.List.{take_more}
 use Rattle.std.proofs.lemmas.List.Folds.{list_any-append}
 use Rattle.rept_report.specs.declared.writer.Writer.{Writer}
 use Rattle.rept_report.specs.declared.writer.Writer.TheVariants as writer
-use Rattle.rept_session.specs.LastWriters.{AreLastWriters, IsNamed, named_row, writer_at}
-use Rattle.rept_session.specs.Shown.{IsThreadPoint, Shown}
-use Rattle.rept_session.specs.Texts.{at}
-use Rattle.rept_session.specs.declared.place.ThreadPoint.{ThreadPoint}
+use Rattle.rept_findings.specs.LastWriters.{AreLastWriters, IsNamed, named_row, writer_at}
+use Rattle.rept_findings.specs.Shown.{IsThreadPoint, Shown}
+use Rattle.rept_findings.specs.Texts.{at}
+use Rattle.rept_findings.specs.declared.place.ThreadPoint.{ThreadPoint}
 use Rattle.rept_stub.specs.Halts.{NamesNoOther, came, has_changed, is_break, is_new, is_open, is_row, is_stop, is_touched, names}
 use Rattle.rept_stub.proofs.Ranges.{find_on, range_front}
 

@@ -3,10 +3,10 @@ use Rattle.std.proofs.Common.{◌≡◌, ℕ, suc, ◌+◌, ◌-◌, ◌<◌, �
 use Rattle.std.proofs.lemmas.List.{append-nil, append_assoc}
 use Rattle.std.specs.List.{flat_map}
 use Rattle.rept_report.specs.declared.writer.Writer.{Writer}
-use Rattle.rept_session.specs.Shown.{Shown}
-use Rattle.rept_session.specs.Texts.{at, writer_line}
-use Rattle.rept_session.specs.declared.place.ThreadPoint.{ThreadPoint}
-use Rattle.rept_session.specs.LastWriters.{writer_at}
+use Rattle.rept_findings.specs.Shown.{Shown}
+use Rattle.rept_findings.specs.Texts.{at, writer_line}
+use Rattle.rept_findings.specs.declared.place.ThreadPoint.{ThreadPoint}
+use Rattle.rept_findings.specs.LastWriters.{writer_at}
 use Rattle.rept_stub.specs.Monitoring.{listed, row_before, writers_from}
 
 module _ (s : Shown) (a : ℕ) where

@@ -2,10 +2,10 @@
 use Rattle.std.proofs.Common.{◌≡◌, ℕ, suc, zero, ◌+◌, ◌<◌, ◌≤◌, inl, inr, Bool, true, false, not, cond, arith, refl, sym, ◌∙◌, ap, subst}
 use Rattle.std.specs.Prelude.{Option, Some, None}
 use Rattle.std.proofs.lemmas.Bool.{cases_lt}
-use Rattle.rept_session.specs.LastWriters.{AreLastWriters, IsNamed, named_row, writer_at}
-use Rattle.rept_session.specs.Shown.{IsThreadPoint, Shown}
-use Rattle.rept_session.specs.Texts.{at}
-use Rattle.rept_session.specs.declared.place.ThreadPoint.{ThreadPoint}
+use Rattle.rept_findings.specs.LastWriters.{AreLastWriters, IsNamed, named_row, writer_at}
+use Rattle.rept_findings.specs.Shown.{IsThreadPoint, Shown}
+use Rattle.rept_findings.specs.Texts.{at}
+use Rattle.rept_findings.specs.declared.place.ThreadPoint.{ThreadPoint}
 use Rattle.rept_stub.specs.Halts.{last_below, names}
 use Rattle.rept_stub.proofs.Forward.{is_row_of, row_is}
 

@@ -4,8 +4,8 @@ use Rattle.std.proofs.lemmas.Bool.{cases_eq}
 use Rattle.std.proofs.lemmas.List.{get_or-set_other, get_or-set_same, length-set}
 use Rattle.std.proofs.lemmas.List.FromFn.{get_or-map-range_with_len, length-map-range_with_len}
 use Rattle.std.specs.Prelude.{None, Some, MatchBool}
-use Rattle.rept_request.specs.declared.request.GdbRequest.{GdbRequest}
-use Rattle.rept_session.specs.Shown.{Shown}
+use Rattle.rept_remote.specs.declared.request.request.GdbRequest.{GdbRequest}
+use Rattle.rept_findings.specs.Shown.{Shown}
 use Rattle.rept_stub.specs.Answers.{changed, selected_by, spots_after}
 use Rattle.rept_stub.specs.Spots.{Spots}
 use Rattle.rept_stub.specs.declared.answers.Stand.{Stand}

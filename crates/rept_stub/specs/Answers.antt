@@ -3,14 +3,14 @@
 -- Packets and vCont). What is asked of no thread by name is asked of the selected one, at its
 -- cursor.
 use Rattle.std.specs.Prelude.{◌≡◌, ℕ, List, [], ◌++◌, drop, length, Bool, true, false, ◌||◌, ◌&&◌, nat_lt, Option, None, Some, codes, if◌then◌else◌}
-use Rattle.rept_session.specs.Shown.{SessionTold, Shown}
+use Rattle.rept_findings.specs.Shown.{SessionTold, Shown}
 use Rattle.rept_session.specs.Session.{IsReply, said_at}
-use Rattle.rept_session.specs.declared.place.ThreadPoint.{ThreadPoint}
-use Rattle.rept_request.specs.Requests.{request_of}
-use Rattle.rept_request.specs.declared.request.GdbRequest.{GdbRequest}
-use Rattle.rept_request.specs.declared.request.GdbRequest.TheVariants as request
-use Rattle.rept_request.specs.declared.request.Movement.{Movement}
-use Rattle.rept_request.specs.declared.request.Movement.TheVariants as way
+use Rattle.rept_findings.specs.declared.place.ThreadPoint.{ThreadPoint}
+use Rattle.rept_remote.specs.Request.Requests.{request_of}
+use Rattle.rept_remote.specs.declared.request.request.GdbRequest.{GdbRequest}
+use Rattle.rept_remote.specs.declared.request.request.GdbRequest.TheVariants as request
+use Rattle.rept_remote.specs.declared.request.request.Movement.{Movement}
+use Rattle.rept_remote.specs.declared.request.request.Movement.TheVariants as way
 use Rattle.rept_stub.specs.Consoles.{console_line}
 use Rattle.rept_stub.specs.Description.{description_text}
 use Rattle.rept_stub.specs.Halts.{Wanted, continued, continued_back, is_unseen, stepped, stepped_back, stepped_within, wanted}
@@ -19,7 +19,7 @@ use Rattle.rept_stub.specs.Monitoring.{asked_of, help_text, line_point, moved_wo
 use Rattle.rept_stub.specs.Spots.{Spots, Watch, is_small, region, watch_of, with_break, with_region, without_break, without_region}
 use Rattle.rept_stub.specs.Standing.{cursor_of, here, led, moving_thread, named_thread, put, selected, selected_moving}
 use Rattle.rept_stub.specs.Threads.{about_reply, cursor_words, reason_reply, stop_reply, there_reply, thread_reply, threads_reply}
-use Rattle.rept_session.specs.Texts.{at}
+use Rattle.rept_findings.specs.Texts.{at}
 use Rattle.rept_stub.specs.declared.halt.MoveEnd.{MoveEnd}
 use Rattle.rept_stub.specs.declared.halt.StopReason.{StopReason}
 use Rattle.rept_stub.specs.declared.monitoring.MonitorRequest.{MonitorRequest}

@@ -8,12 +8,12 @@ use Rattle.rept_isa.specs.Operands.{first_read}
 use Rattle.rept_isa.specs.declared.row.StepRow.{StepRow}
 use Rattle.rept_report.specs.declared.writer.Writer.{Writer}
 use Rattle.rept_report.specs.declared.writer.Writer.TheVariants as writer
-use Rattle.rept_request.specs.declared.request.Movement.{Movement}
-use Rattle.rept_request.specs.declared.request.Movement.TheVariants as way
-use Rattle.rept_session.specs.LastWriters.{writer_at}
-use Rattle.rept_session.specs.Shown.{Shown, number}
-use Rattle.rept_session.specs.Texts.{at, step_text}
-use Rattle.rept_session.specs.declared.place.ThreadPoint.{ThreadPoint}
+use Rattle.rept_remote.specs.declared.request.request.Movement.{Movement}
+use Rattle.rept_remote.specs.declared.request.request.Movement.TheVariants as way
+use Rattle.rept_findings.specs.LastWriters.{writer_at}
+use Rattle.rept_findings.specs.Shown.{Shown, number}
+use Rattle.rept_findings.specs.Texts.{at, step_text}
+use Rattle.rept_findings.specs.declared.place.ThreadPoint.{ThreadPoint}
 use Rattle.rept_stub.specs.Halts.{is_stepped_over}
 use Rattle.rept_stub.specs.declared.halt.MoveEnd.{MoveEnd}
 use Rattle.rept_stub.specs.declared.halt.StopReason.{StopReason}

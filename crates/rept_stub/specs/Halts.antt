@@ -6,11 +6,11 @@ use Rattle.std.specs.Prelude.{◌≡◌, ℕ, zero, suc, ◌+◌, ◌-◌, List,
 use Rattle.std.specs.List.{find, list_all, list_any, range_with_len}
 use Rattle.rept_report.specs.declared.writer.Writer.{Writer}
 use Rattle.rept_report.specs.declared.writer.Writer.TheVariants as writer
-use Rattle.rept_session.specs.LastWriters.{named_row, writer_at}
-use Rattle.rept_session.specs.Shown.{Shown, moment_at}
-use Rattle.rept_session.specs.Texts.{at, pc_at}
-use Rattle.rept_session.specs.declared.place.ThreadPoint.{ThreadPoint}
-use Rattle.rept_request.specs.declared.request.CodeRange.{CodeRange}
+use Rattle.rept_findings.specs.LastWriters.{named_row, writer_at}
+use Rattle.rept_findings.specs.Shown.{Shown, moment_at}
+use Rattle.rept_findings.specs.Texts.{at, pc_at}
+use Rattle.rept_findings.specs.declared.place.ThreadPoint.{ThreadPoint}
+use Rattle.rept_remote.specs.declared.request.request.CodeRange.{CodeRange}
 use Rattle.rept_stub.specs.Replies.{byte_told}
 use Rattle.rept_stub.specs.Spots.{Watch}
 use Rattle.rept_stub.specs.declared.halt.StopReason.{StopReason}

@@ -3,13 +3,13 @@ use Rattle.std.specs.Prelude.{ℕ, zero, suc, List, [], ◌∷◌, ◌++◌, dro
 use Rattle.std.specs.Fmt.{decimal}
 use Rattle.std.specs.List.{flat_map, starts_with}
 use Rattle.std.specs.Str.{bytes_eq}
-use Rattle.rept_number.specs.Numbers.{number_of_word}
+use Rattle.rept_word.specs.Parsing.Numbers.{number_of_word}
 use Rattle.rept_report.specs.declared.writer.Writer.{Writer}
-use Rattle.rept_session.specs.Shown.{Shown}
+use Rattle.rept_findings.specs.Shown.{Shown}
 use Rattle.rept_session.specs.Session.{cursor_of, said_at}
-use Rattle.rept_session.specs.Texts.{at, writer_line}
-use Rattle.rept_session.specs.declared.place.ThreadPoint.{ThreadPoint}
-use Rattle.rept_session.specs.LastWriters.{named_row, writer_at}
+use Rattle.rept_findings.specs.Texts.{at, writer_line}
+use Rattle.rept_findings.specs.declared.place.ThreadPoint.{ThreadPoint}
+use Rattle.rept_findings.specs.LastWriters.{named_row, writer_at}
 use Rattle.rept_stub.specs.Halts.{before}
 use Rattle.rept_stub.specs.declared.monitoring.MonitorRequest.{MonitorRequest}
 use Rattle.rept_stub.specs.declared.monitoring.MonitorRequest.TheVariants as asked

@@ -5,9 +5,9 @@ use Rattle.std.specs.List.{flat_map, range_with_len}
 use Rattle.std.specs.Option.{option_or}
 use Rattle.rept_word.specs.Hex.{hex_byte}
 use Rattle.rept_remote.specs.Escapes.{digits_value}
-use Rattle.rept_session.specs.Shown.{Shown, moment_at, number}
-use Rattle.rept_session.specs.declared.place.ThreadPoint.{ThreadPoint}
-use Rattle.rept_session.specs.Texts.{pc_at, wrapped}
+use Rattle.rept_findings.specs.Shown.{Shown, moment_at, number}
+use Rattle.rept_findings.specs.declared.place.ThreadPoint.{ThreadPoint}
+use Rattle.rept_findings.specs.Texts.{pc_at, wrapped}
 use Rattle.rept_stub.specs.declared.halt.StopReason.{StopReason}
 use Rattle.rept_stub.specs.Signals.{debugger_signal}
 use Rattle.rept_stub.specs.declared.halt.StopReason.TheVariants as stop

@@ -2,8 +2,8 @@
 -- This project's own.
 use Rattle.std.specs.Prelude.{ℕ, ◌+◌, ◌%◌, ◌^◌, List, [], ◌∷◌, ◌++◌, map, Bool, true, false, ◌&&◌, ◌==◌, nat_lt, nat_le, Option, None, Some, if◌then◌else◌}
 use Rattle.std.specs.List.{flat_map, list_any, position, range_with_len, remove}
-use Rattle.rept_request.specs.declared.request.WatchKind.{WatchKind}
-use Rattle.rept_request.specs.declared.request.WatchKind.TheVariants as kind
+use Rattle.rept_remote.specs.declared.request.request.WatchKind.{WatchKind}
+use Rattle.rept_remote.specs.declared.request.request.WatchKind.TheVariants as kind
 use Rattle.rept_stub.specs.declared.spots.Region.{Region}
 
 -- addresses of breakpoints, and regions of bytes whose writes are watched

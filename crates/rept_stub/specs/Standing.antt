@@ -4,11 +4,11 @@
 use Rattle.std.specs.Prelude.{◌≡◌, ℕ, ◌<◌, ◌≤◌, List, length, map, Bool, false, nat_le, ◌==◌, Option, None, Some, get_or, set, IfSome, if◌then◌else◌}
 use Rattle.std.specs.List.{find, range_with_len}
 use Rattle.std.specs.Option.{unwrap_or}
-use Rattle.rept_request.specs.declared.request.ThreadName.{ThreadName}
-use Rattle.rept_request.specs.declared.request.ThreadName.TheVariants as name
-use Rattle.rept_session.specs.Shown.{Shown}
-use Rattle.rept_session.specs.Texts.{at}
-use Rattle.rept_session.specs.declared.place.ThreadPoint.{ThreadPoint}
+use Rattle.rept_remote.specs.declared.request.request.ThreadName.{ThreadName}
+use Rattle.rept_remote.specs.declared.request.request.ThreadName.TheVariants as name
+use Rattle.rept_findings.specs.Shown.{Shown}
+use Rattle.rept_findings.specs.Texts.{at}
+use Rattle.rept_findings.specs.declared.place.ThreadPoint.{ThreadPoint}
 use Rattle.rept_stub.specs.Spots.{Spots}
 use Rattle.rept_stub.specs.declared.answers.Stand.{Stand}
 

@@ -1,8 +1,8 @@
 //! The answer to a packet.
 
 ghost use Rattle.std.specs.Prelude.{◌≡◌, ◌≤◌, ◌<◌, ◌++◌, [], drop, length, None, Some, option_map, IfOk, OnOk, OnErr, MatchBool};
-ghost use Rattle.rept_request.specs.Requests.{request_of};
-ghost use Rattle.rept_session.specs.Shown.{IsThreadPoint, SameReasons, session_told};
+ghost use Rattle.rept_remote.specs.Request.Requests.{request_of};
+ghost use Rattle.rept_findings.specs.Shown.{IsThreadPoint, SameReasons, session_told};
 ghost use Rattle.rept_stub.specs.Answers.{IsLineAnswered, IsMonitored, IsStubAnswer, changed, changed_reply, fixed_reply, halt_by, is_far, line_before, monitored, move_line, move_reply, moved, selected_by, spots_after, stale_after, stand_after, still_reply, threads_still, watch_in};
 ghost use Rattle.rept_stub.specs.Monitoring.{asked_of, line_point};
 ghost use Rattle.rept_stub.specs.Replies.{bytes_told, decoded, memory_bytes, memory_digits};
@@ -25,9 +25,10 @@ use crate::threads::{
     about_text, cursor_words, moving_thread, named_thread, reason, stop_text, there_text,
     thread_text, threads_text,
 };
-use rept_request::{GdbRequest, Movement, ThreadName, WatchKind, parse};
-use rept_session::findings::moment_of;
-use rept_session::{Findings, ThreadPoint, answer_line};
+use rept_findings::findings::moment_of;
+use rept_findings::{Findings, ThreadPoint};
+use rept_remote::{GdbRequest, Movement, ThreadName, WatchKind, parse};
+use rept_session::answer_line;
 use rept_word::{OutOfMemory, Text};
 use std::alloc::Global;
 

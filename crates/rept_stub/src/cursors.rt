@@ -3,7 +3,7 @@
 ghost use Rattle.std.specs.Prelude.{◌≡◌, ℕ, ◌<◌, List, get_or, length, set, IfOk};
 ghost use Rattle.rept_stub.specs.Standing.{last_points};
 
-use rept_session::Findings;
+use rept_findings::Findings;
 use rept_word::OutOfMemory;
 use std::alloc::Global;
 use std::marker::Model;

@@ -2,15 +2,14 @@
 
 ghost use Rattle.std.specs.Prelude.{◌≡◌, ◌≤◌, ◌<◌, ◌++◌, ◌∷◌, [], length, true, IfOk, IfSome, OnOk};
 ghost use Rattle.rept_stub.specs.Monitoring.{asked_of, asked_when, flush_text, help_text, is_writers, moved_words, own_before, point_in, row_before, signal_text, writers_asked, writers_text};
-ghost use Rattle.rept_number.specs.Numbers.{number_of_word};
-ghost use Rattle.rept_session.specs.Shown.{IsThreadPoint};
-ghost use Rattle.rept_session.specs.Texts.{of_thread, step_text, writer_line};
+ghost use Rattle.rept_word.specs.Parsing.Numbers.{number_of_word};
+ghost use Rattle.rept_findings.specs.Shown.{IsThreadPoint};
+ghost use Rattle.rept_findings.specs.Texts.{of_thread, step_text, writer_line};
 
 use crate::moves::{before, named_row, point_at, writer_at};
-use rept_number::number_in;
+use rept_findings::{Findings, ThreadPoint, push_thread_named};
 use rept_report::Writer;
-use rept_session::{Findings, ThreadPoint, push_thread_named};
-use rept_word::{OutOfMemory, Text};
+use rept_word::{OutOfMemory, Text, number_in};
 use std::alloc::Global;
 
 /// The most rows that are listed.

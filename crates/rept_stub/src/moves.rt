@@ -3,18 +3,18 @@
 ghost use Rattle.std.specs.Prelude.{◌≡◌, ◌≤◌, ◌<◌, ◌+◌, ◌-◌, ◌==◌, ◌||◌, ℕ, Bool, true, false, length, not, IfSome, None, Some};
 ghost use Rattle.std.specs.List.{find, list_any, range_with_len};
 ghost use Rattle.std.specs.Option.{option_or};
-ghost use Rattle.rept_session.specs.LastWriters.{AreLastWriters, IsNamed, named_row, writer_at};
-ghost use Rattle.rept_session.specs.Shown.{IsThreadPoint, Shown};
-ghost use Rattle.rept_session.specs.Texts.{at};
+ghost use Rattle.rept_findings.specs.LastWriters.{AreLastWriters, IsNamed, named_row, writer_at};
+ghost use Rattle.rept_findings.specs.Shown.{IsThreadPoint, Shown};
+ghost use Rattle.rept_findings.specs.Texts.{at};
 ghost use Rattle.rept_stub.specs.Halts.{NamesNoOther, are_known, back_over, backward, before, break_before, break_halt, came, continued, continued_back, first_outside, first_stop, forward, halt_at, has_changed, has_open, is_break, is_compared, is_known, is_later, is_open, is_outside, is_row, is_stepped_over, is_sure, is_touched, is_unseen, is_written, last_below, last_write, later, names, point_before, sooner_of, stepped, stepped_back, stepped_within, stop_at, wanted, write_before, write_stop, written};
 
 use crate::halt::{MoveEnd, StopReason, Written};
 use crate::pieces::byte_told;
 use crate::spots::Watch;
+use rept_findings::findings::{address_at, moment_of};
+use rept_findings::{Findings, ThreadPoint};
+use rept_remote::CodeRange;
 use rept_report::Writer;
-use rept_request::CodeRange;
-use rept_session::findings::{address_at, moment_of};
-use rept_session::{Findings, ThreadPoint};
 
 /// The last point of a thread.
 pub fn last_point<F: Findings>(findings: &F, thread: u32) -> u32

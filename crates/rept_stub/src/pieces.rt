@@ -2,17 +2,17 @@
 
 ghost use Rattle.std.specs.Prelude.{◌≡◌, ◌++◌, ◌<◌, ◌+◌, min, map, codes, IfOk, OnOk, option_map};
 ghost use Rattle.std.specs.List.{flat_map, range_with_len};
-ghost use Rattle.rept_session.specs.Shown.{IsThreadPoint};
-ghost use Rattle.rept_session.specs.Texts.{wrapped};
+ghost use Rattle.rept_findings.specs.Shown.{IsThreadPoint};
+ghost use Rattle.rept_findings.specs.Texts.{wrapped};
 ghost use Rattle.rept_stub.specs.Replies.{big_word, byte_told, decoded, digits_of, known_bytes, known_run, little_word, memory_bytes, memory_digits, part_reply, register_reply, registers_reply, signal_reply, stop_part, text_reply, value_digits};
 
 use crate::halt::StopReason;
 use crate::moves::last_point;
 use crate::signal::debugger_signal;
+use rept_findings::findings::{address_at, number_of};
+use rept_findings::{Findings, ThreadPoint};
 use rept_isa::Reg;
 use rept_remote::digits_value;
-use rept_session::findings::{address_at, number_of};
-use rept_session::{Findings, ThreadPoint};
 use rept_word::{OutOfMemory, Text};
 use std::alloc::Global;
 

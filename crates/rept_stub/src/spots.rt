@@ -4,7 +4,7 @@ ghost use Rattle.std.specs.Prelude.{◌≡◌, ◌++◌, [], length, map, nat_lt
 ghost use Rattle.std.specs.List.{position, range_with_len};
 ghost use Rattle.rept_stub.specs.Spots.{accessed, accesses_of, address_in, addresses_of, has_break, has_region, is_address, is_kind, is_same, removed, watch_of, watched, with_break, with_region, without_break, without_region};
 
-use rept_request::WatchKind;
+use rept_remote::WatchKind;
 use rept_word::OutOfMemory;
 use std::alloc::Global;
 use std::marker::Model;

@@ -3,7 +3,7 @@
 ghost use Rattle.std.specs.Prelude.{◌≡◌, ◌-◌, ◌<◌, ◌∷◌, ◌++◌, codes, IfOk, IfSome, OnOk};
 ghost use Rattle.std.specs.List.{flat_map, range_with_len};
 ghost use Rattle.std.specs.Option.{unwrap_or};
-ghost use Rattle.rept_session.specs.Shown.{IsThreadPoint};
+ghost use Rattle.rept_findings.specs.Shown.{IsThreadPoint};
 ghost use Rattle.rept_word.specs.Hex.{hex_byte};
 ghost use Rattle.rept_stub.specs.Signals.{debugger_signal};
 ghost use Rattle.rept_stub.specs.Standing.{IsStandLawful, is_alone, moving_thread, named_thread, thread_of};
@@ -13,8 +13,8 @@ use crate::answers::Stand;
 use crate::halt::StopReason;
 use crate::pieces::{push_big, push_digits, push_named, push_signal, push_stop, whole};
 use crate::signal::debugger_signal;
-use rept_request::ThreadName;
-use rept_session::{Findings, ThreadPoint};
+use rept_findings::{Findings, ThreadPoint};
+use rept_remote::ThreadName;
 use rept_word::{OutOfMemory, Text};
 use std::alloc::Global;
 

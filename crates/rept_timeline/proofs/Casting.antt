@@ -7,10 +7,10 @@ use Rattle.rept_report.specs.Timeline as report
 use Rattle.rept_moments.specs.Seen as seen
 use Rattle.rept_span.specs.Ranges.{Legs}
 use Rattle.rept_report.specs.declared.paths.NumberChain.{NumberChain}
-use Rattle.rept_carry.specs.Links.{IsNextFrom, IsPreviousFrom}
-use Rattle.rept_carry.specs.declared.lines.Lines.{Lines}
-use Rattle.rept_carry.specs.declared.lines.Lines as cases
-use Rattle.rept_carry.specs.Lines.{AreLines, IsIn}
+use Rattle.rept_timeline.specs.Carry.Links.{IsNextFrom, IsPreviousFrom}
+use Rattle.rept_timeline.specs.declared.carry.lines.Lines.{Lines}
+use Rattle.rept_timeline.specs.declared.carry.lines.Lines as cases
+use Rattle.rept_timeline.specs.Carry.Lines.{AreLines, IsIn}
 use Rattle.rept_timeline.specs.Times.{as_timeline}
 use Rattle.rept_timeline.specs.Listed.{AreLinesOf}
 

@@ -10,7 +10,7 @@ use Rattle.rept_order.specs.Moments.{Moment}
 use Rattle.rept_order.specs.Legs.{points_before, number_of, leg_row, row_from}
 use Rattle.rept_order.proofs.Legs.{point_number}
 use Rattle.rept_report.specs.Timeline.{IsTimeline}
-use Rattle.rept_course.specs.Making.{lasts, keeps}
+use Rattle.rept_moments.specs.Naming.Making.{lasts, keeps}
 use Rattle.rept_moments.specs.declared.side.Timed.{Timed}
 use Rattle.rept_moments.specs.Points.{points_in}
 use Rattle.rept_moments.specs.Ordering.{side, timed, timed_at, timed_to, put, by_time, in_time, back, in_order, moment_at_side}

@@ -11,7 +11,7 @@ use Rattle.rept_order.specs.Times.{not_later, wholly_before}
 use Rattle.rept_order.specs.Legs.{leg_row}
 use Rattle.rept_order.proofs.Decide.{not_later_true, not_later_from}
 use Rattle.rept_order.proofs.Sequence.{not_later_trans}
-use Rattle.rept_course.specs.Numbered.{row_on}
+use Rattle.rept_moments.specs.Naming.Numbered.{row_on}
 use Rattle.rept_moments.specs.Numbers.{numbers_of, numbered}
 use Rattle.rept_moments.proofs.Apart.{are_numbers}
 use Rattle.rept_moments.proofs.Places.{there_row, next_row}

@@ -7,3 +7,4 @@ pub mod Earliest
 pub mod Making
 pub mod Stripping
 pub mod Steady
+pub mod CarryLemmas

@@ -12,8 +12,8 @@ use Rattle.rept_order.specs.Times.{may_act_between}
 use Rattle.rept_order.specs.Legs.{leg_row}
 use Rattle.rept_report.specs.Timeline.{Timeline, IsJoined, IsActingFrom, IsClear, IsLike, IsAlike, MayActToo, IsCut, IsPause, IsStrip}
 use Rattle.rept_report.specs.declared.paths.Strip.{Strip}
-use Rattle.rept_course.specs.Numbered.{row_on, may_act_by}
-use Rattle.rept_course.proofs.Ends.{ahead_back}
+use Rattle.rept_moments.specs.Naming.Numbered.{row_on, may_act_by}
+use Rattle.rept_moments.proofs.NamingLemmas.Ends.{ahead_back}
 use Rattle.rept_moments.specs.Numbers.{numbers_of, numbered}
 use Rattle.rept_moments.specs.Between.{IsOwn, IsOwnBetween}
 use Rattle.rept_moments.specs.Seen.{seen_many}

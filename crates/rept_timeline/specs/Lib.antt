@@ -3,3 +3,4 @@ pub mod Times
 pub mod Listed
 pub mod Lawful
 pub mod Strips
+pub mod Carry

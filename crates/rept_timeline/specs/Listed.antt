@@ -7,11 +7,11 @@ use Rattle.rept_steps.specs.Course.{Course, IsSoundCourse}
 use Rattle.rept_order.specs.Moments.{stores}
 use Rattle.rept_report.specs.Moments.{Moments}
 use Rattle.rept_report.specs.Timeline.{Timeline, IsLeastFrom}
-use Rattle.rept_course.specs.Numbered.{row_on}
+use Rattle.rept_moments.specs.Naming.Numbered.{row_on}
 use Rattle.rept_moments.specs.Points.{points_in}
 use Rattle.rept_moments.specs.declared.course.NumberedRun as courses
-use Rattle.rept_carry.specs.declared.lines.Lines.{Lines}
-use Rattle.rept_carry.specs.Lines.{AreLines, IsIn}
+use Rattle.rept_timeline.specs.declared.carry.lines.Lines.{Lines}
+use Rattle.rept_timeline.specs.Carry.Lines.{AreLines, IsIn}
 use Rattle.rept_timeline.specs.declared.storing.ListPart.{ListPart}
 
 -- of the first so many points

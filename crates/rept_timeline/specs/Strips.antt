@@ -3,7 +3,7 @@ use Rattle.std.specs.Prelude.{◌≡◌, ℕ, ◌+◌, ◌≤◌, ◌<◌, true,
 use Rattle.std.specs.Option.{IsSome}
 use Rattle.rept_steps.specs.Course.{Course}
 use Rattle.rept_order.specs.Moments.{stores}
-use Rattle.rept_course.specs.Numbered.{row_on}
+use Rattle.rept_moments.specs.Naming.Numbered.{row_on}
 use Rattle.rept_report.specs.declared.paths.Strip.{Strip}
 use Rattle.rept_report.specs.Timeline.{Timeline, IsJoined, IsClear, IsAlike, IsCut, IsPause, IsStrip}
 use Rattle.rept_moments.specs.declared.course.NumberedRun as courses

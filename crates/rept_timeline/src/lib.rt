@@ -4,6 +4,7 @@
 
 mod arriving;
 mod beginning;
+pub mod carry;
 mod closing;
 mod opening;
 mod run_paths;
@@ -11,5 +12,6 @@ mod small;
 mod storing;
 mod strips;
 
+pub use carry::{Lines, Ways};
 pub use run_paths::RunPaths;
 pub use small::is_small;

@@ -11,10 +11,10 @@ ghost use Rattle.rept_timeline.specs.Times.{as_timeline, time_of};
 ghost use Rattle.rept_timeline.specs.Listed.{AreListed, IsSoundIn, AreLinesOf};
 ghost use Rattle.rept_timeline.specs.Strips.{AreStripsOf};
 
+use crate::carry::{Lines, Ways};
 use crate::storing::Storing;
 use crate::strips::Strips;
 use crate::{arriving, beginning, closing, opening};
-use rept_carry::{Lines, Ways};
 use rept_isa::StepRow;
 use rept_moments::NumberedRun;
 use rept_report::paths::{NumberChain, Strip};

@@ -8,9 +8,9 @@ ghost use Rattle.rept_timeline.specs.Times.{as_timeline};
 ghost use Rattle.rept_timeline.specs.Listed.{AreStoring, AreLinesOf};
 ghost use Rattle.rept_timeline.specs.Strips.{AreTwo, DoRowsStay, IsCrossing, IsHint, IsOfOtherThread, IsOtherActing, IsOwnQuiet, IsPart, IsLonger, IsSteady, IsStill, AreStripsBelow, AreManyStrips};
 
+use crate::carry::Lines;
 use crate::opening::{last_of, rest_from};
 use crate::storing::Storing;
-use rept_carry::Lines;
 use rept_moments::Many;
 use rept_report::paths::Strip;
 use std::alloc::{AllocError as OutOfMemory, Global};

@@ -3,9 +3,11 @@
 
 pub mod cursor;
 pub mod number;
+pub mod parsing;
 pub mod print;
 pub mod text;
 
 pub use cursor::BitCursor;
 pub use number::{cover, inverse_odd, sext};
+pub use parsing::{decimal, hexadecimal, is_word, number_in};
 pub use text::{OutOfMemory, Text};

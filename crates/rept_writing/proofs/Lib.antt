@@ -9,3 +9,4 @@ pub mod Rising
 pub mod Meeting
 pub mod Bounding
 pub mod Within
+pub mod PassesLemmas

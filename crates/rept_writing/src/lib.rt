@@ -6,6 +6,8 @@ mod columns;
 mod cuts;
 mod list;
 mod narrow;
+pub mod passes;
 mod wide;
 
 pub use list::{StoreIndex, Writing};
+pub use passes::{Pass, RuleProgress, is_with};

@@ -4,8 +4,8 @@ use crate::fails::Fails;
 use rept_app::rept;
 use rept_ports::{FileStore, MemSink, MemSource, MemoryFileStore};
 use std::alloc::{AllocError, Global};
-use test_lines::Numbers;
-use test_lines::files::{core_file, core_with_word, executable};
+use test_kit::Numbers;
+use test_kit::lines::files::{core_file, core_with_word, executable};
 
 /// Files with their names, a file that is being made, an input that is being made, and the calls
 /// that fail.
@@ -76,7 +76,7 @@ impl Crash {
             "none" => self.files.clear(),
             _ => {
                 let _is_fault = self.fails.take(asked, n)?;
-                let _is_file = test_lines::bytes::make(alloc, &mut self.file, asked, n)?;
+                let _is_file = test_kit::lines::bytes::make(alloc, &mut self.file, asked, n)?;
             }
         }
         Ok(())

@@ -1,7 +1,7 @@
 //! The calls of the ports that fail.
 
 use std::alloc::{AllocError, Global};
-use test_lines::Numbers;
+use test_kit::Numbers;
 
 /// The numbers of the loads, of the reads and of the writes that fail, from 1 on.
 #[derive(Drop)]

@@ -3,7 +3,7 @@
 use crate::crash::Crash;
 use rept_ports::{FileStore, LoadFault};
 use std::alloc::{AllocError, Global};
-use test_lines::Numbers;
+use test_kit::Numbers;
 
 /// A file store of which one file has so many bytes, and the others none. It gives no bytes of that
 /// file either, so that a case needs no memory for it.

@@ -1,7 +1,7 @@
 //! Words that can't be read.
 
+use rept_app::answer;
 use rept_ports::{InfallibleFileStore, InfallibleSource, MemSink, Unreadable};
-use rept_run::answer;
 use std::alloc::{AllocError, Global};
 
 /// The words that a line stands for: none, words that aren't text, or no memory for them.

@@ -4,8 +4,8 @@ use crate::ports::Ports;
 use crate::{images, system};
 use std::alloc::{AllocError, Global};
 use std::{mem, rt};
-use test_lines::bytes::{append_zeros, changed};
-use test_lines::{Numbers, Table};
+use test_kit::lines::bytes::{append_zeros, changed};
+use test_kit::{Numbers, Table};
 
 /// A real executable and its core file, an executable, a file that is being made, and ports.
 #[derive(Drop)]
@@ -53,7 +53,7 @@ impl<'r, R: rt::Files> Files<'r, R> {
 
 impl<'r, R: rt::Files> Table for Files<'r, R> {
     fn answer(&mut self, alloc: Global, asked: &str, n: &Numbers) -> Result<String, AllocError> {
-        if test_lines::bytes::make(alloc, &mut self.file, asked, n)?
+        if test_kit::lines::bytes::make(alloc, &mut self.file, asked, n)?
             || self.make(asked, n)?
             || self.ports.take(alloc, self.file.as_slice(), asked, n)?
         {

@@ -18,7 +18,7 @@ use files::Files;
 use rept_ports::{StdSink, StdSource, write_all};
 use std::{fs, io};
 use streams::reads;
-use test_lines::tell;
+use test_kit::tell;
 
 /// The real files are in the folder that the program runs in. Standard output is written to before
 /// the table, and standard input read after it.

@@ -3,8 +3,7 @@
 ghost use Rattle.std.specs.Prelude.{◌≡◌, ◌<◌, ◌+◌, length, IfOk, OnOk};
 
 use rept_elf::{Image, Want};
-use rept_mapped::Mapped;
-use rept_maps::{Images, Maps};
+use rept_maps::{Images, Mapped, Maps};
 use std::alloc::{AllocError, Global};
 
 /// The list of a core file.

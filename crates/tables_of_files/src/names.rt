@@ -1,7 +1,7 @@
 //! Names of a list of mapped files, and what is kept of the files that have them.
 
 use crate::mapped::list_of;
-use rept_mapfiles::{asked_names, load_names, load_within};
+use rept_maps::{asked_names, load_names, load_within};
 use rept_ports::InfallibleFileStore;
 use std::alloc::{AllocError, Global};
 

@@ -3,7 +3,7 @@
 use crate::{names, streams};
 use rept_ports::{FileStore, InfallibleFileStore, MemSink, MemoryFileStore, Sink, write_all};
 use std::alloc::{AllocError, Global};
-use test_lines::Numbers;
+use test_kit::Numbers;
 
 /// The names of files, which the first number of a line tells by their place.
 const NAMES: [&str; 10] = [

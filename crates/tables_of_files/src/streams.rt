@@ -4,7 +4,7 @@ use crate::ports::two;
 use rept_ports::{BoundedLines, Failed, InfallibleSource, MemSource, Source};
 use std::alloc::{AllocError, Global};
 use std::fmt::Write;
-use test_lines::Numbers;
+use test_kit::Numbers;
 
 /// What a read answers, and the four bytes that it was to fill, which were 0 before.
 type Given = (Result<usize, Failed>, [u8; 4]);

@@ -10,7 +10,7 @@ use std::fs;
 use std::io::{self, Read, Write};
 use std::os::fd::AsRawFd;
 use std::rt::Files;
-use test_lines::Numbers;
+use test_kit::Numbers;
 
 /// The answer to a line, or the kind of the system's error.
 pub fn answer<R: Files>(

@@ -4,7 +4,7 @@ use crate::shown::{range_at, yes};
 use rept_alias::{Access, CallAccess, access};
 use std::alloc::{AllocError, Global};
 use std::fmt;
-use test_lines::Numbers;
+use test_kit::Numbers;
 
 /// The first and the last byte of an access, or that it may be any, or that there is none.
 #[derive(Clone, Copy)]

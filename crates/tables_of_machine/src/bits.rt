@@ -5,7 +5,7 @@ use crate::shown::{Value, range_at, set};
 use rept_known::{Bits, Both, least_from};
 use rept_partial::{Flat, Partial};
 use std::alloc::{AllocError, Global};
-use test_lines::Numbers;
+use test_kit::Numbers;
 
 pub fn answer(alloc: Global, asked: &str, n: &Numbers) -> Result<String, AllocError> {
     match asked {

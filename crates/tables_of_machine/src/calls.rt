@@ -8,7 +8,7 @@ use crate::shown::range_at;
 use rept_havoc::havoc;
 use rept_partial::{Flat, Partial, Range};
 use std::alloc::{AllocError, Global};
-use test_lines::Numbers;
+use test_kit::Numbers;
 
 /// A call: its number, which is in x17, its arguments, in x10 to x15, and its answer.
 #[derive(Clone, Copy)]

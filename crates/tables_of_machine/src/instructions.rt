@@ -2,7 +2,7 @@
 
 use rept_isa::{Reg, StepRow, decode, kind, reads, turn, writes};
 use std::alloc::{AllocError, Global};
-use test_lines::Numbers;
+use test_kit::Numbers;
 
 fn number(register: Option<Reg>) -> Option<u8> {
     match register {

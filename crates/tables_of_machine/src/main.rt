@@ -22,7 +22,7 @@ use rows::Rows;
 use std::alloc::{AllocError, Global};
 use std::io;
 use stores::Stores;
-use test_lines::{Numbers, Table, tell};
+use test_kit::{Numbers, Table, tell};
 
 /// The tables of the machine, of sets and of rules, with the stores that some of their cases
 /// change.

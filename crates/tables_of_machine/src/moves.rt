@@ -8,7 +8,7 @@ use rept_known::{Bits, Both};
 use rept_partial::{Partial, Range};
 use rept_span::Transfer;
 use std::alloc::{AllocError, Global};
-use test_lines::Numbers;
+use test_kit::Numbers;
 
 /// The row of the word at an address, where the next one is at `next`.
 pub fn row_of(word: u32, at: u32, next: u32) -> Option<StepRow> {

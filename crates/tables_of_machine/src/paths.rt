@@ -6,7 +6,7 @@ use rept_partial::{Flat, Range};
 use rept_reason::{Cell, Fact};
 use rept_span::{EmptyAt, RegFacts, Spans};
 use std::alloc::{AllocError, Global};
-use test_lines::Numbers;
+use test_kit::Numbers;
 
 /// One fact alone.
 #[derive(Drop)]

@@ -4,7 +4,7 @@ use crate::shown::range_at;
 use rept_isa::Reg;
 use rept_reason::{Cell, Fact, RangePremise, Reason};
 use std::alloc::{AllocError, Global};
-use test_lines::Numbers;
+use test_kit::Numbers;
 
 pub fn answer(alloc: Global, n: &Numbers) -> Result<String, AllocError> {
     let premise = Fact {

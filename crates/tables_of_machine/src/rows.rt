@@ -6,7 +6,7 @@ use crate::accesses::part;
 use rept_alias::CallAccess;
 use rept_writing::{StoreIndex, Writing};
 use std::alloc::{AllocError, Global};
-use test_lines::Numbers;
+use test_kit::Numbers;
 
 /// How many rows there may be.
 const ROOM: usize = 6;

@@ -8,7 +8,7 @@ use rept_partial::{Flat, Partial};
 use rept_reason::Cell;
 use rept_rules::{Conclusion, RegisterAt, RowRules, Side, When, forward, solve};
 use std::alloc::{AllocError, Global};
-use test_lines::Numbers;
+use test_kit::Numbers;
 
 /// What is known of x5 and x6 before a row, of x7 after it, and of the word at 0x20000 before and
 /// after it.

@@ -3,7 +3,7 @@
 use rept_isa::Reg;
 use rept_machine::Machine;
 use std::alloc::{AllocError, Global};
-use test_lines::Numbers;
+use test_kit::Numbers;
 
 /// Where the code stands.
 const START: u32 = 0x10000;

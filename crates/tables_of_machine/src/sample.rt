@@ -6,7 +6,7 @@ ghost use Rattle.rept_rules.specs.Sample.{as_word, register_before, register_aft
 
 use rept_isa::Reg;
 use rept_partial::{Flat, Partial, Range};
-use rept_view::{RowView, When};
+use rept_reason::{RowView, When};
 
 /// What is known of x5 and x6 before a row, of x7 after it, and of the word at 0x20000 before and
 /// after it.

@@ -3,7 +3,7 @@
 use rept_partial::{Partial, Range};
 use std::alloc::{AllocError, Global};
 use std::fmt;
-use test_lines::Numbers;
+use test_kit::Numbers;
 
 /// A value, or that none is known.
 #[derive(Clone, Copy)]

@@ -3,7 +3,7 @@
 use crate::shown::Value;
 use rept_versions::{ByteFacts, PlainFacts, SpanFacts};
 use std::alloc::{AllocError, Global};
-use test_lines::Numbers;
+use test_kit::Numbers;
 
 /// Both stores.
 #[derive(Drop)]

@@ -6,7 +6,7 @@ ghost use Rattle.rept_steps.specs.Linked.{EndBefore};
 use rept_isa::{Instr, Reg, StepRow, StoreOp};
 use rept_steps::{PushFault, Run, Slice, Slices, Steps, ThreadRows, Threads};
 use std::alloc::{AllocError, Global};
-use test_lines::Numbers;
+use test_kit::Numbers;
 
 /// Rows that a hart ran for a thread, and the times between which it did. A row rests, or it stores
 /// (1) or calls the kernel (2).

@@ -4,18 +4,20 @@
 //! its answer.
 #![tactic(auto)]
 
+mod analyses;
 mod made;
 mod moments;
 mod reaching;
 mod rows;
 
+use analyses::Analyses;
 use made::Made;
 use rept_moments::has_room;
 use rept_steps::{Run, is_sound};
 use rept_timeline::{RunPaths, is_small};
 use std::alloc::{AllocError, Global};
 use std::io;
-use test_lines::{Numbers, Table, tell};
+use test_kit::{Numbers, Table, tell};
 
 /// The tables of runs, with the run that some of their lines make.
 #[derive(Drop)]
@@ -55,7 +57,42 @@ fn answer(alloc: Global, run: &Run, asked: &str, n: &Numbers) -> Result<String, 
     }
 }
 
+/// All tables of this program: the first word of a line says which one answers it.
+#[derive(Drop)]
+struct Both {
+    own: Runs,
+    analyses: Analyses,
+}
+
+impl Table for Both {
+    fn answer(&mut self, alloc: Global, asked: &str, n: &Numbers) -> Result<String, AllocError> {
+        match asked {
+            "byte"
+            | "conflict"
+            | "consistent"
+            | "counts"
+            | "first"
+            | "last"
+            | "path"
+            | "range"
+            | "reg"
+            | "steps"
+            | "why-byte"
+            | "why-reg"
+            | "writer" => { self.analyses.answer(alloc, asked, n) }
+            _ => self.own.answer(alloc, asked, n),
+        }
+    }
+}
+
 fn main(rt: HostRuntime) -> io::Result<()> {
+    let analyses = analyses::begin(rt.alloc())?;
     let made = Made::new(rt.alloc());
-    tell(&rt, &mut Runs { made })
+    tell(
+        &rt,
+        &mut Both {
+            own: Runs { made },
+            analyses,
+        },
+    )
 }

@@ -4,9 +4,9 @@ ghost use Rattle.std.specs.Prelude.{◌≡◌, true, IsSome};
 ghost use Rattle.std.specs.List.{All};
 ghost use Rattle.rept_moments.specs.Courses.{seen_in};
 
-use rept_carry::Ways;
+use rept_timeline::Ways;
 use std::alloc::{AllocError, Global};
-use test_lines::Numbers;
+use test_kit::Numbers;
 
 /// Whether a number is next to another one, looked for up to itself and from itself on, and whether
 /// the other one comes before it, looked for from the other one on.

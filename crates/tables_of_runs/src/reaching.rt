@@ -5,12 +5,11 @@ ghost use Rattle.rept_steps.specs.Runs.{course_of};
 ghost use Rattle.rept_moments.specs.Courses.{IsCourseOf};
 
 use rept_extents::RunRows;
-use rept_reach::{NumberWindow, Reaches};
-use rept_report::Paths;
+use rept_report::{NumberWindow, Paths, Reaches};
 use rept_steps::Run;
 use rept_timeline::RunPaths;
 use std::alloc::{AllocError, Global};
-use test_lines::Numbers;
+use test_kit::Numbers;
 
 /// An answer on the rows of a run.
 pub fn reaching(

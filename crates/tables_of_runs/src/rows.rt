@@ -4,7 +4,7 @@
 use rept_report::Paths;
 use rept_timeline::RunPaths;
 use std::alloc::{AllocError, Global};
-use test_lines::Numbers;
+use test_kit::Numbers;
 
 /// The first row from one on that may act between two moments.
 pub fn acting(alloc: Global, paths: &RunPaths<'_>, n: &Numbers) -> Result<String, AllocError> {

@@ -4,7 +4,7 @@ use Rattle.std.specs.Prelude.{nat_lt, Some, None}
 use Rattle.std.proofs.lemmas.Bool.{le-ltb, lt-ltb, ltb-false, ltb-true}
 use Rattle.rept_report.specs.declared.writer.Writer.{Writer}
 use Rattle.rept_report.specs.declared.writer.Writer.TheVariants as writers
-use Rattle.rept_session.specs.LastWriters.{named_row}
+use Rattle.rept_findings.specs.LastWriters.{named_row}
 
 abbrev pub second_step : ℕ → Writer
 second_step p = cond (nat_lt p 2) writers.None (writers.MayWrite 1)

@@ -5,8 +5,8 @@ use Rattle.std.specs.Prelude.{◌==◌, nat_lt, Some, None}
 use Rattle.std.proofs.lemmas.Bool.{cases_eq, cases_lt, eq-eqb, eqb-false, eqb-true, ne_eqb}
 use Rattle.rept_report.specs.declared.writer.Writer.{Writer}
 use Rattle.rept_report.specs.declared.writer.Writer.TheVariants as writers
-use Rattle.rept_session.specs.LastWriters.{named_row}
-use Rattle.rept_session.specs.Texts.{at}
+use Rattle.rept_findings.specs.LastWriters.{named_row}
+use Rattle.rept_findings.specs.Texts.{at}
 
 abbrev of_shared : ℕ → Writer
 of_shared m = cond (m == 1) (writers.MayWrite 6) (cond (m == 5) (writers.MayWrite 1) (cond (m == 6) (writers.MayWrite 1) writers.Several))

@@ -5,7 +5,7 @@ ghost use Rattle.std.specs.Prelude.{◌<◌, ◌≤◌};
 use rept_word::{BitCursor, inverse_odd, sext};
 use std::alloc::{AllocError, Global};
 use std::fmt::Write;
-use test_lines::Numbers;
+use test_kit::Numbers;
 
 /// How many bytes a payload has: three, or one where the second number of the line is none.
 fn size(n: &Numbers) -> usize

@@ -1,11 +1,11 @@
 //! Lines of a session: what they are, and their answers.
 
 use crate::fixed::two_steps;
+use rept_findings::{Findings, ThreadPoint};
 use rept_ports::{MemSink, MemSource};
-use rept_serve::serve;
-use rept_session::{Answer, Findings, ThreadPoint, answer_line};
+use rept_session::{Answer, answer_line, serve};
 use std::alloc::{AllocError, Global};
-use test_lines::Numbers;
+use test_kit::Numbers;
 
 /// The answer to a line at a point of the two steps, where such bits are known of each register.
 fn asked(

@@ -13,11 +13,11 @@ mod threads;
 mod words;
 
 use fixed::two_steps;
-use rept_session::Findings;
+use rept_findings::Findings;
 use rept_word::Text;
 use std::alloc::{AllocError, Global};
 use std::io;
-use test_lines::Numbers;
+use test_kit::Numbers;
 use threads::two_threads;
 
 /// The text that lines make, one with the printed forms of numbers, and whether two threads are
@@ -65,7 +65,7 @@ impl Sessions {
 
     /// Makes the text longer or another one, and answers whether it was asked to: `part TEXT`,
     /// `line TEXT` (with its end), `threads COUNT` (so many are asked, and the text is empty), and
-    /// what [`test_lines::bytes::make`] makes.
+    /// what [`test_kit::lines::bytes::make`] makes.
     fn make(
         &mut self,
         alloc: Global,
@@ -83,7 +83,7 @@ impl Sessions {
                 self.are_two = n.word(0) == 2;
                 self.text.clear();
             }
-            _ => return test_lines::bytes::make(alloc, &mut self.text, asked, n),
+            _ => return test_kit::lines::bytes::make(alloc, &mut self.text, asked, n),
         }
         Ok(true)
     }
@@ -123,7 +123,7 @@ impl Sessions {
         };
         match asked {
             "command" => format!(in alloc; "{:?}", rept_session::parse(text, 9, 3)),
-            "request" => format!(in alloc; "{:?}", rept_request::parse(text)),
+            "request" => format!(in alloc; "{:?}", rept_remote::parse(text)),
             "at" => lines::at(alloc, None, said, n),
             "noted" => lines::at(alloc, Some((15, 9)), said, n),
             "frame" => packets::framed(alloc, text),

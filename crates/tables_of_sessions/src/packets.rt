@@ -1,14 +1,14 @@
 //! Packets of a debugger, and dialogs of them.
 
 use crate::lines::ports;
-use rept_dialog::converse;
+use rept_debug::converse;
+use rept_findings::Findings;
 use rept_ports::MemSource;
 use rept_remote::{Arrival, GdbPackets, push_packet};
-use rept_session::Findings;
 use rept_stub::Setting;
 use rept_word::Text;
 use std::alloc::{AllocError, Global};
-use test_lines::Numbers;
+use test_kit::Numbers;
 
 /// The packet of a text after the one of `OK`.
 pub fn framed(alloc: Global, text: &[u8]) -> Result<String, AllocError> {

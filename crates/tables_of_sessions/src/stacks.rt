@@ -1,10 +1,10 @@
 //! Calls that are open after rows.
 
 use rept_isa::{StepRow, decode};
+use rept_questions::frames_of;
 use rept_rvc::expand;
-use rept_stack::frames_of;
 use std::alloc::{AllocError, Global};
-use test_lines::Numbers;
+use test_kit::Numbers;
 
 /// A row by three numbers of a line: its address, its word or half, and the next address.
 fn row(n: &Numbers, k: usize) -> Option<StepRow> {

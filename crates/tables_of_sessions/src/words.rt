@@ -2,11 +2,10 @@
 //! of numbers.
 
 use crate::bits;
-use rept_number::{decimal, number_in};
-use rept_word::{Text, cover};
-use rept_words::meaning;
+use rept_opening::meaning;
+use rept_word::{Text, cover, decimal, number_in};
 use std::alloc::{AllocError, Global};
-use test_lines::Numbers;
+use test_kit::Numbers;
 
 /// What the words ask for, which numbers one spells, or what is asked of numbers.
 pub fn answer(alloc: Global, asked: &str, said: &str, n: &Numbers) -> Result<String, AllocError> {

@@ -5,11 +5,11 @@ use rept_elf::{Image, Want};
 use rept_make::make;
 use std::alloc::{AllocError, Global};
 use std::mem;
-use test_lines::Numbers;
-use test_lines::bytes::append_bytes;
-use test_lines::files::{core_of_threads, executable};
-use test_threads::maderuns::make_run;
-use test_threads::play::Sizes;
+use test_kit::Numbers;
+use test_kit::lines::bytes::append_bytes;
+use test_kit::lines::files::{core_of_threads, executable};
+use test_kit::threads::maderuns::make_run;
+use test_kit::threads::play::Sizes;
 
 /// An executable, a core file and a trace, or in its place a log.
 #[derive(Drop)]
@@ -31,8 +31,8 @@ impl Files {
 
     /// Makes a file, and answers whether it was asked to: `trace BYTE ..` (of one stream, of these
     /// packets), `code ADDRESS WORD ..`, `ends PROCESS PC ..` (where each of two threads at most
-    /// ended), `exe` (the trace is the executable), and what [`test_lines::bytes::make`] makes of
-    /// the trace.
+    /// ended), `exe` (the trace is the executable), and what [`test_kit::lines::bytes::make`] makes
+    /// of the trace.
     pub fn make(&mut self, alloc: Global, asked: &str, n: &Numbers) -> Result<bool, AllocError> {
         match asked {
             "trace" => {
@@ -46,7 +46,7 @@ impl Files {
                 self.core = core_of_threads(alloc, &threads[..count])?;
             }
             "exe" => mem::swap(&mut self.exe, &mut self.trace),
-            _ => return test_lines::bytes::make(alloc, &mut self.trace, asked, n),
+            _ => return test_kit::lines::bytes::make(alloc, &mut self.trace, asked, n),
         }
         Ok(true)
     }

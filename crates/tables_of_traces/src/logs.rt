@@ -3,9 +3,9 @@
 ghost use Rattle.std.specs.Prelude.{◌<◌, ◌^◌, length};
 
 use rept_ports::{MemSink, MemSource, MemoryFileStore};
-use rept_recording::run;
+use rept_simlog::run;
 use std::alloc::{AllocError, Global};
-use test_lines::Numbers;
+use test_kit::Numbers;
 
 /// The bytes of the trace of a log of one hart, or the refusal and its text.
 pub fn record_one(alloc: Global, exe: &[u8], log: &[u8]) -> Result<String, AllocError>
@@ -22,8 +22,8 @@ pub fn record_one(alloc: Global, exe: &[u8], log: &[u8]) -> Result<String, Alloc
 pub fn record_several(alloc: Global, exe: &[u8], log: &[u8]) -> Result<String, AllocError>
     requires { length log.now < 2 ^ 32 }
 {
-    let names = rept_hartlog::names_harts(log);
-    match rept_hartlog::record(alloc, exe, log) {
+    let names = rept_simlog::names_harts(log);
+    match rept_simlog::hartlog::record(alloc, exe, log) {
         Err(refusal) => format!(in alloc; "{names} {refusal:?}: {refusal}"),
         Ok(trace) => format!(in alloc; "{names} {:?}", trace.bytes()),
     }

@@ -19,8 +19,8 @@ use files::Files;
 use std::alloc::{AllocError, Global};
 use std::io;
 use stretches::Stretches;
-use test_lines::bytes::changed;
-use test_lines::{Numbers, Table, tell};
+use test_kit::lines::bytes::changed;
+use test_kit::{Numbers, Table, tell};
 
 /// The tables of traces, with the files and the stretches of steps that some of their lines make.
 #[derive(Drop)]

@@ -10,10 +10,10 @@ use rept_path::program::Program;
 use rept_path::window::go_through;
 use rept_path::{Path, PathFault, rebuild};
 use rept_steps::LIMIT;
-use rept_threads::stretch::walk_stretch;
+use rept_streams::threads::stretch::walk_stretch;
 use rept_trace::Packets;
 use std::alloc::{AllocError, Global};
-use test_lines::Numbers;
+use test_kit::Numbers;
 
 /// The path whose start packet is not before a number, or the walk of the first stretch; or the
 /// fault.

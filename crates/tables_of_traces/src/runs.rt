@@ -9,12 +9,12 @@ use rept_isa::{Instr, StepRow};
 use rept_moments::one_path;
 use rept_path::PathFault;
 use rept_runs::{is_several, read_run};
-use rept_slices::survey::survey_all;
 use rept_steps::{PushFault, Run, Steps};
+use rept_streams::slices::survey::survey_all;
 use rept_trace::Streams;
 use std::alloc::{AllocError, Global};
-use test_lines::Numbers;
-use test_threads::woven::reading::rebuild_trace;
+use test_kit::Numbers;
+use test_kit::threads::woven::reading::rebuild_trace;
 
 /// The time from which on these streams tell, and how many slices they tell and leave, of the
 /// processes 1 and 2.

@@ -3,7 +3,7 @@
 use crate::files::Files;
 use rept_dump::Dump;
 use std::alloc::{AllocError, Global};
-use test_lines::Numbers;
+use test_kit::Numbers;
 
 /// The first number of a line is 1 where the core file is read as that of several threads.
 pub fn answer(

@@ -4,13 +4,14 @@ ghost use Rattle.std.specs.Prelude.{IfOk, IfSome};
 ghost use Rattle.std.specs.List.{All};
 ghost use Rattle.rept_encode.specs.Walkable.{IsWalkable};
 
-use rept_encode::{Site, encode, push_step, step_between};
+use rept_encode::{
+    Hart, HartStretch, Harts, Site, WeaveFault, encode, push_step, step_between, weave,
+};
 use rept_isa::{Instr, decode};
 use rept_steps::Steps;
-use rept_weave::{Hart, HartStretch, Harts, WeaveFault, weave};
 use rept_word::Text;
 use std::alloc::{AllocError, Global};
-use test_lines::Numbers;
+use test_kit::Numbers;
 
 /// A step: which stretch it belongs to, counted from 1, and the numbers of its line.
 type Step = (usize, Numbers);

@@ -3,18 +3,18 @@ use Rattle.std.proofs.Common.{◌≡◌, ℕ, ◌<◌, ◌≤◌, ◌^◌, inl, 
 use Rattle.std.specs.List.{Contains}
 use Rattle.rept_isa.specs.declared.row.StepRow.{StepRow}
 use Rattle.rept_partial.specs.declared.flat.Flat.{Flat}
-use Rattle.rept_view.specs.declared.inferred.When.{When}
-use Rattle.rept_view.specs.declared.inferred.When.TheVariants.{Before, After}
-use Rattle.rept_view.specs.declared.inferred.Conclusion.{Conclusion}
-use Rattle.rept_view.specs.Seen.{Seen, IsLawful, KnowsMore, state_at, held, seen_cell}
+use Rattle.rept_reason.specs.declared.view.inferred.When.{When}
+use Rattle.rept_reason.specs.declared.view.inferred.When.TheVariants.{Before, After}
+use Rattle.rept_reason.specs.declared.view.inferred.Conclusion.{Conclusion}
+use Rattle.rept_reason.specs.View.Seen.{Seen, IsLawful, KnowsMore, state_at, held, seen_cell}
 use Rattle.rept_isa.specs.Operands.{first_read}
 use Rattle.rept_machine.specs.State.{State}
 use Rattle.rept_machine.specs.Writes.{WritesBy}
 use Rattle.rept_reason.specs.declared.fact.Cell.{Cell}
 use Rattle.rept_reason.specs.declared.fact.Cell.TheVariants.{Register, Byte}
 use Rattle.rept_reason.specs.Facts.{IsCell, flat}
-use Rattle.rept_view.specs.declared.inferred.Premise.{Premise}
-use Rattle.rept_view.specs.Rules.{AreLawfulRules, IsRowCell, IsRowByte, IsSeenStep, HasNeeds, HasSameCells, Fits}
+use Rattle.rept_reason.specs.declared.view.inferred.Premise.{Premise}
+use Rattle.rept_reason.specs.View.Rules.{AreLawfulRules, IsRowCell, IsRowByte, IsSeenStep, HasNeeds, HasSameCells, Fits}
 use Rattle.rept_rules.specs.MayWrite.{instr_may_write}
 use Rattle.rept_rules.specs.Listing.{known_at}
 use Rattle.rept_rules.specs.Base.{base_rules}

@@ -8,9 +8,9 @@ use Rattle.rept_isa.specs.declared.instr.AmoOp.TheVariants as atomic
 use Rattle.rept_isa.specs.declared.row.StepRow.{StepRow}
 use Rattle.rept_partial.specs.declared.flat.Flat.{Flat}
 use Rattle.rept_partial.specs.declared.flat.Flat.TheVariants.{Unknown, Known}
-use Rattle.rept_view.specs.declared.inferred.When.TheVariants.{Before, After}
-use Rattle.rept_view.specs.declared.inferred.Conclusion.{Conclusion}
-use Rattle.rept_view.specs.Seen.{Seen}
+use Rattle.rept_reason.specs.declared.view.inferred.When.TheVariants.{Before, After}
+use Rattle.rept_reason.specs.declared.view.inferred.Conclusion.{Conclusion}
+use Rattle.rept_reason.specs.View.Seen.{Seen}
 use Rattle.rept_isa.specs.Operands.{unless_zero}
 use Rattle.rept_machine.specs.Arithmetic.{word_at, combined}
 use Rattle.rept_reason.specs.Facts.{flat}

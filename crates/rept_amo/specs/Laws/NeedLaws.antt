@@ -7,17 +7,17 @@ use Rattle.rept_isa.specs.declared.instr.AmoOp.{AmoOp}
 use Rattle.rept_isa.specs.declared.instr.AmoOp.TheVariants as atomic
 use Rattle.rept_isa.specs.declared.row.StepRow.{StepRow}
 use Rattle.rept_partial.specs.declared.flat.Flat.TheVariants.{Known}
-use Rattle.rept_view.specs.declared.inferred.When.{When}
-use Rattle.rept_view.specs.declared.inferred.When.TheVariants.{Before, After}
-use Rattle.rept_view.specs.declared.inferred.Conclusion.{Conclusion}
-use Rattle.rept_view.specs.Seen.{Seen, IsLawful, seen_cell}
+use Rattle.rept_reason.specs.declared.view.inferred.When.{When}
+use Rattle.rept_reason.specs.declared.view.inferred.When.TheVariants.{Before, After}
+use Rattle.rept_reason.specs.declared.view.inferred.Conclusion.{Conclusion}
+use Rattle.rept_reason.specs.View.Seen.{Seen, IsLawful, seen_cell}
 use Rattle.rept_isa.specs.Operands.{first_read}
 use Rattle.rept_isa.specs.Numbers.{beside}
 use Rattle.rept_machine.specs.Arithmetic.{word_at}
 use Rattle.rept_reason.specs.declared.fact.Cell.TheVariants.{Register}
 use Rattle.rept_reason.specs.Facts.{flat}
-use Rattle.rept_view.specs.declared.inferred.Premise.{Premise}
-use Rattle.rept_view.specs.Rules.{IsRowCell}
+use Rattle.rept_reason.specs.declared.view.inferred.Premise.{Premise}
+use Rattle.rept_reason.specs.View.Rules.{IsRowCell}
 use Rattle.rept_rules.specs.Conclusions.{IsOnRegister, IsKnown, AreKnown}
 use Rattle.rept_rules.specs.Needs.{register_need, both_needs, byte_needs}
 use Rattle.rept_rules.specs.Laws.ValueLemmas.{either_way}

@@ -4,17 +4,17 @@ use Rattle.std.proofs.Common.{◌≡◌, ◌≢◌, ℕ, zero, suc, ◌+◌, ◌
 use Rattle.rept_isa.specs.declared.instr.AmoOp.{AmoOp}
 use Rattle.rept_isa.specs.declared.instr.AmoOp.TheVariants as atomic
 use Rattle.rept_isa.specs.declared.row.StepRow.{StepRow}
-use Rattle.rept_view.specs.declared.inferred.When.{When}
-use Rattle.rept_view.specs.declared.inferred.When.TheVariants.{Before, After}
-use Rattle.rept_view.specs.declared.inferred.Conclusion.{Conclusion}
-use Rattle.rept_view.specs.Seen.{Seen}
+use Rattle.rept_reason.specs.declared.view.inferred.When.{When}
+use Rattle.rept_reason.specs.declared.view.inferred.When.TheVariants.{Before, After}
+use Rattle.rept_reason.specs.declared.view.inferred.Conclusion.{Conclusion}
+use Rattle.rept_reason.specs.View.Seen.{Seen}
 use Rattle.rept_isa.specs.Numbers.{plus, beside}
 use Rattle.rept_isa.specs.Operands.{written_by, first_read, second_read, unless_zero, source_of}
 use Rattle.rept_machine.specs.Arithmetic.{word_at, combined}
 use Rattle.rept_reason.specs.declared.fact.Cell.{Cell}
 use Rattle.rept_reason.specs.declared.fact.Cell.TheVariants.{Register, Byte}
 use Rattle.rept_reason.specs.Facts.{IsCell}
-use Rattle.rept_view.specs.Rules.{IsRowCell, IsRowByte, offset_of, Fits}
+use Rattle.rept_reason.specs.View.Rules.{IsRowCell, IsRowByte, offset_of, Fits}
 use Rattle.rept_rules.specs.Conclusions.{IsOnRegister}
 use Rattle.rept_rules.specs.Laws.ValueLemmas.{same_some, over_zero}
 use Rattle.rept_rules.specs.Laws.WriteLemmas.{beside_plain}

@@ -7,17 +7,17 @@ use Rattle.rept_isa.specs.declared.instr.AmoOp.{AmoOp}
 use Rattle.rept_isa.specs.declared.instr.AmoOp.TheVariants as atomic
 use Rattle.rept_isa.specs.declared.row.StepRow.{StepRow}
 use Rattle.rept_partial.specs.declared.flat.Flat.TheVariants.{Known}
-use Rattle.rept_view.specs.declared.inferred.When.{When}
-use Rattle.rept_view.specs.declared.inferred.When.TheVariants.{Before, After}
-use Rattle.rept_view.specs.declared.inferred.Conclusion.{Conclusion}
-use Rattle.rept_view.specs.Seen.{Seen, state_at}
+use Rattle.rept_reason.specs.declared.view.inferred.When.{When}
+use Rattle.rept_reason.specs.declared.view.inferred.When.TheVariants.{Before, After}
+use Rattle.rept_reason.specs.declared.view.inferred.Conclusion.{Conclusion}
+use Rattle.rept_reason.specs.View.Seen.{Seen, state_at}
 use Rattle.rept_isa.specs.declared.instr.LoadOp.TheVariants.{Lw}
 use Rattle.rept_isa.specs.Rows.{Addresses, addresses_of}
 use Rattle.rept_isa.specs.Numbers.{beside}
 use Rattle.rept_machine.specs.State.{State}
 use Rattle.rept_machine.specs.Step.{HasEffect, Acts, Tries}
 use Rattle.rept_machine.specs.Arithmetic.{byte_of, word_at, combined}
-use Rattle.rept_view.specs.Rules.{IsSeenStep}
+use Rattle.rept_reason.specs.View.Rules.{IsSeenStep}
 use Rattle.rept_rules.specs.Operands.{less}
 use Rattle.rept_rules.specs.Conclusions.{AreKnown}
 use Rattle.rept_rules.specs.Laws.ValueLemmas.{no_some, same_some}

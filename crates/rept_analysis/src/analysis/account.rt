@@ -8,10 +8,10 @@ ghost use Rattle.rept_analysis.specs.Logged.{IsLogOf};
 
 use super::Analysis;
 use rept_log::LastValues;
-use rept_reach::Reaches;
+use rept_reason::RowRules;
+use rept_report::Reaches;
 use rept_span::Transfer;
 use rept_versions::ByteFacts;
-use rept_view::RowRules;
 
 impl<'a, P: Reaches + Drop, L: LastValues + Drop, B: ByteFacts, W: Transfer, R: RowRules> Analysis<
     'a,

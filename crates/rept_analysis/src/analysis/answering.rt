@@ -20,18 +20,16 @@ ghost use Rattle.rept_report.specs.Why.{fact_of};
 ghost use Rattle.rept_analysis.specs.Inferring.{IsFitted, IsSettled, AreWritings, AreHitsPast, AreFormerPast, AreLaterPast, IsLateHit};
 ghost use Rattle.rept_analysis.specs.Kept.{IsKept, answers};
 ghost use Rattle.rept_analysis.specs.Answers.{HasClosure, byte_answer};
-ghost use Rattle.rept_latest.specs.Latest.{IsPossibleWriter};
+ghost use Rattle.rept_report.specs.Last.Latest.{IsPossibleWriter};
 
 use super::Analysis;
 use rept_isa::Reg;
-use rept_latest::{SoughtRows, last_writer, possible_writer};
 use rept_log::LastValues;
-use rept_reach::Reaches;
-use rept_report::Writer;
+use rept_reason::RowRules;
 use rept_report::paths::NumberChain;
+use rept_report::{Reaches, SoughtRows, Writer, last_writer, possible_writer};
 use rept_span::Transfer;
 use rept_versions::ByteFacts;
-use rept_view::RowRules;
 
 impl<'a, P: Reaches + Drop, L: LastValues + Drop, B: ByteFacts, W: Transfer, R: RowRules> Analysis<
     'a,

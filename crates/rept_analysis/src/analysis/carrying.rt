@@ -6,7 +6,7 @@ ghost use Rattle.rept_versions.specs.Facts.{KnownValues, Nexts};
 ghost use Rattle.rept_analysis.specs.State.{IsLined, state_of, reader};
 ghost use Rattle.rept_analysis.specs.Inferring.{Knows, IsTracked, Grows, HasInferred, IsHalt, AreWritings, IsBridged, IsSparedBetween, IsLed, IsSpreadTo, IsCarriedFrom, IsCalm, IsLooseEnd, IsLooseBefore, IsPiece, IsCarriedIf, IsCarriedBeside, IsCarriedIn, AreLinks, AreLinksBelow, IsBrought, IsHitBy};
 ghost use Rattle.rept_analysis.specs.Told.{Sends};
-ghost use Rattle.rept_reach.specs.Reaching.{IsBar};
+ghost use Rattle.rept_report.specs.Reach.Reaching.{IsBar};
 ghost use Rattle.rept_report.specs.Timeline.{IsNextFrom, IsStrip};
 ghost use Rattle.rept_report.specs.Why.{fact_of};
 
@@ -15,12 +15,11 @@ use crate::halt::LearnError;
 use crate::link::Link;
 use crate::piece::Piece;
 use rept_log::LastValues;
-use rept_reach::Reaches;
-use rept_reason::Cell;
+use rept_reason::{Cell, RowRules};
+use rept_report::Reaches;
 use rept_report::paths::Strip;
 use rept_span::Transfer;
 use rept_versions::{ByteFacts, Carried, ValueStretch};
-use rept_view::RowRules;
 use std::alloc::AllocError as OutOfMemory;
 
 /// Where the value of a stretch begins, or where it ends if it begins at a point or before.

@@ -13,10 +13,10 @@ use rept_isa::{Reg, StepRow, reads, writes};
 use rept_log::LastValues;
 use rept_log::views::point_at;
 use rept_partial::Flat;
-use rept_reach::Reaches;
+use rept_reason::{RowRules, When};
+use rept_report::Reaches;
 use rept_span::Transfer;
 use rept_versions::ByteFacts;
-use rept_view::{RowRules, When};
 
 impl<'a, P: Reaches + Drop, L: LastValues + Drop, B: ByteFacts, W: Transfer, R: RowRules> Analysis<
     'a,

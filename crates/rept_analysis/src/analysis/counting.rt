@@ -12,11 +12,10 @@ use super::Analysis;
 use rept_isa::{Instr, Reg, is_call, reads, register};
 use rept_log::LastValues;
 use rept_partial::Flat;
-use rept_reach::Reaches;
-use rept_report::{Counts, Paths};
+use rept_reason::RowRules;
+use rept_report::{Counts, Paths, Reaches};
 use rept_span::Transfer;
 use rept_versions::ByteFacts;
-use rept_view::RowRules;
 
 /// The register of a store's base.
 fn base(instr: &Instr) -> Option<Reg>

@@ -12,11 +12,11 @@ use super::likeness::WORD;
 use crate::halt::LearnError;
 use crate::step::WordStep;
 use rept_log::LastValues;
-use rept_reach::{NumberWindow, Reaches};
+use rept_reason::RowRules;
 use rept_report::paths::Strip;
+use rept_report::{NumberWindow, Reaches};
 use rept_span::Transfer;
 use rept_versions::ByteFacts;
-use rept_view::RowRules;
 
 impl<'a, P: Reaches + Drop, L: LastValues + Drop, B: ByteFacts, W: Transfer, R: RowRules> Analysis<
     'a,

@@ -12,11 +12,10 @@ use super::Analysis;
 use crate::trail::PathTrail;
 use rept_isa::Reg;
 use rept_log::{Below, Front, LastValues};
-use rept_reach::Reaches;
-use rept_reason::{Fact, Reason};
+use rept_reason::{Fact, Reason, RowRules};
+use rept_report::Reaches;
 use rept_span::{Spans, Transfer};
 use rept_versions::ByteFacts;
-use rept_view::RowRules;
 use std::alloc::{AllocError as OutOfMemory, Global};
 
 impl<'a, P: Reaches + Drop, L: LastValues + Drop, B: ByteFacts, W: Transfer, R: RowRules> Analysis<

@@ -5,9 +5,9 @@ ghost use Rattle.rept_isa.specs.declared.row.StepRow.{StepRow};
 ghost use Rattle.rept_isa.specs.Operands.{written_by};
 ghost use Rattle.rept_reason.specs.declared.fact.Cell.{Cell};
 ghost use Rattle.rept_reason.specs.declared.fact.Cell.TheVariants.{Register, Byte};
-ghost use Rattle.rept_view.specs.declared.inferred.Conclusion.{Conclusion};
+ghost use Rattle.rept_reason.specs.declared.view.inferred.Conclusion.{Conclusion};
 ghost use Rattle.rept_log.specs.Around.{around};
-ghost use Rattle.rept_passes.specs.declared.pass.Pass.{Pass};
+ghost use Rattle.rept_writing.specs.declared.passes.pass.Pass.{Pass};
 ghost use Rattle.rept_analysis.specs.Cells.{cells_known};
 ghost use Rattle.rept_analysis.specs.Kept.{IsPass};
 ghost use Rattle.rept_analysis.specs.State.{state_of, with_infers, with_inferred, reader};
@@ -22,12 +22,11 @@ use crate::rows::{address, is_store};
 use rept_isa::{Instr, Reg, StepRow, reads, writes};
 use rept_log::views::point_at;
 use rept_log::{Around, LastValues};
-use rept_passes::{Pass, is_with};
-use rept_reach::Reaches;
-use rept_reason::Cell;
+use rept_reason::{Cell, Conclusion, RowRules, When};
+use rept_report::Reaches;
 use rept_span::Transfer;
 use rept_versions::ByteFacts;
-use rept_view::{Conclusion, RowRules, When};
+use rept_writing::{Pass, is_with};
 use smallvec::SmallVec;
 
 /// Whether the instruction leaves the register as it is.

@@ -2,7 +2,7 @@
 
 ghost use Rattle.std.specs.Prelude.{◌≡◌, ◌+◌, ◌<◌, ◌≤◌, ℕ, length, false, true, IsSome, IfSome, IfOk, IfErr, ⊤};
 ghost use Rattle.rept_reason.specs.declared.fact.Cell.TheVariants.{Byte};
-ghost use Rattle.rept_reach.specs.Reaching.{IsLeaving, IsReachedUp, IsReachedDown};
+ghost use Rattle.rept_report.specs.Reach.Reaching.{IsLeaving, IsReachedUp, IsReachedDown};
 ghost use Rattle.rept_report.specs.Timeline.{IsStrip};
 ghost use Rattle.rept_analysis.specs.State.{state_of, reader};
 ghost use Rattle.rept_analysis.specs.Inferring.{Knows, IsTracked, Grows, HasInferred, IsHalt, AreWritings, IsEven, IsCarriedUpTo, IsCarriedAlong, AllCarried, AreLinks, IsCarriedIf, IsHitBy, IsLeapUp, IsLeapDown, IsEvenAround};
@@ -14,11 +14,11 @@ use crate::halt::LearnError;
 use crate::leap::ByteLeap;
 use crate::step::WordStep;
 use rept_log::LastValues;
-use rept_reach::{NumberWindow, Reaches};
+use rept_reason::RowRules;
 use rept_report::paths::Strip;
+use rept_report::{NumberWindow, Reaches};
 use rept_span::Transfer;
 use rept_versions::ByteFacts;
-use rept_view::RowRules;
 
 /// How far back one looks at first for numbers at which the same is known.
 const FAR: u32 = 4096;

@@ -15,11 +15,10 @@ use crate::halt::LearnError;
 use rept_isa::Reg;
 use rept_log::{LastValues, LearnOutcome};
 use rept_partial::Flat;
-use rept_reach::Reaches;
-use rept_reason::Cell;
+use rept_reason::{Cell, RowRules};
+use rept_report::Reaches;
 use rept_span::Transfer;
 use rept_versions::ByteFacts;
-use rept_view::RowRules;
 use std::alloc::AllocError as OutOfMemory;
 
 impl<'a, P: Reaches + Drop, L: LastValues + Drop, B: ByteFacts, W: Transfer, R: RowRules> Analysis<

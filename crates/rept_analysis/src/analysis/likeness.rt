@@ -9,10 +9,10 @@ ghost use Rattle.rept_analysis.specs.Likeness.{IsToldBy, AreHitsShared, IsLikeBy
 use super::Analysis;
 use crate::pairs::Pairs;
 use rept_log::LastValues;
-use rept_reach::Reaches;
+use rept_reason::RowRules;
+use rept_report::Reaches;
 use rept_span::Transfer;
 use rept_versions::ByteFacts;
-use rept_view::RowRules;
 
 /// Of so many rows that may write a byte it is looked at whether they may write another one, for
 /// each piece in which the same is known of both.

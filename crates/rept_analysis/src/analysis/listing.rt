@@ -5,7 +5,7 @@ ghost use Rattle.rept_alias.specs.Accesses.{call_hits};
 ghost use Rattle.rept_analysis.specs.State.{state_of, with_writing, reader};
 ghost use Rattle.rept_analysis.specs.Inferring.{past, Grows, IsFitted, AreWritings, AreWritingsBefore, AreExact, IsUncut};
 ghost use Rattle.rept_isa.specs.declared.row.StepRow.{StepRow};
-ghost use Rattle.rept_reach.specs.Reaching.{IsExtent};
+ghost use Rattle.rept_report.specs.Reach.Reaching.{IsExtent};
 ghost use Rattle.rept_report.specs.Timeline.{IsRowAt};
 ghost use Rattle.rept_writing.specs.Hits.{AreInOrder, IsNextHitBelow, IsNextMeeting, IsPastHitFrom, IsSplitAt, IsFreeSince, IsFreeUntil};
 ghost use Rattle.rept_writing.specs.declared.list.Writing.{Writing};
@@ -15,10 +15,10 @@ use crate::rows::is_store;
 use rept_alias::CallAccess;
 use rept_isa::{StepRow, is_call};
 use rept_log::LastValues;
-use rept_reach::Reaches;
+use rept_reason::{RowRules, When};
+use rept_report::Reaches;
 use rept_span::Transfer;
 use rept_versions::ByteFacts;
-use rept_view::{RowRules, When};
 use rept_writing::Writing;
 
 /// Whether an access has no address.

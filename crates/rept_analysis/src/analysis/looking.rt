@@ -23,11 +23,10 @@ use rept_alias::CallAccess;
 use rept_isa::{Reg, StepRow, reads};
 use rept_log::{Below, LastValues};
 use rept_partial::Flat;
-use rept_reach::Reaches;
-use rept_report::{ConflictKind, Paths};
+use rept_reason::RowRules;
+use rept_report::{ConflictKind, Paths, Reaches};
 use rept_span::{EmptyAt, Transfer};
 use rept_versions::ByteFacts;
-use rept_view::RowRules;
 
 impl<'a, P: Reaches + Drop, L: LastValues + Drop, B: ByteFacts, W: Transfer, R: RowRules> Analysis<
     'a,

@@ -15,11 +15,10 @@ use super::Analysis;
 use crate::halt::LearnError;
 use crate::stop::Stop;
 use rept_log::LastValues;
-use rept_reach::Reaches;
-use rept_report::{ConflictKind, Paths};
+use rept_reason::RowRules;
+use rept_report::{ConflictKind, Paths, Reaches};
 use rept_span::Transfer;
 use rept_versions::ByteFacts;
-use rept_view::RowRules;
 
 impl<'a, P: Reaches + Drop, L: LastValues + Drop, B: ByteFacts, W: Transfer, R: RowRules> Analysis<
     'a,

@@ -17,12 +17,10 @@ use super::Analysis;
 use crate::halt::LearnError;
 use crate::stop::Stop;
 use rept_log::LastValues;
-use rept_reach::Reaches;
-use rept_reason::Cell;
-use rept_report::{ConflictKind, Paths};
+use rept_reason::{Cell, RowRules};
+use rept_report::{ConflictKind, Paths, Reaches};
 use rept_span::Transfer;
 use rept_versions::ByteFacts;
-use rept_view::RowRules;
 
 /// The conflict of two values, the smaller one first.
 fn clash_kind(point: u32, cell: Cell, known: u32, value: u32) -> ConflictKind

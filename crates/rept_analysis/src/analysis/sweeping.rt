@@ -15,10 +15,10 @@ use crate::halt::LearnError;
 use rept_isa::{Reg, register};
 use rept_log::LastValues;
 use rept_partial::Flat;
-use rept_reach::Reaches;
+use rept_reason::RowRules;
+use rept_report::Reaches;
 use rept_span::Transfer;
 use rept_versions::ByteFacts;
-use rept_view::RowRules;
 
 /// How many times at most all rows are gone over back and onward again in a round.
 const PASSES: u32 = 16;

@@ -7,10 +7,10 @@ ghost use Rattle.rept_analysis.specs.Inferring.{AreWritings, AreBlocked, IsBlock
 
 use super::Analysis;
 use rept_log::LastValues;
-use rept_reach::Reaches;
+use rept_reason::{RowRules, When};
+use rept_report::Reaches;
 use rept_span::Transfer;
 use rept_versions::ByteFacts;
-use rept_view::{RowRules, When};
 
 impl<'a, P: Reaches + Drop, L: LastValues + Drop, B: ByteFacts, W: Transfer, R: RowRules> Analysis<
     'a,

@@ -13,11 +13,10 @@ ghost use Rattle.rept_analysis.specs.Reasoned.{AreSetsOf, KeepsAll, IsNotLast};
 use super::Analysis;
 use rept_isa::Reg;
 use rept_log::LastValues;
-use rept_reach::Reaches;
-use rept_reason::{Cell, Fact, Reason};
+use rept_reason::{Cell, Fact, Reason, RowRules};
+use rept_report::Reaches;
 use rept_span::{Spans, Transfer};
 use rept_versions::ByteFacts;
-use rept_view::RowRules;
 use std::alloc::{AllocError as OutOfMemory, Global};
 
 impl<'a, P: Reaches + Drop, L: LastValues + Drop, B: ByteFacts, W: Transfer, R: RowRules> Analysis<

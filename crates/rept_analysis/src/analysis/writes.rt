@@ -4,12 +4,11 @@ ghost use Rattle.std.specs.Prelude.{◌<◌};
 
 use super::Analysis;
 use crate::moment::RegisterView;
-use rept_latest::RowWrites;
 use rept_log::LastValues;
-use rept_reach::Reaches;
+use rept_reason::RowRules;
+use rept_report::{Reaches, RowWrites};
 use rept_span::Transfer;
 use rept_versions::ByteFacts;
-use rept_view::RowRules;
 
 impl<'a, P: Reaches + Drop, L: LastValues + Drop, B: ByteFacts, W: Transfer, R: RowRules> RowWrites
     for Analysis<'a, P, L, B, W, R> {

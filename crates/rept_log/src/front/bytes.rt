@@ -12,10 +12,10 @@ use crate::row_bytes::RowByte;
 use rept_isa::number::plus;
 use rept_isa::{Instr, StepRow, reads};
 use rept_partial::Partial;
+use rept_reason::{RowRules, When, offset_of};
 use rept_report::Paths;
 use rept_span::Transfer;
 use rept_versions::ByteFacts;
-use rept_view::{RowRules, When, offset_of};
 use smallvec::SmallVec;
 use std::alloc::{AllocError as OutOfMemory, Global};
 

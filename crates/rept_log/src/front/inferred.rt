@@ -2,8 +2,8 @@
 
 ghost use Rattle.std.specs.Prelude.{◌≡◌, ◌-◌, ◌<◌, ◌≤◌, length, map, Some, IsSome, IfOk, IfSome, IfNone, Contains};
 ghost use Rattle.rept_reason.specs.declared.fact.Cell.TheVariants.{Register, Byte};
-ghost use Rattle.rept_view.specs.declared.inferred.Conclusion.{Conclusion};
-ghost use Rattle.rept_view.specs.Seen.{seen_cell};
+ghost use Rattle.rept_reason.specs.declared.view.inferred.Conclusion.{Conclusion};
+ghost use Rattle.rept_reason.specs.View.Seen.{seen_cell};
 ghost use Rattle.rept_report.specs.Why.{premise_of, IsInferredBecause};
 ghost use Rattle.rept_log.specs.Fronts.{basis_of, front_of, stands, told_by, IsInPlace, IsNotInferred, IsNotInferredBy, AreNotInferredBefore, AreNotInferredAfter, Gives, setting_in};
 
@@ -12,11 +12,10 @@ use super::views::Standing;
 use crate::last::LastValues;
 use rept_isa::{Reg, StepRow};
 use rept_partial::Partial;
-use rept_reason::{Cell, Fact, Reason};
+use rept_reason::{Cell, Conclusion, Fact, Premise, Reason, RowRules, RowView, When};
 use rept_report::Paths;
 use rept_span::Transfer;
 use rept_versions::ByteFacts;
-use rept_view::{Conclusion, Premise, RowRules, RowView, When};
 use smallvec::SmallVec;
 use std::alloc::{AllocError as OutOfMemory, Global};
 

@@ -3,20 +3,18 @@
 ghost use Rattle.std.specs.Prelude.{◌≡◌, ◌<◌, ◌≤◌, ◌^◌, ℕ, Some, IfOk};
 ghost use Rattle.rept_reason.specs.declared.fact.Cell.TheVariants.{Byte};
 ghost use Rattle.rept_report.specs.Spots.{spot};
-ghost use Rattle.rept_nearest.specs.Nets.{IsNearest};
-ghost use Rattle.rept_origin.specs.Logs.{links_in};
+ghost use Rattle.rept_report.specs.Nearest.Nets.{IsNearest};
+ghost use Rattle.rept_report.specs.Origin.Logs.{links_in};
 ghost use Rattle.rept_log.specs.Bytes.{AreTold};
 ghost use Rattle.rept_reason.specs.Facts.{told};
 ghost use Rattle.rept_log.specs.Fronts.{basis_of, front_of, stands, IsCarriedBy, setting_in};
 
 use super::Front;
 use crate::last::LastValues;
-use rept_nearest::NearestValue;
-use rept_origin::{Carriage, Sources, nearer, nearest_origin};
-use rept_report::Paths;
+use rept_reason::RowRules;
+use rept_report::{Carriage, NearestValue, Paths, Sources, nearer, nearest_origin};
 use rept_span::Transfer;
 use rept_versions::ByteFacts;
-use rept_view::RowRules;
 use std::alloc::{AllocError as OutOfMemory, Global};
 
 /// A byte of the memory, as the facts and the dump have it by themselves.
@@ -44,7 +42,7 @@ pub(super) struct LoggedByte<
 
 impl<'f, 'k, 'd, P: Paths, L: LastValues, B: ByteFacts, W: Transfer, R: RowRules> Sources
     for LoggedByte<'f, 'k, 'd, P, L, B, W, R> {
-    ghost use Rattle.rept_origin.specs.Logs.{byte_in};
+    ghost use Rattle.rept_report.specs.Origin.Logs.{byte_in};
     ghost use Rattle.rept_log.specs.Fronts.{basis_of, front_of, setting_in};
 
     ghost byte = { λ s. byte_in (setting_in (front_of W.sets W.moves R.rules (basis_of P.timeline L.values s.front.now))) s.front.now.facts s.address };

@@ -1,7 +1,7 @@
 -- The rules of RV32IM keep the laws of rules.
 use Rattle.rept_reason.specs.declared.fact.Cell.TheVariants.{Register}
-use Rattle.rept_view.specs.declared.inferred.When.TheVariants.{Before}
-use Rattle.rept_view.specs.Rules.{AreLawfulRules}
+use Rattle.rept_reason.specs.declared.view.inferred.When.TheVariants.{Before}
+use Rattle.rept_reason.specs.View.Rules.{AreLawfulRules}
 use Rattle.rept_rules.specs.Base.{base_rules}
 use Rattle.rept_rules.specs.Laws.Listed.{listed, concluded}
 use Rattle.rept_rules.specs.Laws.Sound.{sound_by}

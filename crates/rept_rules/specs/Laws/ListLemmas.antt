@@ -11,10 +11,10 @@ use Rattle.rept_partial.specs.declared.flat.Flat.{Flat}
 use Rattle.rept_partial.specs.declared.flat.Flat.TheVariants.{Unknown, Known}
 use Rattle.rept_machine.specs.Arithmetic.{loaded, half_at, word_at, extended}
 use Rattle.rept_reason.specs.Facts.{flat}
-use Rattle.rept_view.specs.declared.inferred.When.{When}
-use Rattle.rept_view.specs.declared.inferred.When.TheVariants.{After}
-use Rattle.rept_view.specs.declared.inferred.Conclusion.{Conclusion}
-use Rattle.rept_view.specs.Seen.{Seen}
+use Rattle.rept_reason.specs.declared.view.inferred.When.{When}
+use Rattle.rept_reason.specs.declared.view.inferred.When.TheVariants.{After}
+use Rattle.rept_reason.specs.declared.view.inferred.Conclusion.{Conclusion}
+use Rattle.rept_reason.specs.View.Seen.{Seen}
 use Rattle.rept_rules.specs.Conclusions.{IsOnRegister, on_register, on_byte, load_width}
 use Rattle.rept_rules.specs.Listing.{is_named, register_inferred, some_inferred, bytes_inferred, known_bytes_inferred, two_bytes, four_bytes, half_from, word_from, extended_from, loaded_from, at_known, known_after}
 use Rattle.rept_rules.specs.Laws.ValueLemmas.{either_way}

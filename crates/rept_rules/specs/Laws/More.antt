@@ -5,11 +5,11 @@ use Rattle.rept_isa.specs.declared.row.StepRow.{StepRow}
 use Rattle.rept_machine.specs.Arithmetic.{byte_of}
 use Rattle.rept_reason.specs.declared.fact.Cell.{Cell}
 use Rattle.rept_reason.specs.declared.fact.Cell.TheVariants.{Register, Byte}
-use Rattle.rept_view.specs.declared.inferred.When.{When}
-use Rattle.rept_view.specs.declared.inferred.When.TheVariants.{Before, After}
-use Rattle.rept_view.specs.declared.inferred.Conclusion.{Conclusion}
-use Rattle.rept_view.specs.Seen.{Seen, IsLawful, KnowsMore, seen_cell}
-use Rattle.rept_view.specs.Rules.{Fits}
+use Rattle.rept_reason.specs.declared.view.inferred.When.{When}
+use Rattle.rept_reason.specs.declared.view.inferred.When.TheVariants.{Before, After}
+use Rattle.rept_reason.specs.declared.view.inferred.Conclusion.{Conclusion}
+use Rattle.rept_reason.specs.View.Seen.{Seen, IsLawful, KnowsMore, seen_cell}
+use Rattle.rept_reason.specs.View.Rules.{Fits}
 use Rattle.rept_rules.specs.Conclusions.{ConcludesByRow, on_byte, IsOnRegister}
 use Rattle.rept_rules.specs.Conclusions as rules
 use Rattle.rept_rules.specs.Listing.{conclusions}

@@ -15,11 +15,11 @@ use Rattle.rept_machine.specs.Arithmetic.{store_width}
 use Rattle.rept_reason.specs.declared.fact.Cell.{Cell}
 use Rattle.rept_reason.specs.declared.fact.Cell.TheVariants.{Register, Byte}
 use Rattle.rept_reason.specs.Facts.{IsCell}
-use Rattle.rept_view.specs.declared.inferred.When.{When}
-use Rattle.rept_view.specs.declared.inferred.When.TheVariants.{Before, After}
-use Rattle.rept_view.specs.declared.inferred.Conclusion.{Conclusion}
-use Rattle.rept_view.specs.Seen.{Seen}
-use Rattle.rept_view.specs.Rules.{IsRowCell, IsRowByte, offset_of}
+use Rattle.rept_reason.specs.declared.view.inferred.When.{When}
+use Rattle.rept_reason.specs.declared.view.inferred.When.TheVariants.{Before, After}
+use Rattle.rept_reason.specs.declared.view.inferred.Conclusion.{Conclusion}
+use Rattle.rept_reason.specs.View.Seen.{Seen}
+use Rattle.rept_reason.specs.View.Rules.{IsRowCell, IsRowByte, offset_of}
 use Rattle.rept_rules.specs.declared.operand.Side.{Side}
 use Rattle.rept_rules.specs.declared.operand.Side.TheVariants.{First, Second}
 use Rattle.rept_rules.specs.Operands.{copied, operand_of, is_neutral, copied_register}

@@ -21,11 +21,11 @@ use Rattle.rept_machine.specs.State.{State, IsState}
 use Rattle.rept_machine.specs.Step.{HasEffect, IsStep}
 use Rattle.rept_machine.specs.Ways.{TurnTells, way_tells}
 use Rattle.rept_reason.specs.Facts.{flat}
-use Rattle.rept_view.specs.declared.inferred.When.{When}
-use Rattle.rept_view.specs.declared.inferred.When.TheVariants.{Before, After}
-use Rattle.rept_view.specs.declared.inferred.Conclusion.{Conclusion}
-use Rattle.rept_view.specs.Seen.{Seen, Meets, state_at, held}
-use Rattle.rept_view.specs.Rules.{IsSeenStep}
+use Rattle.rept_reason.specs.declared.view.inferred.When.{When}
+use Rattle.rept_reason.specs.declared.view.inferred.When.TheVariants.{Before, After}
+use Rattle.rept_reason.specs.declared.view.inferred.Conclusion.{Conclusion}
+use Rattle.rept_reason.specs.View.Seen.{Seen, Meets, state_at, held}
+use Rattle.rept_reason.specs.View.Rules.{IsSeenStep}
 use Rattle.rept_rules.specs.Results.{Admits, HoldsIn}
 use Rattle.rept_rules.specs.Operands.{copied, operand_of, opposite, is_neutral}
 use Rattle.rept_rules.specs.Conclusions.{ConcludesByRow, IsOnRegister, IsKnown, AreKnown, on_register, on_byte, seen_operand, load_width, solving_rule, equates}

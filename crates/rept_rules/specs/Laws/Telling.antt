@@ -6,10 +6,10 @@ use Rattle.rept_isa.specs.declared.instr.RegOp.{RegOp}
 use Rattle.rept_isa.specs.Operands.{first_read, second_read}
 use Rattle.rept_partial.specs.declared.flat.Flat.{Flat}
 use Rattle.rept_reason.specs.Facts.{flat}
-use Rattle.rept_view.specs.declared.inferred.When.TheVariants.{Before, After}
-use Rattle.rept_view.specs.declared.inferred.Conclusion.{Conclusion}
-use Rattle.rept_view.specs.declared.inferred.Premise.{Premise}
-use Rattle.rept_view.specs.Seen.{Seen}
+use Rattle.rept_reason.specs.declared.view.inferred.When.TheVariants.{Before, After}
+use Rattle.rept_reason.specs.declared.view.inferred.Conclusion.{Conclusion}
+use Rattle.rept_reason.specs.declared.view.inferred.Premise.{Premise}
+use Rattle.rept_reason.specs.View.Seen.{Seen}
 use Rattle.rept_rules.specs.Results.{operand, cancels}
 use Rattle.rept_rules.specs.Operands.{copied_register}
 use Rattle.rept_rules.specs.Conclusions.{load_width}

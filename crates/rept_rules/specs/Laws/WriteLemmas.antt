@@ -21,11 +21,11 @@ use Rattle.rept_alias.specs.Accesses.{hits, call_hits, access_of}
 use Rattle.rept_alias.proofs.AccessLemmas as access
 use Rattle.rept_havoc.specs.Havoc.{changed, Lies, IsExact, NumberWithin, RangeWithin}
 use Rattle.rept_havoc.proofs.HavocLemmas.{changed_covers, changed_exact, changed_within}
-use Rattle.rept_view.specs.declared.inferred.When.{When}
-use Rattle.rept_view.specs.declared.inferred.When.TheVariants.{Before, After}
-use Rattle.rept_view.specs.declared.inferred.RegisterAt.{RegisterAt}
-use Rattle.rept_view.specs.Seen.{Seen, IsLawful, KnowsMore, Meets, state_at}
-use Rattle.rept_view.specs.Written.{WritesBy}
+use Rattle.rept_reason.specs.declared.view.inferred.When.{When}
+use Rattle.rept_reason.specs.declared.view.inferred.When.TheVariants.{Before, After}
+use Rattle.rept_reason.specs.declared.view.inferred.RegisterAt.{RegisterAt}
+use Rattle.rept_reason.specs.View.Seen.{Seen, IsLawful, KnowsMore, Meets, state_at}
+use Rattle.rept_reason.specs.View.Written.{WritesBy}
 use Rattle.rept_machine.specs.Writes.{WritesAtomic, IsOneOfBytes}
 use Rattle.rept_rules.specs.MayWrite.{IsKnownCall, is_register, range_of, only_value, is_failure, has_failed, writes_word, instr_may_write, register_at, tells_atomic, tells_writes, instr_is_sure}
 use Rattle.rept_rules.specs.Laws.ValueLemmas.{either_way, true≢false, equal}

@@ -1,8 +1,8 @@
 use Rattle.std.proofs.Common.{◌≡◌, inl, inr, refl}
 use Rattle.rept_ports.specs.Port.{move}
-use Rattle.rept_session.specs.Shown.{SessionTold, session_told}
-use Rattle.rept_serve.specs.Serving.{Serves}
-use Rattle.rept_serve.specs.declared.serving.Served.TheVariants as served
+use Rattle.rept_findings.specs.Shown.{SessionTold, session_told}
+use Rattle.rept_session.specs.Serving.Serving.{Serves}
+use Rattle.rept_session.specs.declared.serving.serving.Served.TheVariants as served
 use Rattle.rept_opening.specs.Delivered.{Delivers}
 use Rattle.rept_app.specs.Held.{IsHeldSession}
 use Rattle.rept_opening.specs.declared.refusal.Refusal.TheVariants as refusal

@@ -3,7 +3,7 @@ use Rattle.rept_ports.specs.Port.{move}
 use Rattle.rept_found.proofs.Truths.{uses_here, no_execution}
 use Rattle.rept_report.specs.OneThread.{path_setting}
 use Rattle.rept_found.specs.Crash.{path_of}
-use Rattle.rept_words.specs.declared.request.Domain.TheVariants as domain
+use Rattle.rept_opening.specs.declared.words.request.Domain.TheVariants as domain
 use Rattle.rept_opening.specs.Delivered.{Delivers}
 use Rattle.rept_opening.specs.Domains.{means_of}
 use Rattle.rept_opening.specs.declared.load.OpenOptions.{OpenOptions}

@@ -1,7 +1,7 @@
 use Rattle.std.proofs.Common.{◌≡◌, ◌⊎◌, Bool, Ok, Err, inr, refl, sym, subst}
 use Rattle.rept_elf.specs.Image.{file_of}
 use Rattle.rept_maps.specs.Views.{desc_of}
-use Rattle.rept_mapped.specs.Mapped.{mappings}
+use Rattle.rept_maps.specs.Mapped.Mapped.{mappings}
 use Rattle.rept_found.specs.Crash.{crash_of}
 use Rattle.rept_ports.specs.Port.{move}
 use Rattle.rept_app.specs.Examine.{Examines, IsWalked, TraceExcludes, WalkHolds, WalksTrace}

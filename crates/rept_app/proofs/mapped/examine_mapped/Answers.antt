@@ -1,6 +1,6 @@
 use Rattle.std.proofs.Common.{◌≡◌, ◌⊎◌, List, ℕ, IfErr, IfSome, subst, ap, ◌∙◌}
 use Rattle.rept_maps.specs.Views.{desc_of}
-use Rattle.rept_mapped.specs.Mapped.{mappings}
+use Rattle.rept_maps.specs.Mapped.Mapped.{mappings}
 use Rattle.rept_ports.specs.Port.{move}
 use Rattle.rept_opening.specs.Delivered.{Delivers}
 use Rattle.rept_app.specs.Examine.{Examines, FilesExclude, FilesHold, IsExamined}

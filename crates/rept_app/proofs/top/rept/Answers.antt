@@ -16,14 +16,14 @@ use Rattle.rept_app.specs.Claims.{BitsKnowMore, ComeToReport, ReportHolds, NoExe
 use Rattle.rept_opening.specs.Domains.{means_of}
 use Rattle.rept_app.specs.Told.{CallWrites, call_input}
 use Rattle.rept_app.specs.Top.{EndsByFiles}
-use Rattle.rept_words.specs.Words.{meaning_of}
+use Rattle.rept_opening.specs.Words.Words.{meaning_of}
 use Rattle.rept_opening.specs.declared.status.ExitStatus.TheVariants as ends
 use Rattle.rept_opening.proofs.DeliveredLemmas.{delivers_as}
 use Rattle.rept_app.proofs.DeliveredLemmas.{ends_told, told_ports, not_yielded}
 use Rattle.rept_app.proofs.PromiseLemmas.{promised}
 use Rattle.rept_app.proofs.TrueLemmas.{bits_know, reports_hold}
 use Rattle.rept_opening.proofs.TrueLemmas.{true_in_both, true_of}
-use Rattle.rept_words.specs.declared.request.Domain.TheVariants as domain
+use Rattle.rept_opening.specs.declared.words.request.Domain.TheVariants as domain
 use Rattle.rept_opening.proofs.ToldLemmas.{where_told, at_some}
 use Rattle.rept_app.proofs.ToldLemmas.{reading_of}
 use Rattle.rept_app.proofs.TopLemmas.{both, of_both, loaded_at, refused_ends, refused_writes, refused_causes, refused_loads, no_status, input_only, output_only, conflict_only, examined_writes, examined_ends, examined_causes, examined_excludes, all_loads, files_hold, holds_where, completed, done_at, all_at, made_at, asked_holds, loaded_asks, loads_named, refused_asks, made_asks, made_loads, made_means, made_causes, made_ends, made_writes, no_other, causes_of, once_of}

@@ -1,8 +1,8 @@
 use Rattle.std.proofs.Common.{◌≡◌, IfSome, map, string_bytes, ◌∙◌}
 use Rattle.std.proofs.lemmas.Result.{IfErr-weaker, IfOk-weaker}
 use Rattle.rept_ports.specs.Port.{move}
-use Rattle.rept_words.specs.Words.{meaning_of}
-use Rattle.rept_words.specs.declared.request.Domain.TheVariants as domain
+use Rattle.rept_opening.specs.Words.Words.{meaning_of}
+use Rattle.rept_opening.specs.declared.words.request.Domain.TheVariants as domain
 use Rattle.rept_opening.proofs.ToldLemmas.{at_some, where_told}
 use Rattle.rept_opening.proofs.LoadingLemmas.{ok_at, stops}
 use Rattle.rept_opening.proofs.TrueLemmas.{true_in_both, true_of}

@@ -1,6 +1,6 @@
 use Rattle.std.proofs.Common.{◌≡◌, List, ℕ, IfErr, inr, refl, ap, subst, ◌∙◌}
 use Rattle.rept_maps.specs.Views.{desc_of}
-use Rattle.rept_mapped.specs.Mapped.{mappings}
+use Rattle.rept_maps.specs.Mapped.Mapped.{mappings}
 use Rattle.rept_ports.specs.Port.{move}
 use Rattle.rept_opening.specs.Forms.{core_image_fault}
 use Rattle.rept_opening.specs.Listed.{AreLoaded, HasNoFiles}

@@ -2,9 +2,9 @@ use Rattle.std.proofs.Common.{List, length, refl, sym, ◌∙◌, ap}
 use Rattle.std.specs.List.{filter}
 use Rattle.std.specs.Option.{option_map}
 use Rattle.rept_elf.specs.Image.{file_of, segments_of}
-use Rattle.rept_notes.specs.Notes.{Note, note_segments}
-use Rattle.rept_notes.specs.Sought.{is_short}
-use Rattle.rept_notes.proofs.NoteLemmas.{found_said, cut_said, same_all}
+use Rattle.rept_maps.specs.Notes.Notes.{Note, note_segments}
+use Rattle.rept_maps.specs.Notes.Sought.{is_short}
+use Rattle.rept_maps.proofs.NotesLemmas.NoteLemmas.{found_said, cut_said, same_all}
 use Rattle.rept_dump.specs.Registers.{is_status, first_short, status_size}
 use Rattle.rept_dump.proofs.NoteLemmas.{short_is_first}
 use Rattle.rept_dump.proofs.notes.first_short.Goals as goal

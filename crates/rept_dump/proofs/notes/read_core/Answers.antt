@@ -1,6 +1,6 @@
 use Rattle.std.proofs.Common.{length, refl}
 use Rattle.rept_elf.specs.Image.{file_of, segments_of}
-use Rattle.rept_notes.proofs.NoteLemmas.{found_said, cut_said}
+use Rattle.rept_maps.proofs.NotesLemmas.NoteLemmas.{found_said, cut_said}
 use Rattle.rept_dump.specs.Registers.{is_status}
 use Rattle.rept_dump.proofs.notes.read_core.Goals as goal
 

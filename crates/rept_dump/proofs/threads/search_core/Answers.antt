@@ -1,6 +1,6 @@
 use Rattle.std.proofs.Common.{◌≡◌, ℕ, List, Some, length, slice_get, arith, sym, ap, subst}
 use Rattle.std.specs.List.{filter}
-use Rattle.rept_notes.specs.Found.{note_of}
+use Rattle.rept_maps.specs.Notes.Found.{note_of}
 use Rattle.rept_dump.specs.Registers.{is_status}
 use Rattle.rept_dump.proofs.ThreadLemmas.{desc_at, length-descs}
 use Rattle.rept_dump.proofs.threads.search_core.Goals as goal

@@ -1,5 +1,5 @@
 use Rattle.std.proofs.Common.{◌≡◌, ℕ, List, [], ◌∷◌, ◌++◌, length, sym, ap, subst, arith, length-append}
-use Rattle.rept_reach.specs.declared.reaches.NumberWindow.{NumberWindow}
+use Rattle.rept_report.specs.declared.reach.reaches.NumberWindow.{NumberWindow}
 use Rattle.rept_moments.specs.Numbers.{numbers_of}
 use Rattle.rept_moments.specs.Several.{seen_of}
 use Rattle.rept_timeline.specs.Times.{as_timeline}

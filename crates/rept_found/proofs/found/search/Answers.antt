@@ -6,8 +6,8 @@ use Rattle.rept_report.specs.Soundness.{HasNoExecution}
 use Rattle.rept_analysis.specs.declared.stop.Stop.{Stop}
 use Rattle.rept_analysis.specs.declared.stop.Stop.TheVariants.{Conflict, OutOfMemory}
 use Rattle.rept_analysis.specs.State.{IsLined}
-use Rattle.rept_trip.specs.Executed.{HasNoHistory}
-use Rattle.rept_trip.specs.Trip.{given_on, setting_on}
+use Rattle.rept_found.specs.Trip.Executed.{HasNoHistory}
+use Rattle.rept_found.specs.Trip.Trip.{given_on, setting_on}
 use Rattle.rept_found.specs.Crash.{means}
 use Rattle.rept_found.specs.View.{CrashView, ending_in, read_in, scene_in, trip_in, IsFoundIn, IsOfRun}
 use Rattle.rept_found.proofs.Settings.{conflict_of, found_in, setting_is, still_of}

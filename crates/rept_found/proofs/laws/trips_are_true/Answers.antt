@@ -2,8 +2,8 @@ use Rattle.std.proofs.Common.{◌∙◌}
 use Rattle.rept_moments.specs.Seen.{moment_in, seen}
 use Rattle.rept_order.specs.Legs.{number_of}
 use Rattle.rept_report.proofs.Lawful.{lawful}
-use Rattle.rept_trip.specs.Trip.{setting_on}
-use Rattle.rept_trip.proofs.Pointing.{at_point}
+use Rattle.rept_found.specs.Trip.Trip.{setting_on}
+use Rattle.rept_found.proofs.TripLemmas.Pointing.{at_point}
 use Rattle.rept_found.specs.Crash.{means, trip_by}
 use Rattle.rept_found.proofs.Chains.{no_circle}
 use Rattle.rept_found.proofs.Tellings.{last_writers}

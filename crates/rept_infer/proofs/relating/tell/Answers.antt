@@ -1,6 +1,6 @@
 use Rattle.std.proofs.Common.{List, slice_get, ap, ◌∙◌}
 use Rattle.rept_isa.specs.declared.row.StepRow.{StepRow}
-use Rattle.rept_classes.proofs.Changing.{same_then}
+use Rattle.rept_relate.proofs.ClassesLemmas.Changing.{same_then}
 use Rattle.rept_relate.specs.Numbering.{value_in}
 use Rattle.rept_relate.proofs.Summing.{any_err}
 use Rattle.rept_relate.proofs.Counting.{at_row}

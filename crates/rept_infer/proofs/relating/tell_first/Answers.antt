@@ -1,5 +1,5 @@
 use Rattle.std.proofs.Common.{◌≤◌, ◌<◌, length, ◌∙◌, arith}
-use Rattle.rept_classes.proofs.Changing.{same_then}
+use Rattle.rept_relate.proofs.ClassesLemmas.Changing.{same_then}
 use Rattle.rept_relate.specs.Numbering.{value_in}
 use Rattle.rept_relate.proofs.Summing.{any_err}
 use Rattle.rept_infer.proofs.Classing.{first_told}

@@ -1,5 +1,5 @@
 use Rattle.std.proofs.Common.{◌≡◌, ◌≤◌, length, take}
-use Rattle.rept_course.specs.Making.{lasts}
+use Rattle.rept_moments.specs.Naming.Making.{lasts}
 use Rattle.rept_moments.specs.Points.{points_in}
 use Rattle.rept_moments.specs.Ordering.{back}
 use Rattle.rept_moments.specs.Tables.{moments_at}

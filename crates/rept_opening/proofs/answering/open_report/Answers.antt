@@ -2,7 +2,7 @@ use Rattle.std.proofs.Common.{IfErr, IfOk}
 use Rattle.rept_opening.proofs.ReportLemmas.{in_domain}
 use Rattle.rept_found.specs.Crash.{crash_of}
 use Rattle.rept_ports.specs.Port.{move}
-use Rattle.rept_words.specs.declared.request.Domain.TheVariants as domain
+use Rattle.rept_opening.specs.declared.words.request.Domain.TheVariants as domain
 use Rattle.rept_opening.specs.Report.{HasNoReport, IsAsked}
 use Rattle.rept_opening.proofs.answering.open_report.Goals as goal
 

@@ -3,8 +3,8 @@ use Rattle.std.proofs.lemmas.Result.{IfOk-weaker}
 use Rattle.std.specs.Option.{option_map}
 use Rattle.rept_elf.specs.Image.{file_of}
 use Rattle.rept_maps.specs.Views.{desc_of}
-use Rattle.rept_mapped.specs.Mapped.{mappings}
-use Rattle.rept_mapfiles.specs.Kept.{asked_names, image_at, kept_all, most_in_all, names_of}
+use Rattle.rept_maps.specs.Mapped.Mapped.{mappings}
+use Rattle.rept_maps.specs.Mapfiles.Kept.{asked_names, image_at, kept_all, most_in_all, names_of}
 use Rattle.rept_opening.specs.Mapped.{mapped_files}
 use Rattle.rept_opening.proofs.MappedLemmas.{over_files, program_is}
 use Rattle.rept_opening.proofs.listed.images_in.Goals as goal

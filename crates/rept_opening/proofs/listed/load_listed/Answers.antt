@@ -2,8 +2,8 @@ use Rattle.std.proofs.Common.{◌≡◌, length, map, Ok, Err, inl, inr, refl, s
 use Rattle.std.specs.Option.{option_map}
 use Rattle.rept_elf.specs.Image.{file_of}
 use Rattle.rept_maps.specs.Views.{desc_of}
-use Rattle.rept_mapfiles.specs.Kept.{StopsAtFile, asked_names, kept_all, loads_after, most_in_all}
-use Rattle.rept_mapfiles.specs.declared.load.LoadStop.TheVariants as stops
+use Rattle.rept_maps.specs.Mapfiles.Kept.{StopsAtFile, asked_names, kept_all, loads_after, most_in_all}
+use Rattle.rept_maps.specs.declared.mapfiles.load.LoadStop.TheVariants as stops
 use Rattle.rept_ports.specs.Port.{move}
 use Rattle.rept_opening.proofs.MappedLemmas.{count_is, err_at, list_at, list_only_at, named_at, over_files, same_count, within_names}
 use Rattle.rept_opening.proofs.listed.load_listed.Goals as goal

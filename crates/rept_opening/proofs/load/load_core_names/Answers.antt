@@ -1,4 +1,4 @@
-use Rattle.rept_words.specs.Asked.{core_named_by}
+use Rattle.rept_opening.specs.Words.Asked.{core_named_by}
 use Rattle.rept_opening.specs.declared.refusal.FileKind.TheVariants.{Trace}
 use Rattle.rept_opening.proofs.LoadLemmas.{both_loaded, core_trace_stops}
 use Rattle.rept_opening.proofs.load.load_core_names.Goals as goal

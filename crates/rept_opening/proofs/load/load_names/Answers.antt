@@ -1,4 +1,4 @@
-use Rattle.rept_words.specs.Asked.{named_by}
+use Rattle.rept_opening.specs.Words.Asked.{named_by}
 use Rattle.rept_opening.specs.declared.refusal.FileKind.TheVariants.{Trace}
 use Rattle.rept_opening.proofs.LoadLemmas.{trace_stops}
 use Rattle.rept_opening.proofs.load.load_names.Goals as goal

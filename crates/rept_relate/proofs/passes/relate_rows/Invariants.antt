@@ -1,6 +1,6 @@
 use Rattle.std.proofs.Common.{◌≡◌, ℕ, length}
 use Rattle.rept_machine.specs.State.{State}
-use Rattle.rept_classes.specs.Valuations.{IsValued}
+use Rattle.rept_relate.specs.Classes.Valuations.{IsValued}
 use Rattle.rept_relate.specs.Numbering.{value_in, IsWalk}
 use Rattle.rept_relate.specs.Relations.{AreResults, AreBelow}
 use Rattle.rept_relate.specs.Holding.{AreHeld, AreNodesBelow}

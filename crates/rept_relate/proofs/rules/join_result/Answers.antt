@@ -2,7 +2,7 @@ use Rattle.std.proofs.Common.{ap, ◌∙◌}
 use Rattle.std.proofs.lemmas.Result.{on_ok_weaker, on_err_weaker}
 use Rattle.rept_isa.specs.declared.instr.RegOp.{RegOp}
 use Rattle.rept_machine.specs.Arithmetic.{computed}
-use Rattle.rept_classes.specs.Valuations.{word_of}
+use Rattle.rept_relate.specs.Classes.Valuations.{word_of}
 use Rattle.rept_relate.proofs.rules.join_result.Goals as goal
 
 pub returns-in-Add-clause-keeps : goal.returns-in-Add-clause-keeps

@@ -1,7 +1,7 @@
 use Rattle.std.proofs.Common.{◌++◌, ◌∷◌, ◌∙◌, [], List, ap, map, sym, take}
 use Rattle.rept_path.specs.Program.{code_of}
 use Rattle.rept_steps.specs.declared.threads.ThreadRows.{ThreadRows}
-use Rattle.rept_threads.specs.declared.notes.KeptNote.{KeptNote}
+use Rattle.rept_streams.specs.declared.threads.notes.KeptNote.{KeptNote}
 use Rattle.rept_runs.specs.Calls.{with_calls}
 use Rattle.rept_runs.proofs.Adding.{calls_more, thread_there}
 use Rattle.rept_runs.proofs.calls.with_calls.Goals as goal

@@ -3,7 +3,7 @@ use Rattle.std.specs.Prelude.{Some, slice_get}
 use Rattle.rept_path.specs.Program.{code_of}
 use Rattle.rept_steps.specs.Course.{TakeRows}
 use Rattle.rept_steps.specs.declared.threads.ThreadRows.{ThreadRows}
-use Rattle.rept_threads.specs.declared.notes.KeptNote.{KeptNote}
+use Rattle.rept_streams.specs.declared.threads.notes.KeptNote.{KeptNote}
 use Rattle.rept_runs.specs.Calls.{with_calls}
 use Rattle.rept_runs.proofs.calls.with_calls.Given as goal
 

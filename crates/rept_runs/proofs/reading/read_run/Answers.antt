@@ -4,8 +4,8 @@ use Rattle.rept_trace.specs.Streams.{StreamFile}
 use Rattle.rept_trace.specs.declared.fault.TraceFault.{TraceFault}
 use Rattle.rept_path.specs.declared.fault.PathFault.{PathFault}
 use Rattle.rept_path.specs.declared.fault.PathFault.TheVariants.{Packet, OutOfMemory}
-use Rattle.rept_slices.specs.Raw.{files_of, HasNoRun}
-use Rattle.rept_threads.proofs.Fitting.{file_fits}
+use Rattle.rept_streams.specs.Slices.Raw.{files_of, HasNoRun}
+use Rattle.rept_streams.proofs.ThreadsLemmas.Fitting.{file_fits}
 use Rattle.rept_runs.specs.Told.{traced, IsEnteredRun, IsTracedRun, HasNoTracedRun}
 use Rattle.rept_runs.proofs.Few.{run_small}
 use Rattle.rept_runs.proofs.reading.read_run.Goals as goal

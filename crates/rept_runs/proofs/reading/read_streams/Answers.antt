@@ -5,13 +5,13 @@ use Rattle.rept_dump.specs.Program.{contents}
 use Rattle.rept_dump.specs.Registers.{saved_pc}
 use Rattle.rept_path.specs.Program.{code_of}
 use Rattle.rept_path.specs.declared.fault.PathFault.TheVariants.{OutOfMemory}
-use Rattle.rept_slices.specs.Many.{processes}
-use Rattle.rept_slices.specs.Raw.{PassBefore, files_of, code_in, traces}
+use Rattle.rept_streams.specs.Slices.Many.{processes}
+use Rattle.rept_streams.specs.Slices.Raw.{PassBefore, files_of, code_in, traces}
 use Rattle.rept_steps.specs.Course.{IsSoundCourse}
 use Rattle.rept_steps.specs.Runs.{course_of}
 use Rattle.rept_steps.specs.declared.run.Run.{Run}
-use Rattle.rept_threads.specs.declared.notes.KeptNote.{KeptNote}
-use Rattle.rept_threads.proofs.Wholes.{some_stream}
+use Rattle.rept_streams.specs.declared.threads.notes.KeptNote.{KeptNote}
+use Rattle.rept_streams.proofs.ThreadsLemmas.Wholes.{some_stream}
 use Rattle.rept_runs.specs.Calls.{entered}
 use Rattle.rept_runs.specs.Told.{IsEnteredRun}
 use Rattle.rept_runs.proofs.Entering.{entered_sound}

@@ -1,7 +1,8 @@
 use Rattle.std.proofs.Common.{◌≡◌, ℕ, ◌∙◌, sym, subst, IfOk}
 use Rattle.rept_session.specs.declared.command.Command.{Command}
-use Rattle.rept_session.specs.Shown.{moment_at, number, session_told}
-use Rattle.rept_session.specs.Texts.{IsExplained, IsRegisterExplained, IsText}
+use Rattle.rept_findings.specs.Shown.{moment_at, number, session_told}
+use Rattle.rept_questions.specs.Texts.{IsExplained, IsRegisterExplained}
+use Rattle.rept_session.specs.Texts.{IsText}
 use Rattle.rept_reason.specs.declared.fact.Cell.TheVariants.{Byte}
 use Rattle.rept_session.proofs.answers.text_of.Goals as goal
 

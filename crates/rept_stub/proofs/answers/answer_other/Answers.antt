@@ -1,5 +1,5 @@
 use Rattle.std.proofs.Common.{◌≡◌, subst}
-use Rattle.rept_request.specs.declared.request.GdbRequest.{GdbRequest}
+use Rattle.rept_remote.specs.declared.request.request.GdbRequest.{GdbRequest}
 use Rattle.rept_stub.specs.Answers.{changed, spots_after}
 use Rattle.rept_stub.proofs.Stands.{selects}
 use Rattle.rept_stub.proofs.answers.answer_other.Goals as goal

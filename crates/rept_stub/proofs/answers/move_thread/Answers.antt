@@ -1,5 +1,5 @@
 use Rattle.std.proofs.Common.{ℕ, ◌≤◌, List, length, ap, arith, subst, sym}
-use Rattle.rept_session.specs.declared.place.ThreadPoint.{ThreadPoint}
+use Rattle.rept_findings.specs.declared.place.ThreadPoint.{ThreadPoint}
 use Rattle.rept_stub.specs.Standing.{AreCursors}
 use Rattle.rept_stub.proofs.Stands.{puts}
 use Rattle.rept_stub.proofs.answers.move_thread.Goals as goal

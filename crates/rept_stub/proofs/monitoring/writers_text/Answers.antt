@@ -1,7 +1,7 @@
 use Rattle.std.proofs.Common.{◌≡◌, ◌<◌, ◌+◌, ◌++◌, ℕ, Some, None, Option, IfSome, sym, subst, ap, ◌∙◌, arith}
-use Rattle.rept_session.specs.Texts.{at, writer_line}
-use Rattle.rept_session.specs.declared.place.ThreadPoint.{ThreadPoint}
-use Rattle.rept_session.specs.LastWriters.{writer_at}
+use Rattle.rept_findings.specs.Texts.{at, writer_line}
+use Rattle.rept_findings.specs.declared.place.ThreadPoint.{ThreadPoint}
+use Rattle.rept_findings.specs.LastWriters.{writer_at}
 use Rattle.rept_stub.specs.Monitoring.{row_before, writers_text}
 use Rattle.rept_stub.proofs.Listed.{begins, last, lines_left, on}
 use Rattle.rept_stub.proofs.monitoring.writers_text.Goals as goal

@@ -1,5 +1,5 @@
 use Rattle.std.proofs.Common.{◌≡◌, ◌≤◌, ◌++◌}
-use Rattle.rept_session.specs.Texts.{at}
+use Rattle.rept_findings.specs.Texts.{at}
 use Rattle.rept_stub.specs.Monitoring.{writers_text}
 use Rattle.rept_stub.proofs.Listed.{lines_left}
 use Rattle.rept_stub.proofs.monitoring.writers_text.Given as goal

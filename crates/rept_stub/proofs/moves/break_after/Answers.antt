@@ -1,6 +1,6 @@
 use Rattle.std.proofs.Common.{◌+◌, length, arith, ap, sym, ◌∙◌}
-use Rattle.rept_session.specs.Texts.{at}
-use Rattle.rept_session.specs.declared.place.ThreadPoint.{ThreadPoint}
+use Rattle.rept_findings.specs.Texts.{at}
+use Rattle.rept_findings.specs.declared.place.ThreadPoint.{ThreadPoint}
 use Rattle.rept_stub.specs.Halts.{is_break}
 use Rattle.rept_stub.proofs.Ranges.{find_on}
 use Rattle.rept_stub.proofs.moves.break_after.Goals as goal

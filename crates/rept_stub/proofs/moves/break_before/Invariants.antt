@@ -1,5 +1,5 @@
 use Rattle.std.proofs.Common.{◌≡◌, ◌≤◌}
-use Rattle.rept_session.specs.Texts.{at}
+use Rattle.rept_findings.specs.Texts.{at}
 use Rattle.rept_stub.specs.Halts.{break_before}
 use Rattle.rept_stub.proofs.moves.break_before.Given as goal
 

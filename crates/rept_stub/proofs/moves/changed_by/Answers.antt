@@ -1,7 +1,7 @@
 use Rattle.std.proofs.Common.{◌≡◌, ◌<◌, ℕ, Some, sym, subst, true, ◌∙◌}
-use Rattle.rept_session.specs.LastWriters.{IsNamed, named_row, writer_at}
-use Rattle.rept_session.specs.Texts.{at}
-use Rattle.rept_session.specs.declared.place.ThreadPoint.{ThreadPoint}
+use Rattle.rept_findings.specs.LastWriters.{IsNamed, named_row, writer_at}
+use Rattle.rept_findings.specs.Texts.{at}
+use Rattle.rept_findings.specs.declared.place.ThreadPoint.{ThreadPoint}
 use Rattle.rept_stub.specs.Halts.{has_changed}
 use Rattle.rept_stub.proofs.Forward.{new_row, new_there, not_named}
 use Rattle.rept_stub.proofs.moves.changed_by.Goals as goal

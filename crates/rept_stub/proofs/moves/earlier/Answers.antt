@@ -2,7 +2,7 @@ use Rattle.std.proofs.Common.{◌≤◌, ◌<◌, ◌∙◌, ◌+◌, ◌-◌, �
 use Rattle.std.specs.Prelude.{IfSome, Some}
 use Rattle.std.specs.List.{find, range_with_len}
 use Rattle.std.specs.Option.{option_or}
-use Rattle.rept_session.specs.Texts.{at}
+use Rattle.rept_findings.specs.Texts.{at}
 use Rattle.rept_stub.specs.Halts.{is_touched}
 use Rattle.rept_stub.proofs.Forward.{either_none, up_to_stop}
 use Rattle.rept_stub.proofs.moves.earlier.Goals as goal

@@ -1,7 +1,7 @@
 use Rattle.std.proofs.Common.{◌≡◌, ◌+◌, ◌-◌, ◌/◌, arith, refl, sym, ◌∙◌, false}
-use Rattle.rept_session.specs.LastWriters.{writer_at}
-use Rattle.rept_session.specs.Shown.{IsThreadPoint}
-use Rattle.rept_session.specs.Texts.{at}
+use Rattle.rept_findings.specs.LastWriters.{writer_at}
+use Rattle.rept_findings.specs.Shown.{IsThreadPoint}
+use Rattle.rept_findings.specs.Texts.{at}
 use Rattle.rept_stub.specs.Halts.{has_changed, is_touched}
 use Rattle.rept_stub.proofs.Forward.{first_found, none_between, none_new, written_here}
 use Rattle.rept_stub.proofs.moves.first_change.Goals as goal

@@ -1,6 +1,6 @@
 use Rattle.std.proofs.Common.{◌≡◌, ◌<◌, ◌≤◌, ◌-◌, ℕ, true, false}
-use Rattle.rept_session.specs.LastWriters.{writer_at}
-use Rattle.rept_session.specs.Texts.{at}
+use Rattle.rept_findings.specs.LastWriters.{writer_at}
+use Rattle.rept_findings.specs.Texts.{at}
 use Rattle.rept_stub.specs.Halts.{NamesNoOther, has_changed, is_touched}
 use Rattle.rept_stub.proofs.moves.first_change.Given as goal
 

@@ -1,6 +1,6 @@
 use Rattle.std.proofs.Common.{◌∙◌, ◌+◌, ◌-◌, length, take}
 use Rattle.std.specs.List.{range_with_len}
-use Rattle.rept_session.specs.Texts.{at}
+use Rattle.rept_findings.specs.Texts.{at}
 use Rattle.rept_stub.specs.Halts.{is_stop}
 use Rattle.rept_stub.proofs.Forward.{one_byte_more}
 use Rattle.rept_stub.proofs.moves.first_stop.Goals as goal

@@ -1,6 +1,6 @@
 use Rattle.std.proofs.Common.{◌≡◌, ◌<◌, ◌≤◌, ◌+◌, ◌-◌, length, take, IfSome}
 use Rattle.std.specs.List.{find, range_with_len}
-use Rattle.rept_session.specs.Texts.{at}
+use Rattle.rept_findings.specs.Texts.{at}
 use Rattle.rept_stub.specs.Halts.{is_stop}
 use Rattle.rept_stub.proofs.moves.first_stop.Given as goal
 

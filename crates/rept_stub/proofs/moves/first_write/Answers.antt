@@ -1,5 +1,5 @@
 use Rattle.std.proofs.Common.{sym}
-use Rattle.rept_session.specs.Texts.{at}
+use Rattle.rept_findings.specs.Texts.{at}
 use Rattle.rept_stub.specs.Halts.{is_touched}
 use Rattle.rept_stub.proofs.Forward.{below, none_between, none_found}
 use Rattle.rept_stub.proofs.moves.first_write.Goals as goal

@@ -1,5 +1,5 @@
 use Rattle.std.proofs.Common.{◌≡◌, ◌<◌, ◌≤◌, ◌-◌, true, false}
-use Rattle.rept_session.specs.Texts.{at}
+use Rattle.rept_findings.specs.Texts.{at}
 use Rattle.rept_stub.specs.Halts.{names}
 use Rattle.rept_stub.proofs.moves.last_unnamed.Given as goal
 

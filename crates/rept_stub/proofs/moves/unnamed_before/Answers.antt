@@ -1,5 +1,5 @@
 use Rattle.std.proofs.Common.{◌≡◌, true, rules, sym}
-use Rattle.rept_session.specs.Texts.{at}
+use Rattle.rept_findings.specs.Texts.{at}
 use Rattle.rept_stub.specs.Halts.{names}
 use Rattle.rept_stub.proofs.Named.{none_unnamed}
 use Rattle.rept_stub.proofs.moves.unnamed_before.Goals as goal

@@ -1,5 +1,5 @@
 use Rattle.std.proofs.Common.{◌+◌, ◌++◌, ℕ, Option, arith, ap, ◌∙◌}
-use Rattle.rept_session.proofs.TextLemmas.{grown_whole}
+use Rattle.rept_findings.proofs.TextLemmas.{grown_whole}
 use Rattle.rept_stub.specs.Replies.{value_digits}
 use Rattle.rept_stub.proofs.pieces.registers.Goals as goal
 

@@ -1,5 +1,5 @@
 use Rattle.std.proofs.Common.{◌∷◌, ◌+◌, ◌-◌, arith}
-use Rattle.rept_session.proofs.TextLemmas.{grown}
+use Rattle.rept_findings.proofs.TextLemmas.{grown}
 use Rattle.rept_stub.specs.Threads.{number_text}
 use Rattle.rept_stub.proofs.threads.push_others.Goals as goal
 

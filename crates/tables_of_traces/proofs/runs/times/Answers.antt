@@ -1,5 +1,5 @@
 use Rattle.std.proofs.Common.{arith}
-use Rattle.rept_threads.proofs.Fitting.{file_fits}
+use Rattle.rept_streams.proofs.ThreadsLemmas.Fitting.{file_fits}
 use Rattle.tables_of_traces.proofs.runs.times.Goals as goal
 
 pub survey_all-requires : goal.survey_all-requires

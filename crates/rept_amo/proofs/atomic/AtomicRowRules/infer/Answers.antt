@@ -1,6 +1,6 @@
 use Rattle.std.proofs.Common.{◌≡◌, rules, sym, subst, ◌∙◌, ap, List, Option}
 use Rattle.std.specs.List.{Contains}
-use Rattle.rept_view.specs.declared.inferred.Conclusion.{Conclusion}
+use Rattle.rept_reason.specs.declared.view.inferred.Conclusion.{Conclusion}
 use Rattle.rept_amo.specs.declared.form.Form.{Form}
 use Rattle.rept_amo.specs.Conclusions.{form_of}
 use Rattle.rept_amo.specs.Listing.{inferred_of}

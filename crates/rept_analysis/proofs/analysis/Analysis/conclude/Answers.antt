@@ -2,7 +2,7 @@ use Rattle.std.proofs.Common.{◌<◌, ◌^◌, ℕ, sym, ap, subst, arith}
 use Rattle.std.specs.Option.{is_some}
 use Rattle.rept_reason.specs.declared.fact.Cell.{Cell}
 use Rattle.rept_reason.specs.declared.fact.Cell.TheVariants.{Register, Byte}
-use Rattle.rept_view.specs.Rules.{Fits}
+use Rattle.rept_reason.specs.View.Rules.{Fits}
 use Rattle.rept_report.specs.Views.{instant_of}
 use Rattle.rept_report.specs.Why.{fact_of}
 use Rattle.rept_analysis.specs.State.{state_of, reader}

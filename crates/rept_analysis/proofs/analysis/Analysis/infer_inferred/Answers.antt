@@ -1,6 +1,6 @@
 use Rattle.std.proofs.Common.{sym, ap, subst, ◌∙◌}
 use Rattle.std.specs.Option.{is_some}
-use Rattle.rept_passes.specs.declared.pass.Pass.{Pass}
+use Rattle.rept_writing.specs.declared.passes.pass.Pass.{Pass}
 use Rattle.rept_analysis.specs.State.{state_of, reader}
 use Rattle.rept_analysis.specs.Inferring.{InferredKnown}
 use Rattle.rept_analysis.specs.Kept.{IsPass}

@@ -2,7 +2,7 @@ use Rattle.rept_reason.specs.Facts.{Knowledge, told}
 use Rattle.rept_report.specs.Log.{oldest}
 use Rattle.rept_report.specs.Setting.{Setting}
 use Rattle.rept_report.specs.Spots.{spot}
-use Rattle.rept_latest.specs.Latest.{IsLastWriter}
+use Rattle.rept_report.specs.Last.Latest.{IsLastWriter}
 use Rattle.std.proofs.Common.{subst}
 use Rattle.rept_analysis.specs.State.{Whole, setting_of, reader}
 use Rattle.rept_analysis.specs.Latest.{writes_by}

@@ -1,6 +1,6 @@
 use Rattle.std.proofs.Common.{sym, subst}
 use Rattle.std.specs.Option.{IsSome}
-use Rattle.rept_view.specs.declared.inferred.When.TheVariants.{Before, After}
+use Rattle.rept_reason.specs.declared.view.inferred.When.TheVariants.{Before, After}
 use Rattle.rept_analysis.specs.State.{Whole}
 use Rattle.rept_analysis.proofs.Along.{moment_early}
 use Rattle.rept_analysis.proofs.analysis.Analysis.moment_at.Goals as goal

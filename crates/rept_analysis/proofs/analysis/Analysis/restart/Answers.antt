@@ -1,6 +1,6 @@
 use Rattle.std.proofs.Common.{◌≡◌, false, refl, sym, subst, ◌∙◌}
-use Rattle.rept_passes.specs.declared.pass.Pass.{Pass}
-use Rattle.rept_passes.specs.declared.pass.Pass.TheVariants.{Never, Cut}
+use Rattle.rept_writing.specs.declared.passes.pass.Pass.{Pass}
+use Rattle.rept_writing.specs.declared.passes.pass.Pass.TheVariants.{Never, Cut}
 use Rattle.rept_analysis.specs.State.{Whole}
 use Rattle.rept_analysis.proofs.Passing.{kept_never}
 use Rattle.rept_analysis.proofs.analysis.Analysis.restart.Goals as goal

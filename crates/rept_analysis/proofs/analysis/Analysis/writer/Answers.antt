@@ -1,6 +1,6 @@
 use Rattle.std.proofs.Common.{subst}
 use Rattle.rept_report.specs.Timeline.{IsBegun}
-use Rattle.rept_latest.specs.Latest.{IsPossibleWriter}
+use Rattle.rept_report.specs.Last.Latest.{IsPossibleWriter}
 use Rattle.rept_analysis.specs.State.{AnalysisState, Whole, state_of, reader}
 use Rattle.rept_analysis.proofs.Answering.{writer_answers}
 use Rattle.rept_analysis.proofs.analysis.Analysis.writer.Goals as goal

@@ -3,7 +3,7 @@ use Rattle.rept_dump.specs.Dump.{exe_of, core_of}
 use Rattle.rept_span.specs.Ranges.{range}
 use Rattle.rept_report.specs.Setting.{Setting, way_of}
 use Rattle.rept_analysis.specs.Kept.{answers}
-use Rattle.rept_trip.specs.Trip.{setting_on}
+use Rattle.rept_found.specs.Trip.Trip.{setting_on}
 use Rattle.rept_found.specs.Crash.{means}
 use Rattle.rept_found.specs.Telling.{noted}
 use Rattle.rept_found.specs.View.{CrashView, state_in, trip_in}

@@ -3,8 +3,8 @@ use Rattle.rept_dump.specs.Dump.{exe_of, core_of}
 use Rattle.rept_report.specs.Setting.{Setting}
 use Rattle.rept_report.specs.Why.{IsReason}
 use Rattle.rept_analysis.specs.Kept.{answers}
-use Rattle.rept_session.specs.Shown.{explained, known_value}
-use Rattle.rept_trip.specs.Trip.{setting_on}
+use Rattle.rept_findings.specs.Shown.{explained, known_value}
+use Rattle.rept_found.specs.Trip.Trip.{setting_on}
 use Rattle.rept_found.specs.Telling.{shown_on}
 use Rattle.rept_found.specs.Crash.{means}
 use Rattle.rept_found.specs.View.{CrashView, scene_in, state_in, trip_in}

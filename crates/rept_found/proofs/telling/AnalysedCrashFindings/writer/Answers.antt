@@ -5,7 +5,7 @@ use Rattle.rept_report.specs.Setting.{Setting}
 use Rattle.rept_report.specs.Spots.{spot}
 use Rattle.rept_report.specs.Writers.{IsWriter}
 use Rattle.rept_analysis.specs.Kept.{answers}
-use Rattle.rept_trip.specs.Trip.{setting_on}
+use Rattle.rept_found.specs.Trip.Trip.{setting_on}
 use Rattle.rept_found.specs.Crash.{means}
 use Rattle.rept_found.specs.View.{CrashView, scene_in, state_in, trip_in}
 use Rattle.rept_found.proofs.Settings.{setting_is}

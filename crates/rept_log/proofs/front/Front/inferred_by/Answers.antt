@@ -1,7 +1,7 @@
 use Rattle.std.proofs.Common.{subst, sym, ap, map, ◌∙◌, List}
 use Rattle.std.specs.List.{Contains}
-use Rattle.rept_view.specs.declared.inferred.Conclusion.{Conclusion}
-use Rattle.rept_view.specs.declared.inferred.Premise.{Premise}
+use Rattle.rept_reason.specs.declared.view.inferred.Conclusion.{Conclusion}
+use Rattle.rept_reason.specs.declared.view.inferred.Premise.{Premise}
 use Rattle.rept_report.specs.Why.{premise_of}
 use Rattle.rept_log.specs.Fronts.{basis_of, front_of, seen_in, seen_in_lawful}
 use Rattle.rept_log.specs.RowBytes.{with_bytes}

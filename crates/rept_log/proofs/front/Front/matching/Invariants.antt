@@ -1,5 +1,5 @@
 use Rattle.std.proofs.Common.{◌≡◌, ◌<◌, ℕ, get_or}
-use Rattle.rept_view.specs.declared.inferred.Conclusion.{Conclusion}
+use Rattle.rept_reason.specs.declared.view.inferred.Conclusion.{Conclusion}
 use Rattle.rept_log.specs.Fronts.{Gives}
 use Rattle.rept_log.proofs.front.Front.matching.Given as goal
 

@@ -1,7 +1,7 @@
 use Rattle.std.proofs.lemmas.Result.{IfOk-weaker}
-use Rattle.rept_nearest.specs.Nets.{IsNearest}
+use Rattle.rept_report.specs.Nearest.Nets.{IsNearest}
 use Rattle.rept_report.specs.Timeline.{Timeline}
-use Rattle.rept_origin.specs.Bridges.{ByteAlong, links_over}
+use Rattle.rept_report.specs.Origin.Bridges.{ByteAlong, links_over}
 use Rattle.rept_log.proofs.Fronts.{moved}
 use Rattle.rept_log.proofs.front.Front.nearest.Goals as goal
 

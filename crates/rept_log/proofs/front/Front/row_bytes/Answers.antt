@@ -2,7 +2,7 @@ use Rattle.std.proofs.Common.{◌≡◌, ◌∙◌, ap, w32, FitsSigned, ℕ, Op
 use Rattle.std.proofs.lemmas.Int.{to_z-of_z}
 use Rattle.std.proofs.lemmas.Result.{IfOk-weaker}
 use Rattle.rept_isa.specs.Numbers.{plus}
-use Rattle.rept_view.specs.Rules.{offset_of}
+use Rattle.rept_reason.specs.View.Rules.{offset_of}
 use Rattle.rept_log.specs.Fronts.{basis_of, front_of, seen_in}
 use Rattle.rept_log.specs.RowBytes.{bytes_from, bytes_from_base}
 use Rattle.rept_log.proofs.front.Front.row_bytes.Goals as goal

@@ -1,6 +1,6 @@
 use Rattle.std.proofs.Common.{subst}
-use Rattle.rept_nearest.specs.Nets.{IsNearest}
-use Rattle.rept_origin.specs.Logs.{links_in}
+use Rattle.rept_report.specs.Nearest.Nets.{IsNearest}
+use Rattle.rept_report.specs.Origin.Logs.{links_in}
 use Rattle.rept_log.specs.Fronts.{basis_of, front_of, setting_in}
 use Rattle.rept_log.proofs.Finding.{found_is, none_is}
 use Rattle.rept_log.proofs.front.Front.standing.Goals as goal

@@ -1,8 +1,8 @@
 use Rattle.std.proofs.Common.{◌≡◌, Some, true}
-use Rattle.rept_nearest.specs.Nets.{IsNearest}
+use Rattle.rept_report.specs.Nearest.Nets.{IsNearest}
 use Rattle.rept_report.specs.Timeline.{Timeline}
-use Rattle.rept_origin.specs.Bridges.{ByteAlong, links_over, carries_by, IsLinkBeside}
-use Rattle.rept_origin.proofs.Reached.{beside_is_nearer}
+use Rattle.rept_report.specs.Origin.Bridges.{ByteAlong, links_over, carries_by, IsLinkBeside}
+use Rattle.rept_report.proofs.OriginLemmas.Reached.{beside_is_nearer}
 use Rattle.rept_log.specs.Fronts.{basis_of, front_of, setting_in}
 use Rattle.rept_log.proofs.Fronts.{moved, moved_back, both_ok}
 use Rattle.rept_log.proofs.front.Front.step_to.Goals as goal

@@ -1,7 +1,7 @@
 use Rattle.std.proofs.Common.{length}
 use Rattle.std.specs.Option.{option_map}
 use Rattle.rept_elf.specs.Image.{file_of, segments_of}
-use Rattle.rept_notes.specs.Found.{note_of}
+use Rattle.rept_maps.specs.Notes.Found.{note_of}
 use Rattle.rept_maps.specs.Views.{said_of}
 use Rattle.rept_maps.proofs.MapLemmas.{cut_says, first_says, maps_once, past_end}
 use Rattle.rept_maps.proofs.maps.Maps.read.Goals as goal

@@ -1,7 +1,7 @@
 use Rattle.std.proofs.Common.{◌≡◌, ℕ, true, false, Option, ap, subst, ◌∙◌, arith}
 use Rattle.rept_steps.specs.Course.{Course, IsSoundCourse}
 use Rattle.rept_moments.specs.Edges.{end_at}
-use Rattle.rept_crossing.specs.Writers.{not_past}
+use Rattle.rept_order.specs.Crossing.Writers.{not_past}
 use Rattle.rept_moments.proofs.Places.{below_in}
 use Rattle.rept_moments.proofs.Reaching.{slice_leads, taken_none, taken_more, taken_all}
 use Rattle.rept_moments.proofs.many.Many.add_begun.Goals as goal

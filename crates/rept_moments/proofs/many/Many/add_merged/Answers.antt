@@ -1,7 +1,7 @@
 use Rattle.std.proofs.Common.{[]}
 use Rattle.std.proofs.lemmas.Result.{on_ok_weaker}
 use Rattle.rept_order.specs.Moments.Moment.{after}
-use Rattle.rept_course.specs.Numbered.{row_on}
+use Rattle.rept_moments.specs.Naming.Numbered.{row_on}
 use Rattle.rept_moments.specs.Nexts.{nexts_of, merged_nexts, Member}
 use Rattle.rept_moments.proofs.Adding.{adds_same, adds_none, merged_then, merged_else, merged_leads}
 use Rattle.rept_moments.proofs.many.Many.add_merged.Goals as goal

@@ -1,7 +1,7 @@
 use Rattle.std.proofs.Common.{◌≡◌, sym, subst, ◌∙◌}
 use Rattle.std.proofs.lemmas.Bool.{false≢true}
 use Rattle.rept_steps.specs.Course.{Course}
-use Rattle.rept_course.specs.Numbered.{row_on}
+use Rattle.rept_moments.specs.Naming.Numbered.{row_on}
 use Rattle.rept_moments.proofs.Places.{below_in}
 use Rattle.rept_moments.proofs.Together.{beside_told, told_beside}
 use Rattle.rept_moments.proofs.many.Many.are_beside.Goals as goal

@@ -1,9 +1,9 @@
 use Rattle.std.proofs.Common.{◌≡◌, ℕ, true, false, Option, None, sym, ap, subst, ◌∙◌}
 use Rattle.rept_steps.specs.Course.{Course}
-use Rattle.rept_course.specs.Numbered.{row_on}
+use Rattle.rept_moments.specs.Naming.Numbered.{row_on}
 use Rattle.rept_moments.specs.declared.nexts.Later.{Later}
 use Rattle.rept_moments.specs.Edges.{end_at}
-use Rattle.rept_crossing.specs.Writers.{not_past}
+use Rattle.rept_order.specs.Crossing.Writers.{not_past}
 use Rattle.rept_moments.specs.Nexts.{IsLaterBy}
 use Rattle.rept_moments.specs.Tables.{AreTables}
 use Rattle.rept_moments.proofs.Places.{below_in, there_row}

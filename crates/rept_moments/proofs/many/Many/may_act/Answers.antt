@@ -1,7 +1,7 @@
 use Rattle.std.proofs.Common.{◌&&◌, not, Bool, nat_eq, ap, subst, ◌∙◌}
 use Rattle.rept_steps.specs.Course.{Course}
 use Rattle.rept_order.specs.Moments.{stores}
-use Rattle.rept_course.specs.Numbered.{row_on}
+use Rattle.rept_moments.specs.Naming.Numbered.{row_on}
 use Rattle.rept_moments.specs.Numbers.{numbered}
 use Rattle.rept_moments.specs.Tables.{AreTables}
 use Rattle.rept_moments.proofs.MayAct.{own_may_act, rest_may_act}

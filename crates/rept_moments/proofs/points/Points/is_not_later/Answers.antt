@@ -2,7 +2,7 @@ use Rattle.std.proofs.Common.{nat_lt, ℕ, ap, sym, subst, ◌∙◌, arith}
 use Rattle.rept_steps.specs.Course.{IsSoundCourse}
 use Rattle.rept_order.specs.Events.{event_slice}
 use Rattle.rept_order.specs.Times.{begin_of}
-use Rattle.rept_course.specs.Numbered.{row_on}
+use Rattle.rept_moments.specs.Naming.Numbered.{row_on}
 use Rattle.rept_moments.specs.Ordering.{event_at}
 use Rattle.rept_moments.proofs.Places.{leg_below, there_row}
 use Rattle.rept_moments.proofs.Sooner.{ends_some, ends_none, sides_apart}

@@ -1,6 +1,6 @@
 use Rattle.std.proofs.Common.{◌≡◌, rules, sym, subst, List}
 use Rattle.std.specs.List.{Contains}
-use Rattle.rept_view.specs.declared.inferred.Conclusion.{Conclusion}
+use Rattle.rept_reason.specs.declared.view.inferred.Conclusion.{Conclusion}
 use Rattle.rept_rules.specs.Listing.{conclusions}
 use Rattle.rept_rules.specs.Laws.Listed.{listed, concluded}
 use Rattle.rept_rules.proofs.base.BaseRowRules.infer.Goals as goal

@@ -1,8 +1,0 @@
-use Rattle.std.proofs.Common.{List, subst}
-use Rattle.rept_crossing.specs.declared.writer.TimedWriter.{TimedWriter}
-use Rattle.rept_crossing.specs.Latest.{AreLatest}
-use Rattle.rept_crossing.proofs.Ends.{crossed_is}
-use Rattle.rept_crossing.proofs.writers.Writers.is_crossed.Goals as goal
-
-pub returns : goal.returns
-returns c = crossed_is c.args.self.now c.self.inside.latest.items c.args.rest c.begun-count.result c.index.result.now c.reaches.result (subst (λ (ws : List TimedWriter). AreLatest ws c.self.inside.latest.items) c.self.view_is c.self.invariant.1) c.begun-count.ensures.few c.begun-count.ensures.before c.begun-count.ensures.after c.index.ensures c.reaches.ensures

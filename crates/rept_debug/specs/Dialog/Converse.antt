@@ -1,0 +1,83 @@
+-- A whole dialog over an input and an output, and how it ends. This project's own.
+use Rattle.std.specs.Prelude.{◌≡◌, ◌⊎◌, ℕ, List, [], ◌++◌, length, Bool, true, false}
+use Rattle.std.specs.Io.KnownBytes.{Appends, Consumes}
+use Rattle.rept_ports.specs.Causes.{OneFault, AppendsPrefix}
+use Rattle.rept_ports.specs.Port.{Port, PortMove, move}
+use Rattle.rept_remote.specs.Frames.{Arrived, Arrives}
+use Rattle.rept_remote.specs.Reading.{Stops, taking}
+use Rattle.rept_remote.specs.declared.arrival.Ending.{Ending}
+use Rattle.rept_findings.specs.Shown.{SessionTold}
+use Rattle.rept_debug.specs.Dialog.Dialog.{IsTurn, Talks, start_at}
+use Rattle.rept_debug.specs.declared.dialog.turn.Dialog.{Dialog}
+use Rattle.rept_debug.specs.declared.dialog.conversation.SessionEnd.{SessionEnd}
+use Rattle.rept_debug.specs.declared.dialog.conversation.SessionEnd.TheVariants as conversed
+
+-- who talks: what is told, the signal that ended the process, and the dialog as it began
+pub record Parties : Type 1 where
+  pub told : SessionTold
+  pub signal : ℕ
+  pub start : Dialog
+
+-- a dialog that begins over what is told
+abbrev pub parties_over : SessionTold → ℕ → Parties
+parties_over t signal = record { told = t; signal = signal; start = start_at t.shown }
+
+-- the bytes that were taken of an input and those that were written to an output, neither of which
+-- failed, are those of the arrivals so far and of what was written at each
+pub record Progress (parties : Parties) (source sink : PortMove Port) (read : List ℕ) (now : Dialog) : Type 0 where
+  pub written : List ℕ
+  pub talks : Talks parties.told parties.signal parties.start read written now
+  pub consumed : Consumes source.before.bytes source.after.bytes read
+  pub wrote : Appends sink.before.bytes sink.after.bytes written
+  pub read_calm : source.after.faults ≡ source.before.faults
+  pub write_calm : sink.after.faults ≡ sink.before.faults
+
+-- one arrival more came after that
+pub record Arrival (parties : Parties) (source sink : PortMove Port) : Type 0 where
+  pub read : List ℕ
+  pub now : Dialog
+  pub got : List ℕ
+  pub what : Arrived
+  pub middle : Port
+  pub progress : Progress parties (move source.before middle) sink read now
+  pub consumed : Consumes middle.bytes source.after.bytes got
+  pub arrives : Arrives got what
+  pub calm : source.after.faults ≡ middle.faults
+
+-- the input ended or failed, or too much of it came, between arrivals or within one
+pub record TalkEnded (parties : Parties) (source sink : PortMove Port) (why : Ending) : Type 0 where
+  pub read : List ℕ
+  pub now : Dialog
+  pub got : List ℕ
+  pub middle : Port
+  pub count : PortMove ℕ
+  pub progress : Progress parties (move source.before middle) sink read now
+  pub counted : count.before ≡ length read
+  pub stops : Stops (taking count (move middle source.after) got) why
+
+-- the debugger left
+pub record Left (parties : Parties) (source sink : PortMove Port) : Type 0 where
+  pub read : List ℕ
+  pub now : Dialog
+  pub progress : Progress parties source sink read now
+  pub left : now.is_over ≡ true
+
+-- the output failed in what is written at an arrival
+pub record Broke (parties : Parties) (source sink : PortMove Port) : Type 0 where
+  pub before : Port
+  pub arrival : Arrival parties source (move sink.before before)
+  pub text : List ℕ
+  pub next : Dialog
+  pub turn : IsTurn parties.told parties.signal arrival.now arrival.what text next
+  pub wrote : AppendsPrefix before.bytes sink.after.bytes text
+  pub fault : OneFault before.faults sink.after.faults
+
+-- Memory ran out for the answer to an arrival; or for the cursors, before the first one.
+abbrev pub StoppedDialog : Parties → PortMove Port → PortMove Port → Type 0
+StoppedDialog parties source sink = Arrival parties source sink ⊎ ((source.after ≡ source.before) × (sink.after ≡ sink.before))
+
+abbrev pub Converses : Parties → PortMove Port → PortMove Port → SessionEnd → Type 0
+Converses parties source sink conversed.Left = Left parties source sink
+Converses parties source sink (conversed.Ended why) = TalkEnded parties source sink why
+Converses parties source sink conversed.OutputFault = Broke parties source sink
+Converses parties source sink conversed.OutOfMemory = StoppedDialog parties source sink

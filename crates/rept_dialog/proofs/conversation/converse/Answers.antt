@@ -1,5 +1,0 @@
-use Rattle.std.proofs.Common.{inr, refl}
-use Rattle.rept_dialog.proofs.conversation.converse.Goals as goal
-
-pub returns-in-Err-clause-talk : goal.returns-in-Err-clause-talk
-returns-in-Err-clause-talk g c = inr (refl, refl)

@@ -1,0 +1,4 @@
+pub mod Bytes
+pub mod Clock
+pub mod Stamping
+pub mod Weaving

@@ -1,0 +1,3 @@
+pub mod LastWriters
+pub mod Shown
+pub mod Texts

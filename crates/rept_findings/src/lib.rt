@@ -1,0 +1,11 @@
+//! What a session asks of an analysis, and the pieces of its answers.
+#![tactic(auto)]
+
+pub mod findings;
+pub mod lines;
+pub mod pieces;
+pub mod place;
+
+pub use findings::Findings;
+pub use pieces::{push_place, push_thread_named, push_visible};
+pub use place::{Place, ThreadPlace, ThreadPoint};

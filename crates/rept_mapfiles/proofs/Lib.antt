@@ -1,3 +1,0 @@
-mod Distinct
-mod Keeping
-mod BoundLemmas

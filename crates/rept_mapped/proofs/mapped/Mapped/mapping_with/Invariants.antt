@@ -1,9 +1,0 @@
-use Rattle.std.proofs.Common.{◌≡◌, drop}
-use Rattle.std.specs.List.{find}
-use Rattle.rept_mapped.specs.Mapped.{has_some, addresses}
-use Rattle.rept_mapped.specs.Mappings.{mappings_of}
-use Rattle.rept_mapped.proofs.mapped.Mapped.mapping_with.Given as goal
-
--- the mappings that are left decide
-abbrev pub invariant-loop-i : goal.invariant-loop-i
-invariant-loop-i l = find (λ m. has_some l.count l.a (addresses m)) (mappings_of l.self) ≡ find (λ m. has_some l.count l.a (addresses m)) (drop l.i (mappings_of l.self))

@@ -1,9 +1,0 @@
-//! What the files that a crashed process had mapped hold at an address: code, bytes that it could
-//! not write, and functions.
-#![tactic(auto)]
-
-mod find;
-mod mapped;
-mod naming;
-
-pub use mapped::Mapped;

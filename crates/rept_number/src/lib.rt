@@ -1,8 +1,0 @@
-//! The numbers that words spell, and whether a text is a given word.
-#![tactic(auto)]
-
-pub mod digits;
-pub mod word;
-
-pub use digits::{decimal, hexadecimal, number_in};
-pub use word::is_word;

@@ -1,6 +1,0 @@
-//! How far the rules of each row of a run were applied.
-#![tactic(auto)]
-
-pub mod pass;
-
-pub use pass::{Pass, RuleProgress, is_with};

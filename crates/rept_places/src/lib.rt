@@ -1,8 +1,0 @@
-//! The threads, points and moments that the numbers of a run stand for, as a session names them.
-#![tactic(auto)]
-
-pub mod laws;
-mod places;
-
-pub use laws::places_are_names;
-pub use places::{place_of, point_of};

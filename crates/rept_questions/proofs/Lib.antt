@@ -1,0 +1,4 @@
+pub mod SpotLemmas
+pub mod StackLemmas
+pub mod TrailLemmas
+pub mod WriterLemmas

@@ -1,0 +1,5 @@
+pub mod Spots
+pub mod Texts
+pub mod Trail
+pub mod Writers
+pub mod Frames

@@ -1,0 +1,11 @@
+use Rattle.rept_report.specs.Last.Latest.{IsSought}
+use Rattle.rept_report.proofs.LastLemmas.Latest.{IsNoneFrom}
+use Rattle.rept_report.proofs.last.search.LastRowSearch.greatest.Given as goal
+
+abbrev pub invariant-loop-high : goal.invariant-loop-high
+invariant-loop-high g l = record {
+  none : IsNoneFrom (IsSought (g.P.Paths.timeline l.self.paths.now) (g.M.RowWrites.writes l.self.rows.now) l.self.sought) l.high;
+}
+
+abbrev pub decreases-loop-high : goal.decreases-loop-high
+decreases-loop-high g l = l.high

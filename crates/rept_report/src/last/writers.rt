@@ -1,0 +1,51 @@
+//! What is said of the row that last wrote.
+
+ghost use Rattle.std.specs.Prelude.{◌≡◌, ◌<◌, ℕ, IsSome};
+ghost use Rattle.rept_report.specs.Spots.{spot};
+ghost use Rattle.rept_report.specs.Last.Latest.{CanAsk, IsLastWriter, IsPossibleWriter, IsSought, is_certain};
+
+use crate::last::search::LastRowSearch;
+use crate::last::sought::SoughtRows;
+use crate::last::writes::RowWrites;
+use crate::{Paths, Writer};
+
+/// What is said of the row that last wrote, where each of the rows that are sought may have written
+/// and no other did.
+pub fn possible_writer<P: Paths, M: RowWrites>(paths: &P, rows: &M, sought: SoughtRows) -> Writer
+    requires { CanAsk (P.timeline paths.now) (M.ready rows.now) sought }
+    ensures { IsPossibleWriter (P.timeline paths.now).moments (IsSought (P.timeline paths.now) (M.writes rows.now) sought) result }
+{
+    let search = LastRowSearch {
+        paths,
+        rows,
+        sought,
+    };
+    search.writer()
+}
+
+/// Whether a row writes each byte that it may write, and lies wholly before a moment.
+fn is_certain<P: Paths, M: RowWrites>(paths: &P, rows: &M, row: u32, moment: u32) -> bool
+    requires row { IsSome ((P.timeline paths.now).legs.row row) }
+    requires ready { M.ready rows.now row }
+    ensures { result ≡ is_certain (P.timeline paths.now).moments (M.writes rows.now) moment row }
+{
+    rows.is_sure(row) && paths.is_past(row, moment)
+}
+
+/// What is said of the row that last wrote a byte before a moment.
+pub fn last_writer<P: Paths, M: RowWrites>(paths: &P, rows: &M, moment: u32, a: u32) -> Writer
+    requires { (i : ℕ) → i < (P.timeline paths.now).legs.count → M.ready rows.now i }
+    ensures { IsLastWriter (P.timeline paths.now) (M.writes rows.now) (spot moment a) result }
+{
+    let address = Some(a);
+    match possible_writer(paths, rows, SoughtRows { moment, address }) {
+        Writer::MayWrite(row) => {
+            if is_certain(paths, rows, row, moment) {
+                Writer::Writes(row)
+            } else {
+                Writer::MayWrite(row)
+            }
+        }
+        other => other,
+    }
+}

@@ -1,6 +1,0 @@
-//! A session over an input and an output: each line is answered before the next one is read.
-#![tactic(auto)]
-
-mod serving;
-
-pub use serving::{Served, serve};

@@ -1,7 +1,0 @@
-use Rattle.std.proofs.Common.{◌≡◌}
-use Rattle.std.specs.List.{filter, range_with_len}
-use Rattle.rept_session.specs.Texts.{at, is_held}
-use Rattle.rept_session.proofs.spots.find_text.Given as goal
-
-abbrev pub invariant-loop-point : goal.invariant-loop-point
-invariant-loop-point g l = l.points.items ≡ filter (λ p. is_held (g.F.Findings.shown l.findings) (at l.at.thread p) l.register l.value) (range_with_len 0 l.point)

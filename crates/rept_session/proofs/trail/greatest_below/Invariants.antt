@@ -1,7 +1,0 @@
-use Rattle.std.proofs.Common.{◌≡◌, None, take}
-use Rattle.std.specs.List.{fold}
-use Rattle.rept_session.specs.Trail.{greater}
-use Rattle.rept_session.proofs.trail.greatest_below.Given as goal
-
-abbrev pub invariant-loop-number : goal.invariant-loop-number
-invariant-loop-number l = l.greatest ≡ fold (greater l.limit) None (take l.number-index l.numbers)

@@ -1,7 +1,0 @@
-use Rattle.std.proofs.Common.{◌≡◌, take}
-use Rattle.std.specs.List.{filter}
-use Rattle.rept_session.specs.Texts.{is_sure_step}
-use Rattle.rept_session.proofs.writers.sure_of.Given as goal
-
-abbrev pub invariant-loop-step : goal.invariant-loop-step
-invariant-loop-step g l = l.sure.items ≡ filter (is_sure_step (g.F.Findings.shown l.findings) l.sought.address l.sought.thread) (take l.step-index l.steps)

@@ -1,0 +1,135 @@
+//! The loop over the lines of an input.
+
+ghost use Rattle.std.specs.Prelude.{◌≡◌, false, IfOk, IfSome};
+ghost use Rattle.rept_ports.specs.Port.{move};
+ghost use Rattle.rept_findings.specs.Shown.{IsThreadPoint, SameReasons, session_told};
+ghost use Rattle.rept_session.specs.Texts.{refusal_line};
+ghost use Rattle.rept_session.specs.Serving.Replies.{IsAnswer, RepliesToLine, said_of_line};
+ghost use Rattle.rept_session.specs.Serving.Serving.{Serves, IsServeCaused};
+
+use crate::{Answer, BadCommand, answer_line, last_of, refusal_text};
+use rept_findings::{Findings, ThreadPoint};
+use rept_ports::{BoundedLines, Line, LineFault, Sink, Source, write_all};
+use rept_word::OutOfMemory;
+use std::alloc::Global;
+
+/// How a session ended.
+#[derive(Clone, Copy, Debug)]
+pub enum Served {
+    /// At `quit`, or at the end of the input. All answers were written.
+    Ended,
+    /// The input failed, after the answers to the whole lines of the bytes that were taken.
+    ReadFault,
+    /// The input has more than 1,048,576 bytes. The whole lines of the first of them were answered.
+    TooMuchInput,
+    /// The output failed in the answer to a line.
+    OutputFault,
+    /// There is no memory for the answer to a line. Those to the lines before it were written.
+    OutOfMemory,
+}
+
+/// What comes after a line.
+#[derive(Clone, Copy)]
+pub enum Next {
+    /// The next line, with the cursor at this point.
+    Line(ThreadPoint),
+    /// Nothing: the line is `quit`.
+    Quit,
+    /// The answer can't be written.
+    OutputFault,
+    /// There is no memory for the answer, and nothing is written.
+    OutOfMemory,
+}
+
+/// The answer to a line, which has more than 256 bytes where it is long.
+fn answer_to<F: Findings>(
+    alloc: Global,
+    findings: &mut F,
+    skipped: u32,
+    cursor: ThreadPoint,
+    line: Line<'_>,
+) -> Result<Answer, OutOfMemory>
+    requires { IsThreadPoint (F.shown findings.old) cursor }
+    ensures answer { IfOk result (λ answer. IsAnswer (session_told (F.shown findings.old) skipped (F.reasons findings.old)) cursor (said_of_line line.entry) answer) }
+    ensures same { F.shown findings.new ≡ F.shown findings.old }
+    ensures same_reasons { SameReasons (F.reasons findings.old) (F.reasons findings.new) }
+{
+    match line {
+        Line::Text(text) => answer_line(alloc, findings, skipped, cursor, text),
+        Line::Long => long_line(alloc, cursor),
+    }
+}
+
+/// The answer to a line of more than 256 bytes.
+fn long_line(alloc: Global, cursor: ThreadPoint) -> Result<Answer, OutOfMemory>
+    ensures text { IfOk result (λ answer. answer.text ≡ refusal_line BadCommand.LongLine) }
+    ensures cursor { IfOk result (λ answer. answer.cursor ≡ cursor) }
+    ensures quit { IfOk result (λ answer. answer.quit ≡ false) }
+{
+    let text = refusal_text(alloc, BadCommand::LongLine)?;
+    Ok(Answer {
+        cursor,
+        text,
+        quit: false,
+    })
+}
+
+/// Writes the answer to a line.
+fn reply<F: Findings, K: Sink>(
+    alloc: Global,
+    findings: &mut F,
+    skipped: u32,
+    cursor: ThreadPoint,
+    line: Line<'_>,
+    out: &mut K,
+) -> Next
+    requires { IsThreadPoint (F.shown findings.old) cursor }
+    ensures came { RepliesToLine (session_told (F.shown findings.old) skipped (F.reasons findings.old)) cursor (said_of_line line.entry) (move (K.port out.old) (K.port out.new)) result }
+    ensures same { F.shown findings.new ≡ F.shown findings.old }
+    ensures same_reasons { SameReasons (F.reasons findings.old) (F.reasons findings.new) }
+{
+    let Ok(answer) = answer_to(alloc, findings, skipped, cursor, line) else {
+        return Next::OutOfMemory;
+    };
+    if answer.quit {
+        return Next::Quit;
+    }
+    let next = answer.cursor;
+    match write_all(out, answer.text.bytes()) {
+        Ok(()) => Next::Line(next),
+        Err(_) => Next::OutputFault,
+    }
+}
+
+/// Answers the lines of the input, each before the next one is read, with the cursor at the last
+/// point of thread 0 first. `skipped` is the count of packets that the path was read without. In
+/// each case the findings stay as they were.
+pub fn serve<F: Findings, S: Source, K: Sink>(
+    alloc: Global,
+    findings: &mut F,
+    skipped: u32,
+    input: &mut S,
+    out: &mut K,
+) -> Served
+    ensures text { IfSome (S.port input.old).bytes (λ bytes. Serves (session_told (F.shown findings.old) skipped (F.reasons findings.old)) (record { input = bytes; left = (S.port input.new).bytes }) (move (K.port out.old) (K.port out.new)) result) }
+    ensures causes { IsServeCaused (move (S.port input.old) (S.port input.new)) (move (K.port out.old) (K.port out.new)) result }
+    ensures same { F.shown findings.new ≡ F.shown findings.old }
+    ensures same_reasons { SameReasons (F.reasons findings.old) (F.reasons findings.new) }
+{
+    let _threads = findings.threads();
+    let mut cursor = last_of(findings, 0);
+    let mut lines = BoundedLines::new(input);
+    'session: loop {
+        match lines.next_line() {
+            Ok(None) => return Served::Ended,
+            Ok(Some(line)) => match reply(alloc, findings, skipped, cursor, line, out) {
+                Next::Line(next) => cursor = next,
+                Next::Quit => return Served::Ended,
+                Next::OutputFault => return Served::OutputFault,
+                Next::OutOfMemory => return Served::OutOfMemory,
+            },
+            Err(LineFault::ReadFault) => return Served::ReadFault,
+            Err(LineFault::TooMuchInput) => return Served::TooMuchInput,
+        }
+    }
+}

@@ -1,9 +1,0 @@
-use Rattle.std.proofs.Common.{ℕ, List, drop}
-use Rattle.rept_trace.specs.declared.packet.Packet.{Packet}
-use Rattle.rept_trace.specs.Stream.{Stream}
-use Rattle.rept_slices.specs.Windows.{AreAll}
-use Rattle.rept_slices.proofs.Checking.{Idle}
-use Rattle.rept_slices.proofs.checks.all_idle.Given as goal
-
-abbrev pub invariant-loop-window : goal.invariant-loop-window
-invariant-loop-window l = (from : ℕ) (streams : List Stream) (lists : List (List Packet)) → AreAll from streams lists l.windows → Idle from lists (drop l.window-index l.windows) l.window-index

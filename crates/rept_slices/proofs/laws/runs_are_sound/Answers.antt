@@ -1,5 +1,0 @@
-use Rattle.rept_slices.proofs.Sound.{is_sound}
-use Rattle.rept_slices.proofs.laws.runs_are_sound.Goals as goal
-
-pub returns : goal.returns
-returns c = λ t run fits x. is_sound t run fits x

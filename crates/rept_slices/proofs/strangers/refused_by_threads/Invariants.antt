@@ -1,8 +1,0 @@
-use Rattle.std.proofs.Common.{List, drop}
-use Rattle.rept_slices.specs.Parts.{ToldSlice}
-use Rattle.rept_slices.specs.Entries.{AreEntriesOf}
-use Rattle.rept_slices.proofs.StrangerLemmas.{Judges}
-use Rattle.rept_slices.proofs.strangers.refused_by_threads.Given as goal
-
-abbrev pub invariant-loop-slice : goal.invariant-loop-slice
-invariant-loop-slice l = (ts : List ToldSlice) → AreEntriesOf l.slices ts → Judges l.processes ts (drop l.slice-index l.slices)

@@ -1,8 +1,0 @@
-use Rattle.std.proofs.Common.{◌≤◌, List, drop}
-use Rattle.rept_slices.specs.Parts.{LeftPackets}
-use Rattle.rept_slices.specs.Lefts.{AreLeft}
-use Rattle.rept_slices.proofs.KeepLemmas.{Opens}
-use Rattle.rept_slices.proofs.untraced.several.Given as goal
-
-abbrev pub invariant-loop-window : goal.invariant-loop-window
-invariant-loop-window l = ((lefts : List LeftPackets) → AreLeft l.windows lefts → Opens lefts (drop l.window-index l.windows) l.count) × (l.count ≤ l.window-index)

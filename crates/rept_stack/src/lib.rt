@@ -1,8 +1,0 @@
-//! The call stack at a point of a path, told by the path alone.
-#![tactic(auto)]
-
-mod frames;
-mod jumps;
-mod unwind;
-
-pub use frames::{Frame, frames_of};

@@ -1,0 +1,2 @@
+pub mod SlicesLemmas
+pub mod ThreadsLemmas

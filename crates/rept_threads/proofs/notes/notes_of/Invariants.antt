@@ -1,8 +1,0 @@
-use Rattle.std.proofs.Common.{◌≡◌, ℕ, List, length, map, take}
-use Rattle.rept_dump.specs.Dump.{HasThreads, threads_of}
-use Rattle.rept_threads.specs.Notes.{known_by}
-use Rattle.rept_slices.specs.Raw.{note_in}
-use Rattle.rept_threads.proofs.notes.notes_of.Given as goal
-
-abbrev pub invariant-loop-t : goal.invariant-loop-t
-invariant-loop-t l = (descs : List (List ℕ)) → HasThreads l.dump descs → threads_of l.dump ≡ length descs → map known_by l.notes.items ≡ map note_in (take l.t descs)

@@ -1,6 +1,0 @@
--- The notes of threads as they are kept. This project's own.
-use Rattle.rept_slices.specs.Joins.{ThreadNote}
-use Rattle.rept_threads.specs.declared.notes.KeptNote.{KeptNote}
-
-abbrev pub known_by : KeptNote → ThreadNote
-known_by n = record { process = n.process; pc = n.pc }

@@ -1,4 +1,0 @@
-mod Bytes
-mod Clock
-mod Stamping
-mod Weaving

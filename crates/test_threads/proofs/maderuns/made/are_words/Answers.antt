@@ -1,5 +1,0 @@
-use Rattle.std.proofs.Common.{arith}
-use Rattle.test_threads.proofs.maderuns.made.are_words.Goals as goal
-
-pub returns : goal.returns
-returns c = λ i. omega (arith, c.fits-registers i)

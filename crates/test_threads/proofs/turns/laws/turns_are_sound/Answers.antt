@@ -1,5 +1,0 @@
-use Rattle.test_threads.proofs.TurnsLemmas.Slices.{turns_sound}
-use Rattle.test_threads.proofs.turns.laws.turns_are_sound.Goals as goal
-
-pub returns : goal.returns
-returns c = λ C turns has order apart ends. turns_sound C turns has order apart ends

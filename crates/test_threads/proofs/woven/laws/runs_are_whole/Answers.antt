@@ -1,5 +1,0 @@
-use Rattle.test_threads.proofs.WovenLemmas.Whole.{whole_run}
-use Rattle.test_threads.proofs.woven.laws.runs_are_whole.Goals as goal
-
-pub returns : goal.returns
-returns c = λ contents file notes harts streams carries ordered. whole_run contents file notes harts carries ordered streams
