@@ -125,9 +125,18 @@ def watched_back(steps):
 
 
 def do_moves(moves):
-    for line, at in moves:
+    for line, at, *end in moves:
         move_to(at)
-        tell([line if PLAN["rept"] else f"plain {line}", at], try_move(line))
+        came = try_move(line)
+        if not PLAN["rept"] and end and isinstance(came, int) and came != end[0]:
+            came = blind_at(end[0]) or came
+        tell([line if PLAN["rept"] else f"plain {line}", at], came)
+
+
+def blind_at(end):
+    """Why gdb by itself passes by a point: it knows a frame by sp and s0, or says nothing."""
+    move_to(end)
+    return f"gdb knows no frame at {end}" if None in (registers()[1], registers()[7]) else ""
 
 
 def do_frames(points):
@@ -155,8 +164,11 @@ def do_last(words):
 
 
 def do_threads(plan):
-    """For each thread: its moves, after gdb looked at all of them."""
+    """For each thread: its moves, after gdb looked at all of them. By gdb's defaults that thread
+    moves that stopped last, the first one; so others want the setting of tools/rept-gdb."""
     for number, (process, points, places) in enumerate(plan):
+        if number:
+            run("set scheduler-locking on")
         found = re.search(r"Thread (\d+) has", run(f"thread find Thread.{process}"))
         run(f"thread {found[1]}")
         for at in points:

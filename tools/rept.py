@@ -77,7 +77,7 @@ class Path:
                 self.texts.append(text)
         # What is said of a thread is its last point, and where that is.
         self.addresses.append(int(re.search(r" pc (\w+)", ask(f"thread {thread}"))[1], 16))
-        self.written, self.rises, self.stacks = {}, [0], [0]
+        self.written, self.constants, self.rises, self.stacks = {}, {}, [0], [0]
         self.calls = [None]
         for step, text in enumerate(self.texts):
             self.follow_registers(step, text)
@@ -89,12 +89,31 @@ class Path:
         name, _, operands = text.partition(" ")
         target = re.match(r"x(\d+)", operands)
         number = 10 if name == "ecall" else int(target[1]) if target else 0
-        rise = re.fullmatch(r"addi x2,x2,(-?\d+)", text)
+        rise, value = self.rise_of(text), self.constant_of(text)
         written = 0 if name in READERS else number
         if written:
             self.written.setdefault(written, []).append(step)
-        self.rises.append(self.rises[-1] + (int(rise[1]) if rise else 0))
-        self.stacks.append(self.stacks[-1] + (written == 2 and not rise))
+            self.constants[written] = value
+        self.rises.append(self.rises[-1] + (rise or 0))
+        self.stacks.append(self.stacks[-1] + (written == 2 and rise is None))
+
+    def rise_of(self, text):
+        """How far a step lets sp rise: by a constant, or by a register that holds one."""
+        found = re.fullmatch(r"(addi|add|sub) x2,x2,(x?)(-?\d+)", text)
+        if not found:
+            return None
+        rise = self.constants.get(int(found[3])) if found[2] else int(found[3])
+        return -rise if rise and found[1] == "sub" else rise
+
+    def constant_of(self, text):
+        """The constant that a step leaves in its register, or None: of `li` and `lui`."""
+        found = re.fullmatch(r"lui x\d+,(0x\w+)|addi x\d+,x(\d+),(-?\d+)", text)
+        if not found:
+            return None
+        if found[1]:
+            return int(found[1], 16) << 12
+        base = 0 if found[2] == "0" else self.constants.get(int(found[2]))
+        return None if base is None else (base + int(found[3]) + WORD // 2) % WORD - WORD // 2
 
     def calls_after(self, step, text):
         """The calls that the thread is in, as pairs of the last call's step and the others."""

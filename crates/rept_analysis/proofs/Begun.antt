@@ -1,7 +1,6 @@
 -- A log that begins with the last register values of all threads.
 use Rattle.std.specs.Prelude.{⊤}
-use Rattle.std.proofs.Common.{◌≡◌, ◌≢◌, ◌⊎◌, ℕ, ◌<◌, ◌≤◌, ltb, eqb, Bool, true, false, List, [], ◌∷◌, length, Option, Some, None, Result, Ok, Err, IfErr, slice_get, inl, inr, refl, sym, ap, subst, ◌∙◌, arith}
-use Rattle.std.proofs.lemmas.Option.{slice_get_within}
+use Rattle.std.proofs.Common.{◌≡◌, ◌≢◌, ◌⊎◌, ℕ, ◌<◌, ◌≤◌, ltb, eqb, Bool, true, false, List, [], ◌∷◌, length, Option, Some, None, Result, Ok, Err, IfErr, inl, inr, refl, sym, ap, subst, ◌∙◌, arith}
 use Rattle.std.proofs.lemmas.Bool.{cases_eq, cases_lt, cond-true, cond-false, lt-ltb, le-ltb, eq-eqb, ne_eqb}
 use Rattle.rept_isa.specs.declared.row.StepRow.{StepRow}
 use Rattle.rept_reason.specs.declared.fact.Fact.{Fact}
@@ -33,22 +32,22 @@ log_added false f old new is = inl is
 record IsEnd {W : Type 0} (S : Setting W) (p r v : ℕ) : Type 0 where
   last : IsLast S p
   named : 0 < r
-  value : slice_get (S.last p) r ≡ Some v
+  value : S.last p r ≡ Some v
 
 module _ {W : Type 0} (S : Setting W) where
-  pub ends_at : (p r v : ℕ) → IsLast S p → 0 < r → slice_get (S.last p) r ≡ Some v → ends_told S p (Register r) ≡ Some v
+  pub ends_at : (p r v : ℕ) → IsLast S p → 0 < r → S.last p r ≡ Some v → ends_told S p (Register r) ≡ Some v
   ends_at p r v last named is =
       cond-false (ltb S.legs.count p) None (value_at_end (S.legs.row p) (S.last p) r) (le-ltb S.legs.count p last.0)
       ∙ ap (λ (o : Option StepRow). value_at_end o (S.last p) r) last.1
-      ∙ cond-false (eqb r 0) None (slice_get (S.last p) r) (ne_eqb r 0 (omega (arith, named)))
+      ∙ cond-false (eqb r 0) None (S.last p r) (ne_eqb r 0 (omega (arith, named)))
       ∙ is
 
   end_by : (p r v : ℕ) → p ≤ S.legs.count → (o : Option StepRow) → S.legs.row p ≡ o → value_at_end o (S.last p) r ≡ Some v → IsEnd S p r v
   end_by p r v early (Some row) is e = absurd (none_some e)
   end_by p r v early None is e =
       elim (cases_eq r 0) [
-        | inl zero ↦ absurd (none_some (sym (cond-true (eqb r 0) None (slice_get (S.last p) r) (eq-eqb r 0 zero)) ∙ e))
-        | inr other ↦ record { last = (early, is); named = omega (arith, other); value = sym (cond-false (eqb r 0) None (slice_get (S.last p) r) (ne_eqb r 0 other)) ∙ e }
+        | inl zero ↦ absurd (none_some (sym (cond-true (eqb r 0) None (S.last p r) (eq-eqb r 0 zero)) ∙ e))
+        | inr other ↦ record { last = (early, is); named = omega (arith, other); value = sym (cond-false (eqb r 0) None (S.last p r) (ne_eqb r 0 other)) ∙ e }
       ]
 
   end_of : (p r v : ℕ) → ends_told S p (Register r) ≡ Some v → IsEnd S p r v
@@ -119,16 +118,18 @@ module _ {W : Type 0} (S : Setting W) where
 
 module _ {W : Type 0} (s : AnalysisState W) where
   -- a last value that was learnt
-  pub last_known_by : (p r w : ℕ) → slice_get (s.path.given.last p) r ≡ Some w → Knows p (Register r) w s → LastKnownAt p r s
+  pub last_known_by : (p r w : ℕ) → s.path.given.last p r ≡ Some w → Knows p (Register r) w s → LastKnownAt p r s
   last_known_by p r w found known v named is = known ∙ sym found ∙ is
+
+  -- where there is none, nothing was to be learnt
+  pub no_last_known : (p r : ℕ) → s.path.given.last p r ≡ None → LastKnownAt p r s
+  no_last_known p r none v named is = absurd (none_some (sym none ∙ is))
 
   -- those of all threads were
   pub ends_known : IsKept s → LastKnownBelow 32 s → KnowsEnds (along s.path) (told s.known.log)
   ends_known kept known p r v e =
       let its = end_of (along s.path) p r v e in
-      let inside = slice_get_within (s.path.given.last p) r v its.value in
-      let long = kept.registers p in
-      known r (omega (arith, inside, long)) p v its.last its.named its.value
+      known r (kept.registers p r v its.value) p v its.last its.named its.value
 
   -- where they alone don't show a conflict, and the facts do, they were learnt before anything else
   pub ends_first : HasLaws (along s.path) → (IsQuiet (along s.path) (told s.known.log) → ⊥) → IsQuiet (along s.path) (ends_told (along s.path)) → LearnsEndsFirst s → HasEndsFirst s
@@ -162,7 +163,7 @@ module _ {W : Type 0} (old new : AnalysisState W) where
 
   -- what is known at a last point is known where more is
   pub last_point_grows : Grows old new → (n p : ℕ) → LastPointKnown n p old → LastPointKnown n p new
-  last_point_grows grows n p known r inside v named is = grows.more p (Register r) v (known r inside v named (subst (λ (P : Subject W). slice_get (P.given.last p) r ≡ Some v) grows.path is))
+  last_point_grows grows n p known r inside v named is = grows.more p (Register r) v (known r inside v named (subst (λ (P : Subject W). P.given.last p r ≡ Some v) grows.path is))
 
   pub lasts_grow : Grows old new → (least : ℕ) → LastsBelow least old → LastsBelow least new
   lasts_grow grows least known p below last = last_point_grows grows 32 p (known p below (subst (λ (P : Subject W). IsLast (along P) p) grows.path last))

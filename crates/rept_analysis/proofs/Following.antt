@@ -97,7 +97,7 @@ kept_to s row i least end same h r named inside kept = elim (cases_lt r least) [
 pub back_known : {W : Type 0} (s : AnalysisState W) (i r : ℕ) (x : Flat) → x ≡ flat (register_known (told s.known.log) (i + 1) r) → IsLearntAt i r x s → (v : ℕ) → 0 < r → Knows (i + 1) (Register r) v s → Knows i (Register r) v s
 back_known s i r x read learnt v named h = learnt v (told_known s (i + 1) r v x read h named) named
 
-pub last_follows : {W : Type 0} (s : AnalysisState W) (p r v w : ℕ) → IsLast (along s.path) p → slice_get (s.path.given.last p) r ≡ Some w → Known w ≡ Known v → 0 < r → r < 32 → v < 2 ^ 32 → IsFollowing s (fact_of p (Register r) v)
+pub last_follows : {W : Type 0} (s : AnalysisState W) (p r v w : ℕ) → IsLast (along s.path) p → s.path.given.last p r ≡ Some w → Known w ≡ Known v → 0 < r → r < 32 → v < 2 ^ 32 → IsFollowing s (fact_of p (Register r) v)
 last_follows s p r v w at found is named in_file small quiet = record { early = at.0; cell = (named, in_file); word = small; by = last_value r at refl (found ∙ ap Some (same_flat is)) }
   where
     same_flat : {x y : ℕ} → Known x ≡ Known y → x ≡ y

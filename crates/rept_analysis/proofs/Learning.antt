@@ -368,7 +368,7 @@ module _ {W : Type 0} (s : AnalysisState W) (legs : AreLegs s.path.given.legs) (
   tracked_byte k (Ok true) h = (track_kept k h, (track_grows k h, address a small h.was_not (now_tracked k h), now_tracked k h, h.log, h.fact, refl))
 
 -- a new analysis
-pub fresh_kept : {W : Type 0} (s : AnalysisState W) (bytes : ℕ) → bytes ≡ sum_to (places_at s.path) (s.path.given.legs.count) → s.path.given.legs.count ≤ 66560 → ((p : ℕ) → length (s.path.given.last p) ≡ 32) → IsNew s.work.joins s.known (s.path.given.legs.count) bytes → s.spans.points ≡ s.path.given.legs.count + 1 → s.filled ≡ 0 → s.shown ≡ 0 → s.complete ≡ false → s.conflict ≡ None → s.path.given.moments.end < s.work.room → length s.work.inferred ≡ s.path.given.legs.count → ((i : ℕ) (x : Pass) → slice_get s.work.inferred i ≡ Some x → x ≡ Never) → IsKept s
+pub fresh_kept : {W : Type 0} (s : AnalysisState W) (bytes : ℕ) → bytes ≡ sum_to (places_at s.path) (s.path.given.legs.count) → s.path.given.legs.count ≤ 66560 → ((p r v : ℕ) → s.path.given.last p r ≡ Some v → r < 32) → IsNew s.work.joins s.known (s.path.given.legs.count) bytes → s.spans.points ≡ s.path.given.legs.count + 1 → s.filled ≡ 0 → s.shown ≡ 0 → s.complete ≡ false → s.conflict ≡ None → s.path.given.moments.end < s.work.room → length s.work.inferred ≡ s.path.given.legs.count → ((i : ℕ) (x : Pass) → slice_get s.work.inferred i ≡ Some x → x ≡ Never) → IsKept s
 fresh_kept s bytes sum few registers new sized filled shown open_ calm_ room rows never = record {
   few = few;
   registers = registers;

@@ -1,5 +1,5 @@
 -- With which facts a log begins: the last register values of all threads. This project's own.
-use Rattle.std.specs.Prelude.{◌≡◌, ℕ, ◌≤◌, ◌==◌, nat_lt, ◌⊎◌, if◌then◌else◌, List, ◌∷◌, length, Option, Some, None, slice_get}
+use Rattle.std.specs.Prelude.{◌≡◌, ℕ, ◌≤◌, ◌==◌, nat_lt, ◌⊎◌, if◌then◌else◌, List, ◌∷◌, length, Option, Some, None}
 use Rattle.rept_isa.specs.declared.row.StepRow.{StepRow}
 use Rattle.rept_reason.specs.declared.fact.Fact.{Fact}
 use Rattle.rept_reason.specs.declared.fact.Cell.TheVariants.{Register, Byte}
@@ -10,8 +10,8 @@ use Rattle.rept_analysis.specs.State.{AnalysisState, along}
 
 -- the value of a register other than x0 at the last point of a thread, by the row that leads from
 -- the point, if one does
-abbrev pub value_at_end : Option StepRow → List ℕ → ℕ → Option ℕ
-value_at_end None values r = if r == 0 then None else slice_get values r
+abbrev pub value_at_end : Option StepRow → (ℕ → Option ℕ) → ℕ → Option ℕ
+value_at_end None values r = if r == 0 then None else values r
 value_at_end (Some row) values r = None
 
 -- what the last register values of all threads tell, and nothing else

@@ -209,7 +209,7 @@ RowsClosedBelow n s = (i : ℕ) → i < n → IsRowClosed i s
 
 -- the last value of a register is known at a point
 abbrev pub LastKnownAt : {W : Type 0} → ℕ → ℕ → AnalysisState W → Type 0
-LastKnownAt p r s = (v : ℕ) → 0 < r → slice_get (s.path.given.last p) r ≡ Some v → Knows p (Register r) v s
+LastKnownAt p r s = (v : ℕ) → 0 < r → s.path.given.last p r ≡ Some v → Knows p (Register r) v s
 
 -- so are those of the registers below x(n)
 abbrev pub LastPointKnown : {W : Type 0} → ℕ → ℕ → AnalysisState W → Type 0
@@ -217,7 +217,7 @@ LastPointKnown n p s = (r : ℕ) → r < n → LastKnownAt p r s
 
 -- the last value of a register is known at the last point of each thread
 abbrev pub LastKnown : {W : Type 0} → ℕ → AnalysisState W → Type 0
-LastKnown r s = (p v : ℕ) → IsLast (along s.path) p → 0 < r → slice_get (s.path.given.last p) r ≡ Some v → Knows p (Register r) v s
+LastKnown r s = (p v : ℕ) → IsLast (along s.path) p → 0 < r → s.path.given.last p r ≡ Some v → Knows p (Register r) v s
 
 -- so are those of the registers below x(n)
 abbrev pub LastKnownBelow : {W : Type 0} → ℕ → AnalysisState W → Type 0

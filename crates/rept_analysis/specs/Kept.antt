@@ -63,7 +63,7 @@ IsPass row i Cut s = Unit {0}
 
 pub record IsKept {W : Type 0} (s : AnalysisState W) : Type 0 where
   pub few : s.path.given.legs.count ≤ 66560
-  pub registers : (p : ℕ) → length (s.path.given.last p) ≡ 32
+  pub registers : (p r v : ℕ) → s.path.given.last p r ≡ Some v → r < 32
   pub last_is : s.known.last ≡ s.path.given.legs.count
   pub sized : s.spans.points ≡ s.path.given.legs.count + 1
   pub filled : s.filled ≤ length s.known.log

@@ -63,13 +63,12 @@ pub record AnalysisState (W : Type 0) : Type 0 where
   pub conflict : Option ConflictKind
   pub work : Work
 
--- how rows and moments are read, and the values of registers x0 to x31 at the last point of each
--- thread
+-- how rows and moments are read, and the values of registers at the last point of each thread
 pub record Reader (P L : Type 0) : Type 0 where
   pub timeline : P → Timeline
-  pub last : L → ℕ → List ℕ
+  pub last : L → ℕ → ℕ → Option ℕ
 
-abbrev pub reader : {P L : Type 0} → (P → Timeline) → (L → ℕ → List ℕ) → Reader P L
+abbrev pub reader : {P L : Type 0} → (P → Timeline) → (L → ℕ → ℕ → Option ℕ) → Reader P L
 reader timeline last = record { timeline = timeline; last = last }
 
 -- what is given: the rows and moments, the last values of registers and the dump

@@ -171,7 +171,7 @@ impl<'a, P: Reaches + Drop, L: LastValues + Drop, B: ByteFacts, W: Transfer, R: 
         rules: R,
     ) -> Result<Analysis<'a, P, L, B, W, R>, OutOfMemory>
         requires few { (P.timeline paths).legs.count ≤ 66560 }
-        requires registers { (p : ℕ) → length (L.values last p) ≡ 32 }
+        requires registers { (p r v : ℕ) → L.values last p r ≡ Some v → r < 32 }
         ensures path { IfOk result (λ a. (a.paths ≡ paths) × (a.last ≡ last)) }
         ensures memory { IfOk result (λ a. (a.exe ≡ exe_of dump.now) × (a.core ≡ core_of dump.now)) }
         ensures begins { IfOk result (λ a. LearnsEndsFirst (state_of (reader P.timeline L.values) W.sets W.moves R.rules B.store a)) }
@@ -249,9 +249,9 @@ impl<'a, P: Reaches + Drop, L: LastValues + Drop, B: ByteFacts, W: Transfer, R: 
         self.paths.row(i)
     }
 
-    /// The value of a register at the last point of a thread.
-    fn last_value(&self, point: u32, r: Reg) -> u32
-        ensures { slice_get ((given_of (reader P.timeline L.values) self.now).last point) r ≡ Some result }
+    /// The value of a register at the last point of a thread, if it has one.
+    fn last_value(&self, point: u32, r: Reg) -> Option<u32>
+        ensures { result ≡ (given_of (reader P.timeline L.values) self.now).last point r }
     {
         self.last.value(point, r)
     }

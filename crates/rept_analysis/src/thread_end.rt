@@ -1,6 +1,6 @@
 //! The values of registers where one thread ends.
 
-ghost use Rattle.std.specs.Prelude.{◌≡◌, length};
+ghost use Rattle.std.specs.Prelude.{◌≡◌, length, slice_get};
 
 use rept_isa::Reg;
 use rept_log::LastValues;
@@ -22,10 +22,10 @@ impl ThreadEnd {
 }
 
 impl LastValues for ThreadEnd {
-    ghost values = { λ end point. end.values };
+    ghost values = { λ end point r. slice_get end.values r };
 
-    fn value(&self, point: u32, r: Reg) -> u32 {
+    fn value(&self, point: u32, r: Reg) -> Option<u32> {
         let _point = point;
-        self.values[r.number() as usize]
+        Some(self.values[r.number() as usize])
     }
 }

@@ -1,11 +1,12 @@
 -- What is written of a made run, and how it ends the call.
-use Rattle.std.proofs.Common.{◌≡◌, ℕ, zero, suc, ◌+◌, ◌*◌, ◌<◌, ◌≤◌, eqb, List, [], ◌∷◌, length, map, slice_index, get_or, Option, None, Some, Result, Ok, Err, MatchOption, inl, inr, refl, sym, ap, subst, ◌∙◌, arith, Bool, true, false}
+use Rattle.std.proofs.Common.{◌≡◌, ℕ, zero, suc, ◌+◌, ◌*◌, ◌<◌, ◌≤◌, eqb, cond, ◌&&◌, List, [], ◌∷◌, length, map, slice_get, slice_index, get_or, Option, None, Some, Result, Ok, Err, MatchOption, inl, inr, refl, sym, ap, subst, ◌∙◌, arith, Bool, true, false}
 use Rattle.std.specs.List.{range_with_len}
 use Rattle.std.proofs.lemmas.Bool.{cond-false, ne_eqb}
 use Rattle.std.proofs.lemmas.List.FromFn.{length-range_with_len, get_or-range_with_len}
 use Rattle.rept_elf.specs.Header.{word_at}
 use Rattle.rept_elf.specs.declared.fault.ElfFault.{ElfFault}
 use Rattle.rept_dump.specs.Memory.{of_executable}
+use Rattle.rept_dump.specs.Program.{Program}
 use Rattle.rept_dump.specs.Program.Program.{OneFile}
 use Rattle.rept_dump.specs.declared.fault.CoreFault.{CoreFault}
 use Rattle.rept_isa.specs.declared.row.StepRow.{StepRow}
@@ -24,7 +25,7 @@ use Rattle.rept_ports.specs.Port.{Port, PortMove, move}
 use Rattle.rept_report.specs.Closure.{ClosureHas, IsConsistent}
 use Rattle.rept_report.specs.OneThread.{path_setting}
 use Rattle.rept_report.specs.declared.conflict.ConflictKind.{ConflictKind}
-use Rattle.rept_found.specs.Crash.{Crash, last_value, last_values, path_of, setting}
+use Rattle.rept_found.specs.Crash.{Crash, end_pc, is_restarted, last_value, last_values, left_of, path_of, setting}
 use Rattle.rept_found.specs.Truth.{ExecutesPath, HasNoExecutionOfPath}
 use Rattle.rept_make.specs.Files.{bytes_of_words}
 use Rattle.rept_make.specs.Laid.{laid}
@@ -79,6 +80,17 @@ last_at note r above below =
     let here : get_or (range_with_len 0 32) r 0 ≡ r = omega (arith, get_or-range_with_len 0 32 r 0 below) in
     mapped_at (last_value note) (range_with_len 0 32) r (omega arith) ∙ ap (last_value note) here ∙ register_at note r above
 
+-- what is left of the registers was saved of them
+left_saved : (program : Program) (note : List ℕ) (r v : ℕ) → left_of program note r ≡ Some v → slice_get (last_values note) r ≡ Some v
+left_saved program note r v = by (eqb r 17 && is_restarted program (end_pc note) (slice_index (last_values note) 17))
+  where
+    none_some : None ≡ Some v → ⊥
+    none_some e = cc
+
+    by : (hidden : Bool) → cond hidden None (slice_get (last_values note) r) ≡ Some v → slice_get (last_values note) r ≡ Some v
+    by true e = absurd (none_some e)
+    by false e = e
+
 abbrev path_along : List StepRow → Path
 path_along rows = record { steps = rows; skipped = 0 }
 
@@ -111,7 +123,14 @@ module _ (seed steps : ℕ) (made : Made) (m : IsMade seed steps made) where
   states_made = λ i. laid (bytes_of_words m.words) (m.run i)
 
   runs_made : ExecutesPath (path_of (means_of domain.Ranges) crash_made m.rows) states_made
-  runs_made = m.execution (last_values m.status) (last_size m.status) (λ r above below. last_at m.status r above below)
+  runs_made =
+      let x = m.execution (last_values m.status) (last_size m.status) (λ r above below. last_at m.status r above below) in
+      record {
+        states = x.states;
+        steps = x.steps;
+        registers_end = λ r v some is. x.registers_end r v some (left_saved (OneFile made.exe) m.status r v is);
+        bytes_end = x.bytes_end;
+      }
 
   abbrev opening_made : Opening
   opening_made = record { bytes = made_bytes made; notes = m.status ∷ []; run = run_made }

@@ -1,71 +1,109 @@
 -- A run that was found between two packets.
-use Rattle.std.proofs.Common.{◌≡◌, ◌≢◌, ◌⊎◌, ◌<◌, ◌≤◌, ◌-◌, ◌∙◌, ℕ, suc, List, Option, None, Some, Result, Ok, Err, inl, inr, refl, sym, subst, arith}
+use Rattle.std.proofs.Common.{◌≡◌, ◌≢◌, ◌⊎◌, ◌<◌, ◌≤◌, ◌-◌, ◌∙◌, ℕ, suc, List, length, Option, None, Some, Result, Ok, Err, inl, inr, refl, sym, subst, arith}
 use Rattle.std.specs.Prelude.{MatchOption}
+use Rattle.std.proofs.lemmas.Bool.{cases_lt}
 use Rattle.rept_steps.specs.declared.run.Run.{Run}
 use Rattle.rept_path.specs.declared.fault.PathFault.{PathFault}
 use Rattle.rept_path.specs.declared.fault.PathFault.TheVariants as fault
 use Rattle.rept_found.specs.Crash.{Crash}
-use Rattle.rept_opening.specs.TraceRun.{HasNoRunOf, IsRunOf}
-use Rattle.rept_debug.specs.Begin.{AreBegun, BeginsAt, HasNoStart, MayEndSearch, NeverBegins}
+use Rattle.rept_opening.specs.TraceRun.{HasNoRunOf, IsRunOf, IsRunRead}
+use Rattle.rept_debug.specs.Begin.{AreBegun, BeginsAt, DoRunsGoOn, HasNoRun, HasNoStart, IsRefusedAt, IsTooLong, MayEndSearch, NeverBegins}
 use Rattle.rept_debug.specs.declared.begin.RunFrom.{RunFrom}
 
--- from the packet `high` on, which comes after the packet `low`
-pub record IsSought (crash : Crash) (trace : List ℕ) (low high : ℕ) (run : Run) : Type 0 where
-  pub after : low < high
-  pub is : IsRunOf crash trace high run
-
 module _ (crash : Crash) (trace : List ℕ) where
-  -- a run that has too many steps
-  pub is_long : (from packet : ℕ) (e : PathFault) → e ≡ fault.TooLong packet → (e ≡ fault.OutOfMemory) ⊎ HasNoRunOf crash trace from e → HasNoRunOf crash trace from (fault.TooLong packet)
-  is_long from packet e is (inl memory) = let no : fault.TooLong packet ≡ fault.OutOfMemory = sym is ∙ memory in let bad : ⊥ = cc in absurd bad
-  is_long from packet e is (inr has) = subst (λ (x : PathFault). HasNoRunOf crash trace from x) is has
-
   -- no run begins at a packet
-  pub has_no_start : (from : ℕ) (e : PathFault) → ((count : ℕ) × (e ≡ fault.NoStart count)) → (e ≡ fault.OutOfMemory) ⊎ HasNoRunOf crash trace from e → HasNoStart crash trace from
-  has_no_start from e (count, is) (inl memory) = let no : fault.NoStart count ≡ fault.OutOfMemory = sym is ∙ memory in let bad : ⊥ = cc in absurd bad
-  has_no_start from e (count, is) (inr has) = inl (count, subst (λ (x : PathFault). HasNoRunOf crash trace from x) is has)
+  pub has_no_start : (from : ℕ) (e : PathFault) → ((count : ℕ) × (e ≡ fault.NoStart count)) → IsRunRead crash trace from (Err e) → HasNoStart crash trace from
+  has_no_start from e (count, is) read = by read.refusal
+    where
+      by : (e ≡ fault.OutOfMemory) ⊎ HasNoRunOf crash trace from e → HasNoStart crash trace from
+      by (inl memory) = let no : fault.NoStart count ≡ fault.OutOfMemory = sym is ∙ memory in let bad : ⊥ = cc in absurd bad
+      by (inr has) = inl (count, subst (λ (x : PathFault). HasNoRunOf crash trace from x) is has)
 
-  -- what is at the higher end of the search
-  end_is : (low high : ℕ) (found : Option Run) → MatchOption found (HasNoStart crash trace high) (IsSought crash trace low high) → MayEndSearch crash trace high
-  end_is low high None none = inr none
-  end_is low high (Some run) sought = inl (run, sought.is)
+  -- a run that is refused, and neither for want of a start nor of memory
+  pub refused_at : (from : ℕ) (e : PathFault) → (e ≢ fault.OutOfMemory) × ((count : ℕ) → e ≢ fault.NoStart count) → IsRunRead crash trace from (Err e) → IsRefusedAt crash trace from e
+  refused_at from e (other, started) read = record {
+    fails = by read.refusal;
+    not_start = started;
+    none = λ run is. other (read.only_run run is);
+    starts = λ count has. only count (read.only_refusal (fault.NoStart count) has);
+  }
+    where
+      by : (e ≡ fault.OutOfMemory) ⊎ HasNoRunOf crash trace from e → HasNoRunOf crash trace from e
+      by (inl memory) = absurd (other memory)
+      by (inr has) = has
 
-  -- where a later run fails
-  pub cut_there : (packet low from high too_long : ℕ) (e : PathFault) (found : Option Run) → HasNoRunOf crash trace 0 (fault.TooLong packet) → HasNoRunOf crash trace low (fault.TooLong too_long) → low < from → from < high
-      → MatchOption found (HasNoStart crash trace high) (IsSought crash trace low high) → ((n : ℕ) → e ≢ fault.TooLong n) → ((n : ℕ) → e ≢ fault.NoStart n) → (e ≡ fault.OutOfMemory) ⊎ HasNoRunOf crash trace from e
-      → (e ≡ fault.OutOfMemory) ⊎ NeverBegins crash trace 0 e
-  cut_there packet low from high too_long e found first long after before sought not_long no_end (inl memory) = inl memory
-  cut_there packet low from high too_long e found first long after before sought not_long no_end (inr has) =
-      inr
-      (inr (
+      only : (count : ℕ) → (e ≡ fault.OutOfMemory) ⊎ (e ≡ fault.NoStart count) → ⊥
+      only count (inl memory) = other memory
+      only count (inr none) = started count none
+
+  -- a run that has too many steps
+  pub long_at : (from : ℕ) (e : PathFault) → ((packet : ℕ) × (e ≡ fault.TooLong packet)) → IsRunRead crash trace from (Err e) → IsTooLong crash trace from
+  long_at from e (packet, is) read = by read.refusal
+    where
+      by : (e ≡ fault.OutOfMemory) ⊎ HasNoRunOf crash trace from e → IsTooLong crash trace from
+      by (inl memory) = let no : fault.TooLong packet ≡ fault.OutOfMemory = sym is ∙ memory in let bad : ⊥ = cc in absurd bad
+      by (inr has) = (packet, subst (λ (x : PathFault). HasNoRunOf crash trace from x) is has)
+
+  pub refused_long : (from : ℕ) (e : PathFault) → ((packet : ℕ) × (e ≡ fault.TooLong packet)) → IsRunRead crash trace from (Err e) → IsRefusedAt crash trace from e
+  refused_long from e (packet, is) read =
+      refused_at from e (
+        λ memory. (let no : fault.TooLong packet ≡ fault.OutOfMemory = sym is ∙ memory in let bad : ⊥ = cc in bad),
+        λ count none. (let no : fault.TooLong packet ≡ fault.NoStart count = sym is ∙ none in let bad : ⊥ = cc in bad),
+      )
+      read
+
+  -- no run from a packet before one that is refused, if runs go on
+  before_low : (low i : ℕ) (e : PathFault) (run : Run) → IsRefusedAt crash trace low e → DoRunsGoOn crash trace → i ≤ low → low < length trace → IsRunOf crash trace i run → ⊥
+  before_low low i e run refused go before inside is = by (go.runs i low run before is)
+    where
+      by : MayEndSearch crash trace low → ⊥
+      by (inl (other, told)) = refused.none other told
+      by (inr (inl (count, has))) = refused.starts count has
+      by (inr (inr past)) = omega (arith, past, inside)
+
+  -- a run that was found directly after a packet from which there is none
+  pub next_to : (low high : ℕ) (e : PathFault) → IsTooLong crash trace 0 → IsRefusedAt crash trace low e → low < high → high - low ≤ 1 → (0 < length trace → high ≤ length trace) → BeginsAt crash trace 0 high
+  next_to low high e long refused after near inside =
+      let next : high ≡ suc low = omega arith in
+      inr (
         refl,
-        (packet, first),
-        inr
-            (record { low = low; from = from; high = high; after = after; before = before; long = (too_long, long); end = end_is low high found sought; fails = has; not_long = not_long; no_end = no_end }),
-      ))
+        long,
+        record {
+          before = low;
+          next = next;
+          long = refused.none;
+          first = λ go i below there run is. before_low low i e run refused go (omega arith) (let few = inside (omega arith) in omega (arith, few, after)) is;
+        },
+      )
 
   -- where the next packet has no start
-  pub long_to_the_end : (packet low high too_long : ℕ) → HasNoRunOf crash trace 0 (fault.TooLong packet) → HasNoRunOf crash trace low (fault.TooLong too_long) → low < high → high - low ≤ 1 → HasNoStart crash trace high
-      → (fault.TooLong too_long ≡ fault.OutOfMemory) ⊎ NeverBegins crash trace 0 (fault.TooLong too_long)
-  long_to_the_end packet low high too_long first long order near none =
+  pub fault_to_the_end : (low high : ℕ) (e : PathFault) → IsTooLong crash trace 0 → IsRefusedAt crash trace low e → low < high → high - low ≤ 1 → (0 < length trace → high ≤ length trace) → HasNoStart crash trace high → (e ≡ fault.OutOfMemory) ⊎ NeverBegins crash trace 0 e
+  fault_to_the_end low high e long refused after near inside none =
       let next : high ≡ suc low = omega arith in
-      inr (inr (refl, (packet, first), inl (record { from = low; packet = too_long; is = refl; long = long; next = subst (HasNoStart crash trace) next none })))
-
-  -- a run that was found directly after a packet from which it is too long
-  pub next_to : (packet low high too_long : ℕ) (run : Run) → HasNoRunOf crash trace 0 (fault.TooLong packet) → HasNoRunOf crash trace low (fault.TooLong too_long) → high - low ≤ 1 → IsSought crash trace low high run → BeginsAt crash trace 0 high
-  next_to packet low high too_long run long after near found = inr (refl, (packet, long), (low, (let above = found.after in omega arith), (too_long, after)))
-
-  -- what was found stays found from a later packet on
-  pub still_sought : (low middle high : ℕ) (found : Option Run) → middle < high → MatchOption found (HasNoStart crash trace high) (IsSought crash trace low high) → MatchOption found (HasNoStart crash trace high) (IsSought crash trace middle high)
-  still_sought low middle high None above h = h
-  still_sought low middle high (Some run) above h = record { after = above; is = h.is }
+      inr (inr (
+        refl,
+        long,
+        record {
+          from = low;
+          refused = refused;
+          next = subst (HasNoStart crash trace) next none;
+          nowhere = λ go i below there run is.
+              elim (cases_lt i high) [
+                | inl early ↦ before_low low i e run refused go (omega arith) (let few = inside (omega arith) in omega (arith, few, after)) is
+                | inr late ↦ go.none high i late none run is
+              ];
+        },
+      ))
 
   -- the first packet, where none after it is asked for
   first_packet_asked : (from : ℕ) → from ≤ 0 → from ≡ 0
   first_packet_asked from h = omega arith
 
-  pub at_first : (from : ℕ) (e : PathFault) → from ≤ 0 → HasNoRunOf crash trace from e → HasNoRunOf crash trace 0 e
-  at_first from e h has = subst (λ (n : ℕ). HasNoRunOf crash trace n e) (first_packet_asked from h) has
+  pub long_first : (from : ℕ) → from ≤ 0 → IsTooLong crash trace from → IsTooLong crash trace 0
+  long_first from h has = subst (IsTooLong crash trace) (first_packet_asked from h) has
+
+  pub refused_first : (from : ℕ) (e : PathFault) → from ≤ 0 → IsRefusedAt crash trace from e → IsRefusedAt crash trace 0 e
+  refused_first from e h has = subst (λ (n : ℕ). IsRefusedAt crash trace n e) (first_packet_asked from h) has
 
   -- what is begun where that is asked for
   pub begun_first : (from : ℕ) (r : Result RunFrom PathFault) → from ≤ 0 → AreBegun crash trace 0 r → AreBegun crash trace from r
@@ -89,7 +127,3 @@ module _ (crash : Crash) (trace : List ℕ) where
   pub too_long_later : (from : ℕ) (e : PathFault) → 0 < from → (e ≡ fault.OutOfMemory) ⊎ HasNoRunOf crash trace from e → (e ≡ fault.OutOfMemory) ⊎ NeverBegins crash trace from e
   too_long_later from e later (inl memory) = inl memory
   too_long_later from e later (inr has) = inr (inl (has, inl later))
-
--- a refusal for want of a start isn't one of too many steps
-pub no_start_is_not_long : (e : PathFault) → ((count : ℕ) × (e ≡ fault.NoStart count)) → (packet : ℕ) → e ≢ fault.TooLong packet
-no_start_is_not_long e (count, is) packet long = let no : fault.NoStart count ≡ fault.TooLong packet = sym is ∙ long in let bad : ⊥ = cc in absurd bad

@@ -15,9 +15,9 @@ IsTooLong crash trace from = (packet : ℕ) × HasNoRunOf crash trace from (TooL
 
 -- what the search for a later packet tells apart in a refusal
 abbrev pub IsKind : PathFault → RefusalKind → Type 0
-IsKind fault (kind.TooLong packet) = fault ≡ TooLong packet
 IsKind fault kind.NoStart = (count : ℕ) × (fault ≡ NoStart count)
-IsKind fault kind.Other = ((packet : ℕ) → fault ≢ TooLong packet) × ((count : ℕ) → fault ≢ NoStart count)
+IsKind fault kind.OutOfMemory = fault ≡ OutOfMemory
+IsKind fault kind.Other = (fault ≢ OutOfMemory) × ((count : ℕ) → fault ≢ NoStart count)
 
 -- From the packet of this number on there is no start: no start packet may begin the run, or a
 -- packet comes where only one may, as `NoStart` tells; or there are not so many packets, since the
@@ -29,34 +29,45 @@ HasNoStart crash trace from = ((count : ℕ) × HasNoRunOf crash trace from (NoS
 abbrev pub MayEndSearch : Crash → List ℕ → ℕ → Type 0
 MayEndSearch crash trace from = ((run : Run) × IsRunOf crash trace from run) ⊎ HasNoStart crash trace from
 
--- the packet that is asked for; or, where that is the first one and the run from there has too many
--- steps, a later one, while the run from the packet before it has too many
-abbrev pub BeginsAt : Crash → List ℕ → ℕ → ℕ → Type 0
-BeginsAt crash trace asked from =
-    (from ≡ asked)
-    ⊎ ((asked ≡ 0) × IsTooLong crash trace 0 × ((before : ℕ) × (from ≡ suc before) × IsTooLong crash trace before))
+-- from the packet of this number on there is no run
+abbrev pub HasNoRun : Crash → List ℕ → ℕ → Type 0
+HasNoRun crash trace from = (run : Run) → IsRunOf crash trace from run → ⊥
 
--- the run from a packet has too many steps, and from the next one on there is no start
-pub record IsLongToTheEnd (crash : Crash) (trace : List ℕ) (fault : PathFault) : Type 0 where
-  pub from : ℕ
-  pub packet : ℕ
-  pub is : fault ≡ TooLong packet
-  pub long : HasNoRunOf crash trace from (TooLong packet)
-  pub next : HasNoStart crash trace (suc from)
-
--- the run from a packet has another fault than that; the packet is between one from which the run
--- has too many steps, and one from which there is a run, or no start
-pub record IsFaultBetween (crash : Crash) (trace : List ℕ) (fault : PathFault) : Type 0 where
-  pub low : ℕ
-  pub from : ℕ
-  pub high : ℕ
-  pub after : low < from
-  pub before : from < high
-  pub long : IsTooLong crash trace low
-  pub end : MayEndSearch crash trace high
+-- the run from the packet of this number on is refused for this fault, and not for want of a start
+pub record IsRefusedAt (crash : Crash) (trace : List ℕ) (from : ℕ) (fault : PathFault) : Type 0 where
   pub fails : HasNoRunOf crash trace from fault
-  pub not_long : (packet : ℕ) → fault ≢ TooLong packet
-  pub no_end : (count : ℕ) → fault ≢ NoStart count
+  pub not_start : (count : ℕ) → fault ≢ NoStart count
+  pub none : HasNoRun crash trace from
+  pub starts : (count : ℕ) → HasNoRunOf crash trace from (NoStart count) → ⊥
+
+-- Where there is a run from a packet on, there is one from each later packet on, or no start; and
+-- where there is no start, there is no run from a later packet on.
+pub record DoRunsGoOn (crash : Crash) (trace : List ℕ) : Type 0 where
+  pub runs : (from later : ℕ) (run : Run) → from ≤ later → IsRunOf crash trace from run → MayEndSearch crash trace later
+  pub none : (from later : ℕ) → from ≤ later → HasNoStart crash trace from → HasNoRun crash trace later
+
+-- if runs go on so, there is none from a packet of the trace before the one of this number
+abbrev pub HasNoRunBefore : Crash → List ℕ → ℕ → Type 0
+HasNoRunBefore crash trace from = DoRunsGoOn crash trace → (i : ℕ) → i < from → i < length trace → HasNoRun crash trace i
+
+-- a packet from which there is a run, while there is none from the packet before it
+pub record IsFirstFitting (crash : Crash) (trace : List ℕ) (from : ℕ) : Type 0 where
+  pub before : ℕ
+  pub next : from ≡ suc before
+  pub long : HasNoRun crash trace before
+  pub first : HasNoRunBefore crash trace from
+
+-- the packet that is asked for; or, where that is the first one and the run from there has too many
+-- steps, a later one, before which there is none
+abbrev pub BeginsAt : Crash → List ℕ → ℕ → ℕ → Type 0
+BeginsAt crash trace asked from = (from ≡ asked) ⊎ ((asked ≡ 0) × IsTooLong crash trace 0 × IsFirstFitting crash trace from)
+
+-- The run from a packet on is refused for this fault, and from the next packet on there is no start.
+pub record IsFaultToTheEnd (crash : Crash) (trace : List ℕ) (fault : PathFault) : Type 0 where
+  pub from : ℕ
+  pub refused : IsRefusedAt crash trace from fault
+  pub next : HasNoStart crash trace (suc from)
+  pub nowhere : HasNoRunBefore crash trace (length trace)
 
 -- there is no run from the packet that is asked for, which isn't the first one, or whose fault
 -- isn't that of too many steps; or it is the first one, its run has too many, and there is none
@@ -64,7 +75,7 @@ pub record IsFaultBetween (crash : Crash) (trace : List ℕ) (fault : PathFault)
 abbrev pub NeverBegins : Crash → List ℕ → ℕ → PathFault → Type 0
 NeverBegins crash trace asked fault =
     (HasNoRunOf crash trace asked fault × ((0 < asked) ⊎ ((packet : ℕ) → fault ≢ TooLong packet)))
-    ⊎ ((asked ≡ 0) × IsTooLong crash trace 0 × (IsLongToTheEnd crash trace fault ⊎ IsFaultBetween crash trace fault))
+    ⊎ ((asked ≡ 0) × IsTooLong crash trace 0 × IsFaultToTheEnd crash trace fault)
 
 -- what is begun of a trace, where a packet is asked for: a run of it, from that packet or a later
 -- one; or why there is none. Want of memory is none of the definition's.

@@ -1,12 +1,12 @@
 //! The packet from which a run is rebuilt.
 
-ghost use Rattle.std.specs.Prelude.{◌≡◌, ◌<◌, ◌^◌, ℕ, List, length, IfOk};
-ghost use Rattle.rept_path.specs.declared.fault.PathFault.TheVariants as fault;
+ghost use Rattle.std.specs.Prelude.{◌≡◌, ◌≢◌, ◌<◌, ◌^◌, ℕ, List, length, true, false, IfOk};
+ghost use Rattle.rept_path.specs.declared.fault.PathFault.TheVariants as faults;
 ghost use Rattle.rept_runs.specs.Kind.{is_several};
 ghost use Rattle.rept_found.specs.Crash.{crash_of};
 ghost use Rattle.rept_opening.specs.Reading.{AreNotesOf, HasNotes};
-ghost use Rattle.rept_opening.specs.TraceRun.{FitsDump, HasNoRunOf};
-ghost use Rattle.rept_debug.specs.Begin.{AreBegun, IsKind};
+ghost use Rattle.rept_opening.specs.TraceRun.{FitsDump};
+ghost use Rattle.rept_debug.specs.Begin.{AreBegun, IsKind, IsRefusedAt, IsTooLong};
 
 use rept_dump::Dump;
 use rept_opening::trace_run;
@@ -24,10 +24,11 @@ pub struct RunFrom {
 }
 
 /// The run of a trace from the packet of this number on. From packet 0 on, where that run has more
-/// than 65,536 steps, the run from a later packet that has not, while the run from the packet
-/// before that one has: nobody should find it by trial. It is refused where the run from a packet
-/// has more steps and from the next one on there is no start (`NoStart`), and where one of the runs
-/// that are tried between two such packets has another fault.
+/// than 65,536 steps, the run from a later packet, while there is none from the packet before that
+/// one: nobody should find it by trial. It is refused only where there is no run from a packet on,
+/// by the fault that is given, and from the next packet on there is no start (`NoStart`). If each
+/// packet after one from which there is a run has one too, or no start, it is the first packet from
+/// which there is a run, and where it is refused there is none.
 pub fn begin_run(
     alloc: Global,
     trace: &[u8],
@@ -43,24 +44,32 @@ pub fn begin_run(
         Ok(run) => return Ok(RunFrom { from, run }),
         Err(fault) => fault,
     };
-    match kind_of(fault) {
-        RefusalKind::TooLong(packet) => {
-            if from > 0 {
-                return Err(fault);
-            }
-            later_run(alloc, trace, dump, packet)
-        }
-        RefusalKind::NoStart => Err(fault),
-        RefusalKind::Other => Err(fault),
+    if from > 0 {
+        return Err(fault);
+    }
+    if is_too_long(fault) {
+        return later_run(alloc, trace, dump, fault);
+    }
+    Err(fault)
+}
+
+/// Whether a run has too many steps.
+fn is_too_long(fault: PathFault) -> bool
+    ensures yes { result ≡ true → (packet : ℕ) × (fault ≡ faults.TooLong packet) }
+    ensures no { result ≡ false → (packet : ℕ) → fault ≢ faults.TooLong packet }
+{
+    match fault {
+        PathFault::TooLong(_) => true,
+        _ => false,
     }
 }
 
 /// What the search for a later packet tells apart in a refusal.
 enum RefusalKind {
-    /// too many steps, at this packet
-    TooLong(u32),
     /// no start
     NoStart,
+    /// no memory
+    OutOfMemory,
     /// every other one
     Other,
 }
@@ -70,30 +79,31 @@ fn kind_of(fault: PathFault) -> RefusalKind
     ensures { IsKind fault result }
 {
     match fault {
-        PathFault::TooLong(packet) => RefusalKind::TooLong(packet),
         PathFault::NoStart(_) => RefusalKind::NoStart,
+        PathFault::OutOfMemory => RefusalKind::OutOfMemory,
         _ => RefusalKind::Other,
     }
 }
 
 /// The run from a later packet than the first one, from which it is too long, sought by halves:
-/// from `low` on it is too long, and from `high` on there is a run or no start. `packet` is the one
-/// at which the run from the first one passes the limit.
+/// from `low` on there is no run, and from `high` on there is one or no start. `first` is the fault
+/// of the run from the first packet on.
 fn later_run(
     alloc: Global,
     trace: &[u8],
     dump: &Dump<'_>,
-    packet: u32,
+    first: PathFault,
 ) -> Result<RunFrom, PathFault>
     requires small { length trace.now < 2 ^ 32 }
     requires noted { HasNotes (is_several trace.now) dump.now }
-    requires long { (notes : List (List ℕ)) → AreNotesOf dump.now notes → HasNoRunOf (crash_of dump.now notes) trace.now 0 (fault.TooLong packet) }
+    requires long { (notes : List (List ℕ)) → AreNotesOf dump.now notes → IsTooLong (crash_of dump.now notes) trace.now 0 }
+    requires refused { (notes : List (List ℕ)) → AreNotesOf dump.now notes → IsRefusedAt (crash_of dump.now notes) trace.now 0 first }
     ensures begun { (notes : List (List ℕ)) → AreNotesOf dump.now notes → AreBegun (crash_of dump.now notes) trace.now 0 result }
     ensures fits { IfOk result (λ begun. FitsDump dump.now begun.run) }
 {
     let mut low = 0;
     let mut high = (trace.len() as u32).max(1);
-    let mut too_long = packet;
+    let mut fault = first;
     let mut found = None;
     while high - low > 1 {
         let middle = low + (high - low) / 2;
@@ -102,21 +112,21 @@ fn later_run(
                 high = middle;
                 found = Some(run);
             }
-            Err(fault) => match kind_of(fault) {
-                RefusalKind::TooLong(packet) => {
-                    low = middle;
-                    too_long = packet;
-                }
+            Err(other) => match kind_of(other) {
                 RefusalKind::NoStart => {
                     high = middle;
                     found = None;
                 }
-                RefusalKind::Other => return Err(fault),
+                RefusalKind::OutOfMemory => return Err(other),
+                RefusalKind::Other => {
+                    low = middle;
+                    fault = other;
+                }
             },
         }
     }
     match found {
         Some(run) => Ok(RunFrom { from: high, run }),
-        None => Err(PathFault::TooLong(too_long)),
+        None => Err(fault),
     }
 }

@@ -14,6 +14,7 @@ use Rattle.rept_moments.proofs.NamingLemmas.Naming.{points_next}
 use Rattle.rept_moments.specs.Seen.{alone_by}
 use Rattle.rept_moments.proofs.Places.{get_end, get_before}
 use Rattle.rept_found.proofs.PlacesLemmas.Naming.{is_only, past_points}
+use Rattle.rept_found.specs.Crash.{left_by}
 use Rattle.rept_found.specs.Trip.Trip.{thread_on, values_by}
 use Rattle.rept_found.specs.Ends.{Ends, registers_in, last_values_in, AreEnds, AreNoted, AreWhole}
 
@@ -50,7 +51,7 @@ module _ (C : Course) where
       ]
 
   -- where there is one thread, each number goes by it
-  pub values_same : (registers : ℕ → List ℕ) (p : ℕ) → 0 < length C.threads → values_by C registers (alone_by C.threads C.untraced) p ≡ registers (thread_on C p)
+  pub values_same : (registers : ℕ → ℕ → Option ℕ) (p : ℕ) → 0 < length C.threads → values_by C registers (alone_by C.threads C.untraced) p ≡ registers (thread_on C p)
   values_same registers p some = by (alone_by C.threads C.untraced) refl
     where
       by : (o : Option (List StepRow)) → alone_by C.threads C.untraced ≡ o → values_by C registers o p ≡ registers (thread_on C p)
@@ -63,10 +64,10 @@ module _ (C : Course) where
 
 -- the value of a register at a point
 module _ (e : Ends) (ends : AreEnds e) (some : 0 < length e.course.threads) where
-  pub value_there : (p r : ℕ) (status : Status) (v : ℕ) → slice_get e.statuses (thread_on e.course p) ≡ Some status → slice_get status.regs r ≡ Some v → slice_get (last_values_in e p) r ≡ Some v
-  value_there p r status v at is =
-      let here : registers_in e (thread_on e.course p) ≡ status.regs = ap Rattle.rept_found.specs.Ends.registers_of_one at in
-      ap (λ (xs : List ℕ). slice_get xs r) (values_same e.course (registers_in e) p some ∙ here) ∙ is
+  pub value_there : (p r : ℕ) (status : Status) → slice_get e.statuses (thread_on e.course p) ≡ Some status → left_by e.program status.pc status.regs r ≡ last_values_in e p r
+  value_there p r status at =
+      let here : registers_in e (thread_on e.course p) ≡ left_by e.program status.pc status.regs = ap (Rattle.rept_found.specs.Ends.registers_of_one e.program) at in
+      sym (ap (λ (f : ℕ → Option ℕ). f r) (values_same e.course (registers_in e) p some ∙ here))
 
 pub points_more : (C : Course) (t first rows : ℕ) → t < length C.threads → rows ≡ length (rows_of C t) → first ≡ points_before C.threads t → first + (rows + 1) ≡ points_before C.threads (t + 1)
 points_more C t first rows below same here =

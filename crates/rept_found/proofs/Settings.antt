@@ -1,9 +1,9 @@
 -- An analysis over the paths of a run is of its trip.
-use Rattle.std.proofs.Common.{◌≡◌, ℕ, zero, suc, get_or, cond, false, ◌+◌, ◌*◌, ◌<◌, List, [], ◌∷◌, length, map, Option, Some, None, slice_get, unwrap_or, inl, inr, refl, Bool, eqb, arith, sym, ap, subst, ◌∙◌}
+use Rattle.std.proofs.Common.{◌≡◌, ℕ, zero, suc, get_or, cond, false, ◌+◌, ◌*◌, ◌<◌, List, [], ◌∷◌, length, map, Option, Some, None, slice_get, slice_index, unwrap_or, inl, inr, refl, Bool, true, ◌&&◌, eqb, arith, sym, ap, subst, ◌∙◌}
 use mathlib.Core.Path.{fun_ext}
 use Rattle.std.proofs.lemmas.List.FromFn.{fill_by_all}
 use Rattle.std.proofs.lemmas.Bool.Decides.{nat_tests}
-use Rattle.std.proofs.lemmas.Option.{slice_get_cases}
+use Rattle.std.proofs.lemmas.Option.{slice_get_cases, slice_get_within}
 use Rattle.rept_elf.specs.Header.{word_at}
 use Rattle.rept_elf.specs.Segments.{ElfSegment}
 use Rattle.rept_dump.specs.Memory.{crash_byte}
@@ -31,7 +31,7 @@ use Rattle.rept_analysis.specs.Kept.{answers}
 use Rattle.rept_analysis.specs.Logged.{IsLogOf}
 use Rattle.rept_found.specs.Trip.Alone.{registers_alone, trip_of}
 use Rattle.rept_found.specs.Trip.Trip.{Trip, thread_on, given_on, setting_on}
-use Rattle.rept_found.specs.Crash.{Crash, Means, ThreadEnd, Scene, ended, last_value, last_values, path_of as crash_path, route, trip_by, values_of}
+use Rattle.rept_found.specs.Crash.{Crash, Means, ThreadEnd, Scene, end_pc, ended, is_restarted, last_value, last_values, left_by, left_of, path_of as crash_path, route, trip_by, values_of}
 use Rattle.rept_found.specs.Ends.{Ends, registers_of_one, registers_in, last_values_in, AreEnds, AreNoted, AreWhole}
 use Rattle.rept_found.specs.View.{CrashView, read_in, ended_as, IsFoundIn, IsOfRun, IsPreparedFor, scene_in, state_in, trip_in}
 use Rattle.rept_extents.specs.declared.run_rows.RunRows.{RunRows}
@@ -62,12 +62,14 @@ first_noted note notes status statuses noted =
     let its = noted.each 0 status refl in
     subst (λ (d : List ℕ). IsStatus d status) (sym (some_is its.1)) its.2
 
-pub registers_are : (notes : List (List ℕ)) (statuses : List Status) → AreWhole statuses → AreNoted notes statuses → length statuses ≡ length notes → (t : ℕ) → registers_of_one (slice_get statuses t) ≡ values_of (slice_get notes t)
-registers_are [] [] whole noted same t = refl
-registers_are [] (status ∷ statuses) whole noted same t = absurd (omega (arith, same))
-registers_are (note ∷ notes) [] whole noted same t = absurd (omega (arith, same))
-registers_are (note ∷ notes) (status ∷ statuses) whole noted same zero = last_are note status (first_noted note notes status statuses noted) (whole 0 status refl)
-registers_are (note ∷ notes) (status ∷ statuses) whole noted same (suc t) = registers_are notes statuses (λ k x at. whole (suc k) x at) (rest_noted note notes status statuses noted) (omega (arith, same)) t
+pub registers_are : (program : Program) (notes : List (List ℕ)) (statuses : List Status) → AreWhole statuses → AreNoted notes statuses → length statuses ≡ length notes → (t : ℕ) → registers_of_one program (slice_get statuses t) ≡ values_of program (slice_get notes t)
+registers_are program [] [] whole noted same t = refl
+registers_are program [] (status ∷ statuses) whole noted same t = absurd (omega (arith, same))
+registers_are program (note ∷ notes) [] whole noted same t = absurd (omega (arith, same))
+registers_are program (note ∷ notes) (status ∷ statuses) whole noted same zero =
+    let its = first_noted note notes status statuses noted in
+    ap (λ (n : ℕ). left_by program n status.regs) its.pc ∙ ap (λ (xs : List ℕ). left_by program (end_pc note) xs) (last_are note status its (whole 0 status refl))
+registers_are program (note ∷ notes) (status ∷ statuses) whole noted same (suc t) = registers_are program notes statuses (λ k x at. whole (suc k) x at) (rest_noted note notes status statuses noted) (omega (arith, same)) t
 
 pub ended_are : (notes : List (List ℕ)) (statuses : List Status) → AreNoted notes statuses → length statuses ≡ length notes → map ended_as statuses ≡ map ended notes
 ended_are [] [] noted same = refl
@@ -90,10 +92,10 @@ status_ended (x ∷ statuses) zero status at = ap ended_as (some_is at)
 status_ended (x ∷ statuses) (suc t) status at = status_ended statuses t status at
 
 -- a run that ends so, and the scene of it
-pub trip_is : {W R : Type 0} (m : Means W) (v : CrashView W R) (notes : List (List ℕ)) → AreWhole v.ends.statuses → AreNoted notes v.ends.statuses → length v.ends.statuses ≡ length notes → trip_in m v ≡ route m (record { exe = v.program; core = v.core; notes = notes }) v.ends.course
-trip_is m v notes whole noted same =
-    ap (λ (f : ℕ → List ℕ). trip_by m v.ends.course (record { registers = f; dump = crash_byte (contents v.program) v.core; image_end = (contents v.program).end }))
-    (fun_ext (λ t. registers_are notes v.ends.statuses whole noted same t))
+pub trip_is : {W R : Type 0} (m : Means W) (v : CrashView W R) (notes : List (List ℕ)) → v.ends.program ≡ v.program → AreWhole v.ends.statuses → AreNoted notes v.ends.statuses → length v.ends.statuses ≡ length notes → trip_in m v ≡ route m (record { exe = v.program; core = v.core; notes = notes }) v.ends.course
+trip_is m v notes files whole noted same =
+    ap (λ (f : ℕ → ℕ → Option ℕ). trip_by m v.ends.course (record { registers = f; dump = crash_byte (contents v.program) v.core; image_end = (contents v.program).end }))
+    (fun_ext (λ t. ap (λ (x : Program). registers_of_one x (slice_get v.ends.statuses t)) files ∙ registers_are v.program notes v.ends.statuses whole noted same t))
 
 pub scene_is : {W R : Type 0} (v : CrashView W R) (notes : List (List ℕ)) → AreNoted notes v.ends.statuses → length v.ends.statuses ≡ length notes → scene_in v ≡ record { threads = map ended notes; program = v.program }
 scene_is v notes noted same = ap (λ (xs : List ThreadEnd). record { threads = xs; program = v.program }) (ended_are notes v.ends.statuses noted same)
@@ -103,7 +105,7 @@ pub seen_same : (C : Course) (c : courses.NumberedRun) → IsCourseOf C c → se
 seen_same C (courses.TheVariants.One steps) its = ap (seen_by C) (sym its)
 seen_same C (courses.TheVariants.Many many) its = ap (λ (D : Course). seen_by D None) its.0 ∙ ap (seen_by C) (sym its.1)
 
-abbrev given_with : SeenMoments → (ℕ → List ℕ) → Program → List ElfSegment → Given
+abbrev given_with : SeenMoments → (ℕ → ℕ → Option ℕ) → Program → List ElfSegment → Given
 given_with x last program core = record { legs = x.legs; moments = x.moments; last = last; dump = crash_byte (contents program) core; image_end = (contents program).end }
 
 -- an analysis of these paths, ends and files
@@ -115,13 +117,28 @@ given_is a paths ends program core p l (e, k) its =
     ∙ ap (λ (x : List ElfSegment). given_with (seen_in paths.ways) (last_values_in ends) program x) k
     ∙ ap (λ (x : SeenMoments). given_with x (last_values_in ends) program core) (seen_same ends.course paths.ways its)
 
--- each point's last values are 32
-pub values_long : (e : Ends) → AreEnds e → 0 < length e.course.threads → (p : ℕ) → length (last_values_in e p) ≡ 32
-values_long e ends some p =
+none_value : {v : ℕ} → None ≡ Some v → ⊥
+none_value e = cc
+
+-- what is left of the registers that were saved is of these
+left_inside : (program : Program) (pc r v : ℕ) (saved : List ℕ) → left_by program pc saved r ≡ Some v → r < length saved
+left_inside program pc r v saved is = by (eqb r 17 && is_restarted program pc (slice_index saved 17)) is
+  where
+    by : (hidden : Bool) → cond hidden None (slice_get saved r) ≡ Some v → r < length saved
+    by true e = absurd (none_value e)
+    by false e = slice_get_within saved r v e
+
+-- each point's last values are of x0 to x31
+pub values_long : (e : Ends) → AreEnds e → 0 < length e.course.threads → (p r v : ℕ) → last_values_in e p r ≡ Some v → r < 32
+values_long e ends some p r v is =
     let inside = thread_inside e.course p some in
     let count = ends.count in
     elim (slice_get_cases e.statuses (thread_on e.course p)).1 [
-      | inl found ↦ ap (λ (xs : List ℕ). length xs) (values_same e.course (registers_in e) p some ∙ ap registers_of_one found.2) ∙ ends.whole (thread_on e.course p) found.0 found.2
+      | inl found ↦
+          let here = ap (λ (f : ℕ → Option ℕ). f r) (values_same e.course (registers_in e) p some ∙ ap (registers_of_one e.program) found.2) in
+          let below = left_inside e.program found.0.pc r v found.0.regs (sym here ∙ is) in
+          let whole = ends.whole (thread_on e.course p) found.0 found.2 in
+          omega (arith, below, whole)
       | inr past ↦ absurd (let far = past.0 in omega arith)
     ]
 
@@ -172,8 +189,8 @@ conflict_of {W} S T kind e h = subst (λ (U : Setting W). ClosureHas U kind) e h
 pub single_trip : {W : Type 0} (m : Means W) (crash : Crash) (note : List ℕ) (rows : List StepRow) (skipped : ℕ) → crash.notes ≡ note ∷ [] → route m crash (course_of (run_of_one rows skipped)) ≡ trip_of (crash_path m crash rows)
 single_trip {W} m crash note rows skipped only =
     subst (λ (notes : List (List ℕ)). route m (record { exe = crash.exe; core = crash.core; notes = notes }) (course_of (run_of_one rows skipped)) ≡ trip_of (crash_path m (record { exe = crash.exe; core = crash.core; notes = notes }) rows)) (sym only)
-    (ap (λ (f : ℕ → List ℕ). trip_by m (course_of (run_of_one rows 0)) (record { registers = f; dump = crash_byte (contents crash.exe) crash.core; image_end = (contents crash.exe).end })) (fun_ext each))
+    (ap (λ (f : ℕ → ℕ → Option ℕ). trip_by m (course_of (run_of_one rows 0)) (record { registers = f; dump = crash_byte (contents crash.exe) crash.core; image_end = (contents crash.exe).end })) (fun_ext each))
   where
-    each : (t : ℕ) → values_of (slice_get (note ∷ []) t) ≡ registers_alone (last_values note) t
+    each : (t : ℕ) → values_of crash.exe (slice_get (note ∷ []) t) ≡ registers_alone (left_of crash.exe note) t
     each zero = refl
     each (suc t) = refl

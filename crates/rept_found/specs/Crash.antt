@@ -1,6 +1,6 @@
 -- What a crash leaves, and the analysis of a run that ends in it (ELF-32 Object File Format; Linux
 -- core notes of RISC-V).
-use Rattle.std.specs.Prelude.{ℕ, Bool, true, false, ◌+◌, ◌*◌, List, [], map, ◌==◌, if◌then◌else◌, Option, Some, None, unwrap_or, slice_get}
+use Rattle.std.specs.Prelude.{ℕ, Bool, true, false, ◌+◌, ◌*◌, List, [], map, ◌==◌, if◌then◌else◌, Option, Some, None, unwrap_or, slice_get, slice_index, ◌&&◌}
 use Rattle.std.specs.List.{range_with_len}
 use Rattle.rept_elf.specs.Header.{word_at}
 use Rattle.rept_elf.specs.Segments.{ElfSegment}
@@ -63,13 +63,33 @@ ended note = record { end_pc = end_pc note; process = process note }
 abbrev pub scene_of : Crash → Scene
 scene_of crash = record { threads = map ended crash.notes; program = crash.exe }
 
--- the last value of a register
+-- the value of a register in a note
 abbrev pub last_value : List ℕ → ℕ → ℕ
 last_value note r = if r == 0 then 0 else word_at note (72 + 4 * r)
 
--- the last values of x0 to x31
+-- those of x0 to x31
 unfoldable pub last_values : List ℕ → List ℕ
 last_values note = map (last_value note) (range_with_len 0 32)
+
+-- the word spells ECALL
+abbrev pub is_ecall : Option ℕ → Bool
+is_ecall None = false
+is_ecall (Some spelled) = spelled == 115
+
+-- A thread sleeps in a call that Linux will begin anew. Its program counter is at the ECALL again,
+-- and x17 has the number of `restart_syscall`, 128, in place of the one that the call had
+-- (arch/riscv/kernel/signal.c).
+abbrev pub is_restarted : Program → (pc number : ℕ) → Bool
+is_restarted program pc number = number == 128 && is_ecall ((contents program).word pc)
+
+-- The last values of a thread's registers, by its program counter and by what was saved of x0 to
+-- x31: those that were saved, but none of x17 where its call is begun anew.
+abbrev pub left_by : Program → ℕ → List ℕ → ℕ → Option ℕ
+left_by program pc saved r = if r == 17 && is_restarted program pc (slice_index saved 17) then None else slice_get saved r
+
+-- by its note
+abbrev pub left_of : Program → List ℕ → ℕ → Option ℕ
+left_of program note = left_by program (end_pc note) (last_values note)
 
 -- the sets as which values are followed, what the rows let one infer, and whether more is inferred
 -- beyond the report
@@ -91,14 +111,14 @@ abbrev pub trip_by : {W : Type 0} → Means W → Course → Ending → Trip W
 trip_by m course ending = record { sets = m.sets; moves = m.moves; rules = m.rules; course = course; ending = ending }
 
 -- the last values of a thread that has a note; no other one has any
-abbrev pub values_of : Option (List ℕ) → List ℕ
-values_of None = []
-values_of (Some note) = last_values note
+abbrev pub values_of : Program → Option (List ℕ) → ℕ → Option ℕ
+values_of program None = λ r. None
+values_of program (Some note) = left_of program note
 
 -- how a run ended: with the registers of the notes, and with the bytes of the core file
 abbrev pub ending_of : Crash → Ending
 ending_of crash = record {
-  registers = λ t. values_of (slice_get crash.notes t);
+  registers = λ t. values_of crash.exe (slice_get crash.notes t);
   dump = crash_byte (contents crash.exe) crash.core;
   image_end = (contents crash.exe).end;
 }
@@ -117,5 +137,5 @@ path_of m crash rows = record {
   sets = m.sets;
   moves = m.moves;
   rules = m.rules;
-  given = record { rows = rows; last = last_values (note_at crash 0); dump = crash_byte (contents crash.exe) crash.core; image_end = (contents crash.exe).end };
+  given = record { rows = rows; last = left_of crash.exe (note_at crash 0); dump = crash_byte (contents crash.exe) crash.core; image_end = (contents crash.exe).end };
 }

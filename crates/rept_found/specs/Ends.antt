@@ -1,25 +1,29 @@
--- How the threads of a run ended, by what their register notes have. This project's own.
-use Rattle.std.specs.Prelude.{◌≡◌, ℕ, List, [], length, Option, Some, None, slice_get}
+-- How the threads of a run of a program ended, by what their register notes have. This project's
+-- own.
+use Rattle.std.specs.Prelude.{◌≡◌, ℕ, List, length, Option, Some, None, slice_get}
+use Rattle.rept_dump.specs.Program.{Program}
 use Rattle.rept_dump.specs.Status.{IsStatus}
 use Rattle.rept_dump.specs.declared.status.Status.{Status}
 use Rattle.rept_steps.specs.Course.{Course}
 use Rattle.rept_moments.specs.Seen.{alone_by}
+use Rattle.rept_found.specs.Crash.{left_by}
 use Rattle.rept_found.specs.Trip.Trip.{values_by}
 
 pub record Ends : Type 0 where
   pub course : Course
   pub statuses : List Status
+  pub program : Program
 
--- the registers of a thread; past the last one there are none
-abbrev pub registers_of_one : Option Status → List ℕ
-registers_of_one None = []
-registers_of_one (Some status) = status.regs
+-- the last values of a thread's registers; past the last thread there are none
+abbrev pub registers_of_one : Program → Option Status → ℕ → Option ℕ
+registers_of_one program None = λ r. None
+registers_of_one program (Some status) = left_by program status.pc status.regs
 
-abbrev pub registers_in : Ends → ℕ → List ℕ
-registers_in e t = registers_of_one (slice_get e.statuses t)
+abbrev pub registers_in : Ends → ℕ → ℕ → Option ℕ
+registers_in e t = registers_of_one e.program (slice_get e.statuses t)
 
 -- the last values at a point of its thread
-abbrev pub last_values_in : Ends → ℕ → List ℕ
+abbrev pub last_values_in : Ends → ℕ → ℕ → Option ℕ
 last_values_in e p = values_by e.course (registers_in e) (alone_by e.course.threads e.course.untraced) p
 
 -- each has 32 registers

@@ -1,6 +1,7 @@
 //! An analysis that has the memory with which it begins.
 
 ghost use Rattle.std.specs.Prelude.{◌≡◌, ℕ, List, length, IfOk};
+ghost use Rattle.rept_dump.specs.Dump.{exe_of};
 ghost use Rattle.rept_steps.specs.Course.{IsSoundCourse};
 ghost use Rattle.rept_moments.specs.Courses.{IsCourseOf};
 ghost use Rattle.rept_found.specs.Crash.{crash_of, means, route, scene_of};
@@ -53,6 +54,7 @@ pub fn prepare<'a, W: Transfer, R: RowRules>(
 ) -> Result<Prepared<'a, W, R>, OutOfMemory>
     requires sound { IsSoundCourse ends.now.course }
     requires course { IsCourseOf ends.now.course paths.now.ways }
+    requires program { ends.now.program ≡ exe_of dump.now }
     ensures prepared { (notes : List (List ℕ)) → AreNoted notes ends.now.statuses → length ends.now.statuses ≡ length notes → IfOk result (IsPreparedFor (means W.sets W.moves R.rules) (route (means W.sets W.moves R.rules) (crash_of dump.now notes) ends.now.course) (scene_of (crash_of dump.now notes))) }
 {
     ends.account();

@@ -28,8 +28,8 @@ pub record Story : Type 0 where
   -- where the program's own memory ends
   pub image_end : ℕ
   pub rows : List StepRow
-  -- the registers and bytes of the dump
-  pub registers : List ℕ
+  -- the registers and bytes that the dump tells
+  pub registers : ℕ → Option ℕ
   pub dump : ℕ → Option ℕ
   pub premises : Premises
 

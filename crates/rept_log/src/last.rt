@@ -1,15 +1,15 @@
 //! The values that registers have where threads end.
 
-ghost use Rattle.std.specs.Prelude.{◌≡◌, ℕ, List, Some, slice_get};
+ghost use Rattle.std.specs.Prelude.{◌≡◌, ℕ, Option};
 
 use rept_isa::Reg;
 
-/// The values of the registers x0 to x31 at the last point of each thread. `values` names them as a
-/// function of the point.
+/// The values of registers at the last point of each thread. `values` names them as a function of
+/// the point and the register. A register may have none there.
 pub trait LastValues {
-    ghost values: { Self → ℕ → List ℕ };
+    ghost values: { Self → ℕ → ℕ → Option ℕ };
 
-    /// The value of a register at a last point.
-    fn value(&self, point: u32, r: Reg) -> u32
-        ensures { slice_get (values self.now point) r ≡ Some result };
+    /// The value of a register at a last point; none where it has none.
+    fn value(&self, point: u32, r: Reg) -> Option<u32>
+        ensures { result ≡ values self.now point r };
 }

@@ -32,4 +32,4 @@ pub record RunsOwnCode (old new : Machine) (rows : List StepRow) : Type 0 where
   pub states : ℕ → State
   pub first : states 0 ≡ state_of old
   pub last : states (length rows) ≡ state_of new
-  pub execution : (image_end : ℕ) (registers : List ℕ) (dump : ℕ → Option ℕ) → IsSaved registers dump (state_of new) → Execution image_end rows registers dump states
+  pub execution : (image_end : ℕ) (registers : List ℕ) (dump : ℕ → Option ℕ) → IsSaved registers dump (state_of new) → Execution image_end rows (slice_get registers) dump states

@@ -90,7 +90,7 @@ past [] i le = refl
 past (x ∷ xs) zero le = absurd (omega arith)
 past (x ∷ xs) (suc i) le = past xs i (omega arith)
 
-executes : (functions : ℕ → Option FunctionSymbol) (seed end : ℕ) (words registers bytes last : List ℕ) (code : IsCode seed words) (rows : List StepRow) (run : ℕ → State) → AreMadeStates seed rows run → (next : ℕ) → AreSaved registers bytes next (run (length rows)) → length last ≡ 32 → ((r : ℕ) → 0 < r → r < 32 → get_or last r 0 ≡ get_or registers r 0) → Execution end rows last (crash_byte (held_by (code_of words ∷ []) functions) (note_of registers ∷ data_of bytes ∷ [])) (λ i. laid (bytes_of_words words) (run i))
+executes : (functions : ℕ → Option FunctionSymbol) (seed end : ℕ) (words registers bytes last : List ℕ) (code : IsCode seed words) (rows : List StepRow) (run : ℕ → State) → AreMadeStates seed rows run → (next : ℕ) → AreSaved registers bytes next (run (length rows)) → length last ≡ 32 → ((r : ℕ) → 0 < r → r < 32 → get_or last r 0 ≡ get_or registers r 0) → Execution end rows (slice_get last) (crash_byte (held_by (code_of words ∷ []) functions) (note_of registers ∷ data_of bytes ∷ [])) (λ i. laid (bytes_of_words words) (run i))
 executes functions seed end words registers bytes last code rows run made next saved size same = record {
   states = λ p le. laid_state words (run p) (made.states p le);
   steps = λ i row get.
@@ -143,7 +143,7 @@ made_is seed words m rows code small ran exe core trace registers bytes exe_is c
       path = subst (λ (ss : List ElfSegment). IsTracedPath (record { code = words_of (held_by ss (symbol_at exe)); stream = plain false tells.rest; from = 0; pc = pc_of m }) 0 rows) (sym exe_segs) (tells.path (held_by (code_of words ∷ []) (symbol_at exe)) (pc_of m) (carries seed words code rows ran.run ran.made (symbol_at exe) small) ran.ends);
       execution = λ last count_last same.
           let e = executes (symbol_at exe) seed (greatest_end (segments exe)) words registers bytes last code rows ran.run ran.made (pc_of m) saved count_last (λ r some lt. same r some lt ∙ status_word registers bytes count size fit r lt) in
-          subst (λ (ss : List ElfSegment). Execution (greatest_end (segments exe)) rows last (crash_byte (held_by ss (symbol_at exe)) (segments core)) (λ i. laid (bytes_of_words words) (ran.run i))) (sym exe_segs) (subst (λ (cs : List ElfSegment). Execution (greatest_end (segments exe)) rows last (crash_byte (held_by (code_of words ∷ []) (symbol_at exe)) cs) (λ i. laid (bytes_of_words words) (ran.run i))) (sym core_segs) e);
+          subst (λ (ss : List ElfSegment). Execution (greatest_end (segments exe)) rows (slice_get last) (crash_byte (held_by ss (symbol_at exe)) (segments core)) (λ i. laid (bytes_of_words words) (ran.run i))) (sym exe_segs) (subst (λ (cs : List ElfSegment). Execution (greatest_end (segments exe)) rows (slice_get last) (crash_byte (held_by (code_of words ∷ []) (symbol_at exe)) cs) (λ i. laid (bytes_of_words words) (ran.run i))) (sym core_segs) e);
     }
   where
     fit : (i : ℕ) → get_or registers i 0 < 2 ^ 32

@@ -1,5 +1,5 @@
 -- What a made crash is: its files, and the run that they come from.
-use Rattle.std.specs.Prelude.{◌≡◌, ℕ, ◌+◌, ◌^◌, ◌<◌, List, ◌++◌, length, slice_index, Ok, None, false}
+use Rattle.std.specs.Prelude.{◌≡◌, ℕ, ◌+◌, ◌^◌, ◌<◌, List, ◌++◌, length, slice_get, slice_index, Ok, None, false}
 use Rattle.rept_isa.specs.declared.row.StepRow.{StepRow}
 use Rattle.rept_steps.specs.Linked.{EndBefore}
 use Rattle.rept_elf.specs.Segments.{segments, greatest_end}
@@ -52,4 +52,4 @@ pub record IsMade (seed steps : ℕ) (made : Made) : Type 0 where
   pub layout : made.trace ≡ header false ++ rest
   pub few : length made.trace < 2 ^ 32
   pub path : IsTracedPath (record { code = words_of (of_executable made.exe); stream = plain false rest; from = 0; pc = pc }) 0 rows
-  pub execution : (last : List ℕ) → length last ≡ 32 → ((r : ℕ) → 0 < r → r < 32 → slice_index last r ≡ saved_register status r) → Execution (greatest_end (segments made.exe)) rows last (crash_byte (of_executable made.exe) (segments made.core)) (λ i. laid (bytes_of_words words) (run i))
+  pub execution : (last : List ℕ) → length last ≡ 32 → ((r : ℕ) → 0 < r → r < 32 → slice_index last r ≡ saved_register status r) → Execution (greatest_end (segments made.exe)) rows (slice_get last) (crash_byte (of_executable made.exe) (segments made.core)) (λ i. laid (bytes_of_words words) (run i))

@@ -2,8 +2,10 @@ pub mod BeyondLemmas
 pub mod DeliveredLemmas
 pub mod LoadLemmas
 pub mod LoadingLemmas
+pub mod LoneLemmas
 pub mod MappedLemmas
 pub mod Notes
+pub mod OrderLemmas
 pub mod PathLemmas
 pub mod ReadingLemmas
 pub mod ReportLemmas

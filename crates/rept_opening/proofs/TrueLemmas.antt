@@ -11,7 +11,7 @@ use Rattle.rept_report.specs.OneThread.{path_setting}
 use Rattle.rept_report.specs.Setting.{Setting}
 use Rattle.rept_runs.specs.Kind.{is_several}
 use Rattle.rept_found.specs.Trip.Trip.{setting_on}
-use Rattle.rept_found.specs.Crash.{Crash, Means, ending_of, means_beyond, path_of, setting, trip_by}
+use Rattle.rept_found.specs.Crash.{Crash, Means, ending_of, means_beyond, path_of, route, setting, trip_by}
 use Rattle.rept_found.specs.Histories.{IsTrueTrip}
 use Rattle.rept_found.specs.Truth.{IsTrueReport}
 use Rattle.rept_found.proofs.Alone.{alone_setting, alone_shown}
@@ -21,7 +21,9 @@ use Rattle.rept_opening.specs.Domains.{means_of}
 use Rattle.rept_opening.specs.Opened.{Opening, ReadsNotes, crash_at, crash_run}
 use Rattle.rept_opening.specs.TraceRun.{IsRunOf}
 use Rattle.rept_opening.specs.True.{IsTrue}
+use Rattle.rept_opening.proofs.LoneLemmas.{lone_run, lone_told}
 use Rattle.rept_opening.proofs.Notes.{some_said}
+use Rattle.rept_opening.proofs.OrderLemmas.{by_order}
 use Rattle.rept_opening.proofs.RunLemmas.{IsWhole, whole_run}
 
 abbrev pub TrueOf : {W : Type 0} → Means W → Type 0
@@ -36,6 +38,12 @@ true_of {W} m trips paths crash run known whole report = record {
     shown = λ scene. alone_shown m rows crash (course_of run) known scene one whole.noted;
     holds = paths crash rows known (subst (λ (S : Setting W). IsReport S known) (alone_setting m rows crash (course_of run) one whole.noted) report);
   };
+  lone = λ rows one noted. record {
+    shared = λ states x. lone_run m crash.exe crash.core crash.notes (course_of run) rows states whole.sound one noted x;
+    told = λ scene states x.
+        lone_told m (course_of run) (ending_of crash) known rows states whole.sound one (trips (course_of run) (ending_of crash) known whole.sound whole.some report) (lone_run m crash.exe crash.core crash.notes (course_of run) rows states whole.sound one noted x) scene;
+  };
+  order = λ several. by_order (route m crash (course_of run)) known whole.sound several;
 }
 
 -- so it is where more is inferred beyond the report
@@ -43,6 +51,8 @@ still_true : {W : Type 0} (m : Means W) (crash : Crash) (run : Run) (known : Kno
 still_true m crash run known t = record {
   threads = t.threads;
   alone = λ rows one. let a = t.alone rows one in record { shown = a.shown; holds = a.holds };
+  lone = λ rows one noted. let l = t.lone rows one noted in record { shared = l.shared; told = l.told };
+  order = t.order;
 }
 
 -- what is told of the report of any such run is true, in each domain

@@ -8,7 +8,7 @@ use Rattle.rept_dump.specs.Program.{Program, contents}
 use Rattle.rept_dump.specs.Program.Program.{OneFile, MappedFiles}
 use Rattle.rept_dump.specs.Registers.{pid_of}
 use Rattle.rept_isa.specs.declared.row.StepRow.{StepRow}
-use Rattle.rept_found.specs.Crash.{Crash, last_values, note_at}
+use Rattle.rept_found.specs.Crash.{Crash, left_of, note_at}
 use Rattle.rept_infer.specs.Admitted.{Premises, Story}
 
 -- the segment is part of memory, and has the address there
@@ -94,7 +94,7 @@ abbrev pub story_of : Crash → ℕ → List StepRow → Story
 story_of crash skipped rows = record {
   image_end = (contents crash.exe).end;
   rows = rows;
-  registers = last_values (note_at crash 0);
+  registers = left_of crash.exe (note_at crash 0);
   dump = crash_byte (contents crash.exe) crash.core;
   premises = premises_of crash skipped rows;
 }

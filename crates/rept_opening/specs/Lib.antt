@@ -7,6 +7,7 @@ pub mod Listed
 pub mod Loading
 pub mod Mapped
 pub mod Opened
+pub mod Order
 pub mod Path
 pub mod Reading
 pub mod Report

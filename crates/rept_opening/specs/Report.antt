@@ -2,7 +2,7 @@
 -- own.
 use Rattle.std.specs.Prelude.{◌≡◌, ◌⊎◌, List, length, ℕ}
 use Rattle.rept_elf.specs.Header.{half_at}
-use Rattle.rept_dump.specs.Dump.{HasThreads}
+use Rattle.rept_dump.specs.Dump.{exe_of, HasThreads}
 use Rattle.rept_dump.specs.declared.dump.Dump.{Dump}
 use Rattle.rept_steps.specs.Runs.{course_of}
 use Rattle.rept_steps.specs.declared.run.Run.{Run}
@@ -23,6 +23,7 @@ pub record AreEndsOf (dump : Dump) (run : Run) (ends : Ends) : Type 0 where
   pub course : ends.course ≡ course_of run
   pub count : length ends.statuses ≡ length run.threads
   pub noted : (notes : List (List ℕ)) → HasThreads dump notes → AreNoted notes ends.statuses
+  pub program : ends.program ≡ exe_of dump
 
 -- an analysis that has ended is one of the run and the crash
 abbrev pub IsFoundOf : {W R : Type 0} → CrashRun W → CrashView W R → Type 0

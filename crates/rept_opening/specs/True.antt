@@ -1,21 +1,29 @@
 -- What is true of the report of a run, and what a conflict excludes: in every execution of all
 -- threads, and of a run that is one path in every execution of that path; and what is true of what
 -- is inferred beyond the report. This project's own.
-use Rattle.std.specs.Prelude.{◌≡◌, ◌⊎◌, ℕ, true, false, List, Some, None}
+use Rattle.std.specs.Prelude.{◌≡◌, ◌≤◌, ◌⊎◌, ℕ, true, false, List, [], ◌∷◌, length, Option, Some, None, bit_and}
 use Rattle.rept_isa.specs.declared.row.StepRow.{StepRow}
 use Rattle.rept_machine.specs.State.{State}
+use Rattle.rept_moments.specs.Numbers.{numbers_of}
+use Rattle.rept_order.specs.Alone.{IsShared}
 use Rattle.rept_reason.specs.Facts.{Knowledge}
 use Rattle.rept_report.specs.OneThread.{ThreadPath}
 use Rattle.rept_runs.specs.Kind.{path_rows}
+use Rattle.rept_steps.specs.Runs.{course_of}
+use Rattle.rept_steps.specs.declared.run.Run.{Run}
+use Rattle.rept_steps.specs.declared.threads.ThreadRows.{ThreadRows}
+use Rattle.rept_findings.specs.Shown.{Shown, moment_at, number}
+use Rattle.rept_findings.specs.declared.place.ThreadPoint.{ThreadPoint}
 use Rattle.rept_found.specs.Trip.Executed.{HasNoHistory}
-use Rattle.rept_found.specs.Crash.{Scene, path_of}
+use Rattle.rept_found.specs.Crash.{Scene, ending_of, path_of}
 use Rattle.rept_found.specs.Histories.{IsTrueTrip}
 use Rattle.rept_found.specs.Telling.{shown_of, shown_on}
 use Rattle.rept_found.specs.Truth.{ExecutesPath, HasNoExecutionOfPath, IsTrueOf, IsTrueReport}
 use Rattle.rept_infer.specs.Admitted.{IsAdmitted}
 use Rattle.rept_inferred.specs.Narrowed.{TellsAll}
 use Rattle.rept_opening.specs.Beyond.{story_of}
-use Rattle.rept_opening.specs.Opened.{CrashRun, RunAccount, route_of, told_in}
+use Rattle.rept_opening.specs.Opened.{CrashRun, RunAccount, route_of, run_setting, told_in}
+use Rattle.rept_opening.specs.Order.{GoesByOrder}
 
 -- the path of these steps, with the crash in which it ends
 abbrev pub path_by : {W : Type 0} → CrashRun W → List StepRow → ThreadPath W
@@ -27,11 +35,43 @@ pub record IsTrueAlone {W : Type 0} (p : CrashRun W) (known : Knowledge) (rows :
   pub shown : (scene : Scene) → shown_on (route_of p) known scene ≡ shown_of (path_by p rows) known scene
   pub holds : IsTrueReport (path_by p rows) known
 
+-- the steps of a run of one thread, in however many slices, all of which is told
+abbrev pub lone_by : List ThreadRows → Option ℕ → Option (List StepRow)
+lone_by (thread ∷ []) None = Some thread.steps
+lone_by threads untraced = None
+
+abbrev pub lone_rows : Run → Option (List StepRow)
+lone_rows run = lone_by run.threads run.untraced
+
+-- the point of this number of the first thread
+abbrev pub first_at : ℕ → ThreadPoint
+first_at q = record { thread = 0; point = q }
+
+-- Of one execution of the steps of one thread: what is told at each of its points is what it has
+-- there.
+pub record IsTrueAtPoints (s : Shown) (rows : List StepRow) (states : ℕ → State) : Type 0 where
+  pub registers : (q r v : ℕ) → q ≤ length rows → s.register (number s (first_at q)) r ≡ Some v → (states q).register r ≡ v
+  pub ranges : (q r : ℕ) → q ≤ length rows → ((s.range (number s (first_at q)) r).lo ≤ (states q).register r) × ((states q).register r ≤ (s.range (number s (first_at q)) r).hi)
+  pub notes : (q r : ℕ) (n : ℕ × ℕ) → q ≤ length rows → s.note (number s (first_at q)) r ≡ Some n → bit_and ((states q).register r) n.0 ≡ n.1
+  pub bytes : (q a v : ℕ) → q ≤ length rows → s.byte (moment_at s (first_at q)) a ≡ Some v → (states q).memory a ≡ v
+
+-- Of a run of one thread, in however many slices, all of which is told: each execution of its steps
+-- by themselves that ends in the crash is one of the run, with the same registers at each point and
+-- the same memory at each moment; and what is told at points holds in it.
+pub record IsTrueLone {W : Type 0} (p : CrashRun W) (known : Knowledge) (rows : List StepRow) : Type 0 where
+  pub shared : (states : ℕ → State) → ExecutesPath (path_by p rows) states → IsShared (course_of p.run) (ending_of p.crash) states
+  pub told : (scene : Scene) (states : ℕ → State) → ExecutesPath (path_by p rows) states → IsTrueAtPoints (shown_on (route_of p) known scene) rows states
+
 -- What a session tells of a report of the run holds in every execution of all threads that ends in
--- the crash, and reasons rest on the report; and of one path the same in its own words.
+-- the crash, and reasons rest on the report; and of one path the same in its own words. So it does
+-- in every execution of the steps of one thread, in however many slices; the core file of one
+-- thread has one note. Of any other run than one path, what is carried and who may have written go
+-- by the order of the steps.
 pub record IsTrue {W : Type 0} (p : CrashRun W) (known : Knowledge) : Type 0 where
   pub threads : IsTrueTrip (route_of p) known
   pub alone : (rows : List StepRow) → path_rows p.run ≡ Some rows → IsTrueAlone p known rows
+  pub lone : (rows : List StepRow) → lone_rows p.run ≡ Some rows → length p.crash.notes ≡ 1 → IsTrueLone p known rows
+  pub order : path_rows p.run ≡ None → GoesByOrder (course_of p.run) (numbers_of (course_of p.run)) (run_setting p) known
 
 -- What is told of a run beyond its report, too: of one path it holds in every admitted execution,
 -- and nothing that the report has is lost. Where nothing is to be inferred beyond the report, it is

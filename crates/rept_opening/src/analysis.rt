@@ -31,7 +31,11 @@ pub struct Basis<'a> {
 }
 
 /// What an analysis of a run that ends in a dump rests on. Its only refusal is of memory.
-pub fn basis_of<'a>(alloc: Global, run: &'a Run, dump: &Dump<'_>) -> Result<Basis<'a>, OutOfMemory>
+pub fn basis_of<'a>(
+    alloc: Global,
+    run: &'a Run,
+    dump: &'a Dump<'a>,
+) -> Result<Basis<'a>, OutOfMemory>
     requires fits { FitsDump dump.now run.now }
     ensures course { IfOk result (λ basis. IsCourseOf (course_of run.now) basis.paths.ways) }
     ensures ended { IfOk result (λ basis. AreEndsOf dump.now run.now basis.ends) }

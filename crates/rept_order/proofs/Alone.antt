@@ -1,7 +1,7 @@
 -- Each execution of the rows of one thread is one of the course. Three ticks belong to each row: a
 -- call is entered at the first, changes memory at the second and returns at the third, and another
 -- row is executed at the first.
-use Rattle.std.proofs.Common.{◌≡◌, ◌≢◌, ℕ, zero, suc, ◌+◌, ◌*◌, ◌/◌, ◌%◌, ◌<◌, ◌≤◌, eqb, cond, Bool, true, false, List, [], ◌∷◌, length, Some, slice_get, unwrap_or, inl, inr, refl, sym, ap, ◌∙◌, subst, arith, lit<}
+use Rattle.std.proofs.Common.{◌≡◌, ◌≢◌, ℕ, zero, suc, ◌+◌, ◌*◌, ◌/◌, ◌%◌, ◌<◌, ◌≤◌, eqb, cond, Bool, true, false, List, [], ◌∷◌, length, Some, None, slice_get, unwrap_or, inl, inr, refl, sym, ap, ◌∙◌, subst, arith, lit<}
 use Rattle.std.proofs.lemmas.Bool.{false≢true, cases_Bool, cases_order, cases_eq, cases_lt, ne_eqb}
 use Rattle.rept_isa.specs.declared.instr.Instr.{Instr}
 use Rattle.rept_isa.specs.declared.instr.Instr.TheVariants.{Ecall}
@@ -310,12 +310,12 @@ module _ (C : Course) (alone : IsAlone C) (D : Ending) (run : ℕ → State) (x 
         omega arith
     ordered_by e f ie jf (by_time s u is its less) = absurd (alone_never C sound alone e f jf (record { slice = s; in_slice = is; less = let begin = begin_is C sound f u its in omega arith }))
 
-    nil_some : {v : ℕ} (s : ℕ) → slice_get {X = ℕ} [] s ≡ Some v → ⊥
-    nil_some s e = cc
+    none_some : {v : ℕ} → None ≡ Some v → ⊥
+    none_some e = cc
 
-    saved_at : (t s v : ℕ) → 0 < s → slice_get (D.registers t) s ≡ Some v → (h.world h.ticks).register t s ≡ v
+    saved_at : (t s v : ℕ) → 0 < s → D.registers t s ≡ Some v → (h.world h.ticks).register t s ≡ v
     saved_at zero s v some is = ap (λ (w : World). w.register 0 s) end_world ∙ x.registers_end s v some is
-    saved_at (suc t) s v some is = absurd (nil_some s (subst (λ (l : List ℕ). slice_get l s ≡ Some v) (saves (suc t) (omega arith)) is))
+    saved_at (suc t) s v some is = absurd (none_some (sym (saves (suc t) s (omega arith)) ∙ is))
 
     is_execution : IsExecution C D h
     is_execution = record {

@@ -268,7 +268,7 @@ module _ (C : Course) (D : Ending) (h : History) (x : IsExecution C D h) (t i : 
 module _ (C : Course) (D : Ending) (h : History) (x : IsExecution C D h) where
   -- the last point of a thread has what was saved of its registers, the end what was saved of the
   -- memory
-  pub registers_saved : (t s v : ℕ) → 0 < s → slice_get (D.registers t) s ≡ Some v → thread_registers C h t (length (rows_of C t)) s ≡ v
+  pub registers_saved : (t s v : ℕ) → 0 < s → D.registers t s ≡ Some v → thread_registers C h t (length (rows_of C t)) s ≡ v
   registers_saved t s v some is = ap (λ (m : Moment). (h.world (tick C h m)).register t s) (moment_last C D h x t (length (rows_of C t)) (omega arith)) ∙ x.registers_end t s v some is
 
   -- each point of a thread has registers of a state, each moment a memory of bytes

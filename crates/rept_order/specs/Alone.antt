@@ -1,6 +1,6 @@
 -- A run of one thread in one slice, all of which is told: its executions are those of the rows by
 -- themselves.
-use Rattle.std.specs.Prelude.{◌≡◌, ℕ, suc, ◌<◌, ◌≤◌, [], length}
+use Rattle.std.specs.Prelude.{◌≡◌, ℕ, suc, ◌<◌, ◌≤◌, length, None}
 use Rattle.rept_machine.specs.State.{State}
 use Rattle.rept_machine.specs.Execution.{Execution}
 use Rattle.rept_steps.specs.Course.{Course, row_of, rows_of}
@@ -10,7 +10,7 @@ use Rattle.rept_order.specs.Points.{thread_registers, memory_at}
 
 -- no other thread has registers that were saved
 abbrev pub SavesOne : Ending → Type 0
-SavesOne D = (t : ℕ) → 0 < t → D.registers t ≡ []
+SavesOne D = (t s : ℕ) → 0 < t → D.registers t s ≡ None
 
 -- an execution of the rows of thread 0 that ends as told
 abbrev pub RunsAlone : Course → Ending → (ℕ → State) → Type 0

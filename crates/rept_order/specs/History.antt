@@ -4,7 +4,7 @@
 -- premise of this project, and more than the manual promises: its memory model is RVWMO (RISC-V
 -- unprivileged manual 20191213, chapter 14), which allows harts to see stores in other orders. An
 -- execution in which they do is none here, and nothing is said of it.
-use Rattle.std.specs.Prelude.{◌≡◌, ◌≢◌, ℕ, suc, ◌<◌, ◌≤◌, true, List, Option, Some, slice_get}
+use Rattle.std.specs.Prelude.{◌≡◌, ◌≢◌, ℕ, suc, ◌<◌, ◌≤◌, true, Option, Some}
 use Rattle.rept_isa.specs.declared.row.StepRow.{StepRow}
 use Rattle.rept_isa.specs.Numbers.{following}
 use Rattle.rept_isa.specs.Rows.{from_of}
@@ -43,10 +43,10 @@ pub record History : Type 0 where
   -- the tick of each event
   pub place : Event → ℕ
 
--- how the run ended: the registers of each thread, the bytes that were saved, and where the
--- program's own memory ends
+-- how the run ended: the registers of each thread and the bytes of memory, as far as they were
+-- saved, and where the program's own memory ends
 pub record Ending : Type 0 where
-  pub registers : ℕ → List ℕ
+  pub registers : ℕ → ℕ → Option ℕ
   pub dump : ℕ → Option ℕ
   pub image_end : ℕ
 
@@ -137,5 +137,5 @@ pub record IsExecution (C : Course) (D : Ending) (h : History) : Type 0 where
   pub ordered : (e f : Event) → Before C e f → h.place e < h.place f
   pub states : (k t : ℕ) → k ≤ h.ticks → IsState (seen_by t (h.world k))
   pub does : (k : ℕ) → k < h.ticks → Does C D h k (h.happening k)
-  pub registers_end : (t s v : ℕ) → 0 < s → slice_get (D.registers t) s ≡ Some v → (h.world h.ticks).register t s ≡ v
+  pub registers_end : (t s v : ℕ) → 0 < s → D.registers t s ≡ Some v → (h.world h.ticks).register t s ≡ v
   pub bytes_end : (a v : ℕ) → D.dump a ≡ Some v → (h.world h.ticks).memory a ≡ v

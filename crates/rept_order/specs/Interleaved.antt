@@ -1,6 +1,6 @@
 -- What an analysis sees of an execution: the registers at the points of all threads, by the one
 -- numbering, and the memory at moments. Nothing is said of what comes between. This project's own.
-use Rattle.std.specs.Prelude.{◌≡◌, ℕ, suc, ◌<◌, if◌then◌else◌, length, Some, MatchOption, slice_get}
+use Rattle.std.specs.Prelude.{◌≡◌, ℕ, suc, ◌<◌, if◌then◌else◌, length, Some, MatchOption}
 use Rattle.rept_isa.specs.declared.row.StepRow.{StepRow}
 use Rattle.rept_machine.specs.State.{State, IsState}
 use Rattle.rept_machine.specs.Step.{IsStep}
@@ -44,7 +44,7 @@ pub record IsCourseRun (C : Course) (D : Ending) (run : CourseRun) : Type 0 wher
   -- each row is a step of the machine
   pub steps : (r : Row) (its_row : StepRow) → row_at C r ≡ Some its_row → IsStep D.image_end its_row (state_before_row C run r) (state_after_row C run r)
   -- each thread ends in its registers, and all in the bytes that were saved
-  pub registers_end : (t s v : ℕ) → t < length C.threads → 0 < s → slice_get (D.registers t) s ≡ Some v → run.register (number_of C t (length (rows_of C t))) s ≡ v
+  pub registers_end : (t s v : ℕ) → t < length C.threads → 0 < s → D.registers t s ≡ Some v → run.register (number_of C t (length (rows_of C t))) s ≡ v
   pub bytes_end : (a v : ℕ) → D.dump a ≡ Some v → run.memory at_end a ≡ v
   -- a byte that nothing writes that may act between two moments is the same at both
   pub quiet : (x : Stretch) (a : ℕ) → IsMoment C x.from → IsMoment C x.to → NotLater C x.from x.to → ((act : Act) → IsAct C act → MayAct C act x → WritesIn C D run act a → ⊥) → run.memory x.to a ≡ run.memory x.from a

@@ -50,7 +50,7 @@ pub fn rows_are_steps()
     ensures plain { (C : Course) (D : Ending) (h : History) (t i : ℕ) (row : StepRow) → IsExecution C D h → row_at C (row_of t i) ≡ Some row → calls C (row_of t i) ≡ false → IsStep D.image_end row (state_from (thread_registers C h t i) (memory_at C h (Moment.before (row_of t i)))) (state_from (thread_registers C h t (suc i)) (memory_at C h (Moment.after (row_of t i)))) }
     ensures call { (C : Course) (D : Ending) (h : History) (t i : ℕ) (row : StepRow) (memory : ℕ → ℕ) → IsExecution C D h → row_at C (row_of t i) ≡ Some row → calls C (row_of t i) ≡ true → IsStep D.image_end row (state_from (thread_registers C h t i) memory) (state_from (thread_registers C h t (suc i)) memory) }
     ensures states { (C : Course) (D : Ending) (h : History) (t p : ℕ) (m : Moment) → IsExecution C D h → IsMoment C m → IsState (state_from (thread_registers C h t p) (memory_at C h m)) }
-    ensures registers { (C : Course) (D : Ending) (h : History) (t r v : ℕ) → IsExecution C D h → 0 < r → slice_get (D.registers t) r ≡ Some v → thread_registers C h t (length (rows_of C t)) r ≡ v }
+    ensures registers { (C : Course) (D : Ending) (h : History) (t r v : ℕ) → IsExecution C D h → 0 < r → D.registers t r ≡ Some v → thread_registers C h t (length (rows_of C t)) r ≡ v }
     ensures bytes { (C : Course) (D : Ending) (h : History) (a v : ℕ) → IsExecution C D h → D.dump a ≡ Some v → memory_at C h Moment.at_end a ≡ v }
 {}
 

@@ -1,7 +1,7 @@
 -- What is given of a run, whatever the sets of values and the rules by which it is read: the rows
 -- of all threads by number, and where each thread ends; the moments of the memory; the last values
 -- of registers; and the dump. This project's own.
-use Rattle.std.specs.Prelude.{ℕ, List, Option}
+use Rattle.std.specs.Prelude.{ℕ, Option}
 use Rattle.rept_partial.specs.Sets.{Sets}
 use Rattle.rept_span.specs.Moves.{Moves}
 use Rattle.rept_span.specs.Ranges.{Legs}
@@ -14,8 +14,8 @@ pub record Given : Type 0 where
   pub legs : Legs
   -- the moments of the memory
   pub moments : Moments
-  -- at the last point of a thread the values of its registers x0 to x31
-  pub last : ℕ → List ℕ
+  -- at the last point of a thread the values of its registers, of those that have one there
+  pub last : ℕ → ℕ → Option ℕ
   -- the byte at an address at the end, where the dump has it
   pub dump : ℕ → Option ℕ
   -- where the program's own memory ends

@@ -1,6 +1,6 @@
 //! What holds of an analysis as a whole.
 
-ghost use Rattle.std.specs.Prelude.{◌≡◌, ◌≤◌, ℕ, length, true};
+ghost use Rattle.std.specs.Prelude.{◌≡◌, ◌≤◌, ◌<◌, ℕ, Some, true};
 ghost use Rattle.rept_reason.specs.Facts.{register_known};
 ghost use Rattle.rept_analysis.specs.State.{setting_of, state_of, reader};
 ghost use Rattle.rept_analysis.specs.Kept.{answers, register_answer};
@@ -25,7 +25,7 @@ impl<'a, P: Reaches + Drop, L: LastValues + Drop, B: ByteFacts, W: Transfer, R: 
     /// report has, once all is learnt, and the facts were learnt one by one. The call does nothing.
     pub fn account(&self)
         ensures few { (P.timeline self.now.paths).legs.count ≤ 66560 }
-        ensures last { (p : ℕ) → length (L.values self.now.last p) ≡ 32 }
+        ensures last { (p r v : ℕ) → L.values self.now.last p r ≡ Some v → r < 32 }
         ensures registers { self.now.complete ≡ true → (p r : ℕ) → register_answer (state_of (reader P.timeline L.values) W.sets W.moves R.rules B.store self.now) p r ≡ register_known (answers (state_of (reader P.timeline L.values) W.sets W.moves R.rules B.store self.now)) p r }
         ensures log { self.now.complete ≡ true → IsLogOf (setting_of (reader P.timeline L.values) W.sets W.moves R.rules self.now) (answers (state_of (reader P.timeline L.values) W.sets W.moves R.rules B.store self.now)) self.now.known.log }
     {

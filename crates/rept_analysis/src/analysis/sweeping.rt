@@ -106,7 +106,7 @@ impl<'a, P: Reaches + Drop, L: LastValues + Drop, B: ByteFacts, W: Transfer, R: 
         Ok(learnt)
     }
 
-    /// The value of a register other than x0 at the last point of a thread.
+    /// The value of a register other than x0 at the last point of a thread, if it has one there.
     fn infer_last(&mut self, point: u32, r: Reg) -> Result<bool, LearnError>
         requires point { IsLast (setting_of (reader P.timeline L.values) W.sets W.moves R.rules self.old) point }
         requires named { 0 < r }
@@ -118,8 +118,26 @@ impl<'a, P: Reaches + Drop, L: LastValues + Drop, B: ByteFacts, W: Transfer, R: 
         ensures calm { IfErr result (λ _. HasEndsAlone (state_of (reader P.timeline L.values) W.sets W.moves R.rules B.store self.old) → ⊥) }
         ensures halt { IfErr result (λ h. IsHalt (state_of (reader P.timeline L.values) W.sets W.moves R.rules B.store self.new) h) }
     {
+        match self.last_value(point, r) {
+            None => Ok(false),
+            Some(value) => self.learn_last(point, r, value),
+        }
+    }
+
+    /// The value that a register other than x0 has at the last point of a thread.
+    fn learn_last(&mut self, point: u32, r: Reg, value: u32) -> Result<bool, LearnError>
+        requires point { IsLast (setting_of (reader P.timeline L.values) W.sets W.moves R.rules self.old) point }
+        requires named { 0 < r }
+        requires found { L.values self.old.last point r ≡ Some value }
+        requires open { self.old.complete ≡ false }
+        ensures grows { Grows (state_of (reader P.timeline L.values) W.sets W.moves R.rules B.store self.old) (state_of (reader P.timeline L.values) W.sets W.moves R.rules B.store self.new) }
+        ensures inferred { IfOk result (λ learnt. HasInferred (state_of (reader P.timeline L.values) W.sets W.moves R.rules B.store self.old) (state_of (reader P.timeline L.values) W.sets W.moves R.rules B.store self.new) learnt (LastKnownAt point r)) }
+        ensures known { IfOk result (λ _. LastKnownAt point r (state_of (reader P.timeline L.values) W.sets W.moves R.rules B.store self.new)) }
+        ensures ends { HasEndsAlone (state_of (reader P.timeline L.values) W.sets W.moves R.rules B.store self.old) → HasEndsAlone (state_of (reader P.timeline L.values) W.sets W.moves R.rules B.store self.new) }
+        ensures calm { IfErr result (λ _. HasEndsAlone (state_of (reader P.timeline L.values) W.sets W.moves R.rules B.store self.old) → ⊥) }
+        ensures halt { IfErr result (λ h. IsHalt (state_of (reader P.timeline L.values) W.sets W.moves R.rules B.store self.new) h) }
+    {
         let _number = r.number();
-        let value = self.last_value(point, r);
         let learnt = self.learn(point, r, value)?;
         Ok(learnt)
     }

@@ -22,8 +22,8 @@ use Rattle.rept_encode.specs.declared.weaving.fault.HartPlace.{HartPlace}
 use Rattle.rept_encode.specs.declared.weaving.fault.WeaveFault.{WeaveFault}
 use Rattle.rept_encode.specs.declared.weaving.fault.WeaveFault.TheVariants.{HartCount, InnerCall, JumpEnds, TooLong, OutOfMemory}
 use Rattle.rept_encode.specs.Weaving.Stamped.{AddsPackets}
-use Rattle.rept_encode.specs.Weaving.Steps.{AddsStart, AddsStretch, AddsHart, AreStretchesTold, IsTraceFront, IsStretchCause, IsHartCause, framed}
-use Rattle.rept_encode.specs.Weaving.Woven.{start_of, ended, end_of, IsStretchSent, AreSent, IsStreamOf, AreStreamsOf, IsWoven, IsCause}
+use Rattle.rept_encode.specs.Weaving.Steps.{AddsStart, AddsStretch, AddsHart, IsTraceFront, IsStretchCause, IsHartCause, framed}
+use Rattle.rept_encode.specs.Weaving.Woven.{AreStretchesTold, start_of, ended, end_of, IsStretchSent, AreSent, IsStreamOf, AreStreamsOf, IsWoven, IsCause}
 use Rattle.rept_encode.proofs.WeavingLemmas.Clock.{leads_stamped}
 
 written_append : (w : Parameters) (a b : List ℕ) (ps qs : List Packet) → AreWritten w a ps → AreWritten w b qs → AreWritten w (a ++ b) (ps ++ qs)
@@ -161,16 +161,16 @@ straight_on rows i row is lt none all j r le get = elim (cases_eq j i) [
 ]
 
 -- causes
-pub in_hart : (hart : List HartStretch) (at : HartPlace) (s : HartStretch) (fault : WeaveFault) → slice_get hart at.stretch ≡ Some s → IsStretchCause at s.steps fault → IsHartCause at.hart hart fault
-in_hart hart at s HartCount get x = absurd x
-in_hart hart at s (InnerCall p) get x = (x.0, (s, ap (λ (k : ℕ). slice_get hart k) x.1 ∙ get, x.2))
-in_hart hart at s (JumpEnds p) get x = (x.0, (s, ap (λ (k : ℕ). slice_get hart k) x.1 ∙ get, x.2))
-in_hart hart at s (TooLong hart_number) get x = absurd x
-in_hart hart at s OutOfMemory get x = tt
+pub in_hart : (halves : Bool) (hart : List HartStretch) (at : HartPlace) (s : HartStretch) (fault : WeaveFault) → slice_get hart at.stretch ≡ Some s → IsStretchCause at s.steps fault → IsHartCause halves at.hart hart fault
+in_hart halves hart at s HartCount get x = absurd x
+in_hart halves hart at s (InnerCall p) get x = (x.0, (s, ap (λ (k : ℕ). slice_get hart k) x.1 ∙ get, x.2))
+in_hart halves hart at s (JumpEnds p) get x = (x.0, (s, ap (λ (k : ℕ). slice_get hart k) x.1 ∙ get, x.2))
+in_hart halves hart at s (TooLong hart_number) get x = absurd x
+in_hart halves hart at s OutOfMemory get x = tt
 
-pub in_harts : (harts : List (List HartStretch)) (i : ℕ) (hart : List HartStretch) (fault : WeaveFault) → slice_get harts i ≡ Some hart → i < length harts → IsHartCause i hart fault → IsCause harts fault
-in_harts harts i hart HartCount get lt x = absurd x
-in_harts harts i hart (InnerCall p) get lt x = (hart, ap (λ (k : ℕ). slice_get harts k) x.0 ∙ get, x.1)
-in_harts harts i hart (JumpEnds p) get lt x = (hart, ap (λ (k : ℕ). slice_get harts k) x.0 ∙ get, x.1)
-in_harts harts i hart (TooLong k) get lt x = rw x lt
-in_harts harts i hart OutOfMemory get lt x = tt
+pub in_harts : (halves : Bool) (harts : List (List HartStretch)) (i : ℕ) (hart : List HartStretch) (fault : WeaveFault) → slice_get harts i ≡ Some hart → i < length harts → IsHartCause halves i hart fault → IsCause halves harts fault
+in_harts halves harts i hart HartCount get lt x = absurd x
+in_harts halves harts i hart (InnerCall p) get lt x = (hart, ap (λ (k : ℕ). slice_get harts k) x.0 ∙ get, x.1)
+in_harts halves harts i hart (JumpEnds p) get lt x = (hart, ap (λ (k : ℕ). slice_get harts k) x.0 ∙ get, x.1)
+in_harts halves harts i hart (TooLong k) get lt x = (hart, ap (λ (n : ℕ). slice_get harts n) x.0 ∙ get, x.1)
+in_harts halves harts i hart OutOfMemory get lt x = tt

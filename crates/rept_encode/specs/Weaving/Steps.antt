@@ -7,13 +7,12 @@ use Rattle.rept_trace.specs.Grammar.{timed}
 use Rattle.rept_trace.specs.Header.{several_streams, heading_of, header_bytes}
 use Rattle.rept_trace.specs.Streams.{AreStreamsThen}
 use Rattle.rept_encode.specs.Walkable.{IsFirstJumpEnd}
-use Rattle.rept_encode.specs.Written.{AreWritten}
 use Rattle.rept_encode.specs.declared.weaving.stretch.HartStretch.{HartStretch}
 use Rattle.rept_encode.specs.declared.weaving.fault.HartPlace.{HartPlace}
 use Rattle.rept_encode.specs.declared.weaving.fault.WeaveFault.{WeaveFault}
 use Rattle.rept_encode.specs.declared.weaving.fault.WeaveFault.TheVariants.{HartCount, InnerCall, JumpEnds, TooLong, OutOfMemory}
 use Rattle.rept_encode.specs.Weaving.Stamped.{AddsPackets}
-use Rattle.rept_encode.specs.Weaving.Woven.{start_of, IsStretchSent, AreSent, AreStreamsOf, IsInnerCall, IsInStretch}
+use Rattle.rept_encode.specs.Weaving.Woven.{start_of, AreStretchesTold, AreStreamsOf, IsInnerCall, IsInStretch, IsStretchSent, IsTooLong}
 
 -- The start packet of a stretch was added.
 abbrev pub AddsStart : Bool → HartStretch → List ℕ → List ℕ → Type 0
@@ -22,10 +21,6 @@ AddsStart halves s old new = (first : StepRow) × (slice_get s.steps 0 ≡ Some 
 -- All packets of a stretch were added.
 abbrev pub AddsStretch : Bool → HartStretch → List ℕ → List ℕ → Type 0
 AddsStretch halves s old new = (packets : List Packet) × IsStretchSent halves s packets × AddsPackets (timed halves) old new packets
-
--- The bytes are the packets of these stretches.
-abbrev pub AreStretchesTold : Bool → List HartStretch → List ℕ → Type 0
-AreStretchesTold halves stretches bytes = (packets : List Packet) × AreWritten (timed halves) bytes packets × AreSent halves stretches packets
 
 -- a stream, with its length in front
 abbrev pub framed : List ℕ → List ℕ
@@ -55,9 +50,9 @@ IsStretchCause at rows (TooLong hart) = ⊥
 IsStretchCause at rows OutOfMemory = Unit {0}
 
 -- why the hart of this number isn't written
-abbrev pub IsHartCause : ℕ → List HartStretch → WeaveFault → Type 0
-IsHartCause h hart HartCount = ⊥
-IsHartCause h hart (InnerCall p) = (p.hart ≡ h) × IsInStretch hart p IsInnerCall
-IsHartCause h hart (JumpEnds p) = (p.hart ≡ h) × IsInStretch hart p IsFirstJumpEnd
-IsHartCause h hart (TooLong k) = k ≡ h
-IsHartCause h hart OutOfMemory = Unit {0}
+abbrev pub IsHartCause : Bool → ℕ → List HartStretch → WeaveFault → Type 0
+IsHartCause halves h hart HartCount = ⊥
+IsHartCause halves h hart (InnerCall p) = (p.hart ≡ h) × IsInStretch hart p IsInnerCall
+IsHartCause halves h hart (JumpEnds p) = (p.hart ≡ h) × IsInStretch hart p IsFirstJumpEnd
+IsHartCause halves h hart (TooLong k) = (k ≡ h) × IsTooLong halves hart
+IsHartCause halves h hart OutOfMemory = Unit {0}

@@ -1,6 +1,6 @@
 -- The trace of several harts: what each stretch of steps is sent as, and what the file holds. This
 -- project's own; the file is that of rept_trace's Streams.
-use Rattle.std.specs.Prelude.{◌≡◌, ◌⊎◌, ℕ, ◌+◌, ◌<◌, Bool, true, false, List, [], ◌∷◌, ◌++◌, length, reverse, slice_get, Some}
+use Rattle.std.specs.Prelude.{◌≡◌, ◌⊎◌, ℕ, ◌+◌, ◌^◌, ◌<◌, ◌≤◌, Bool, true, false, List, [], ◌∷◌, ◌++◌, length, reverse, slice_get, Some}
 use Rattle.rept_dump.specs.Memory.{Contents}
 use Rattle.rept_isa.specs.declared.row.StepRow.{StepRow}
 use Rattle.rept_trace.specs.declared.packet.Packet.{Packet}
@@ -13,6 +13,7 @@ use Rattle.rept_path.specs.Rows.{CarryCode}
 use Rattle.rept_encode.specs.Bits.{start_bit}
 use Rattle.rept_encode.specs.Walkable.{IsFirstJumpEnd}
 use Rattle.rept_encode.specs.Encoded.{coded, AreReporting, LeadsOver}
+use Rattle.rept_encode.specs.Written.{AreWritten}
 use Rattle.rept_encode.specs.declared.weaving.stretch.HartStretch.{HartStretch}
 use Rattle.rept_encode.specs.declared.weaving.fault.HartPlace.{HartPlace}
 use Rattle.rept_encode.specs.declared.weaving.fault.WeaveFault.{WeaveFault}
@@ -76,10 +77,24 @@ IsInStretch hart p P = (s : HartStretch) × (slice_get hart p.stretch ≡ Some s
 abbrev pub IsAtPlace : List (List HartStretch) → HartPlace → (List StepRow → ℕ → Type 0) → Type 0
 IsAtPlace harts p P = (hart : List HartStretch) × (slice_get harts p.hart ≡ Some hart) × IsInStretch hart p P
 
+-- The bytes are the packets of these stretches, and nothing else.
+abbrev pub AreStretchesTold : Bool → List HartStretch → List ℕ → Type 0
+AreStretchesTold halves stretches bytes = (packets : List Packet) × AreWritten (timed halves) bytes packets × AreSent halves stretches packets
+
+-- They take 2^32 bytes or more, whose number has no room in the file.
+pub record IsTooLong (halves : Bool) (stretches : List HartStretch) : Type 0 where
+  pub stream : List ℕ
+  pub told : AreStretchesTold halves stretches stream
+  pub long : 2 ^ 32 ≤ length stream
+
+-- the hart of this number has too many packets
+abbrev pub IsHartTooLong : Bool → List (List HartStretch) → ℕ → Type 0
+IsHartTooLong halves harts number = (hart : List HartStretch) × (slice_get harts number ≡ Some hart) × IsTooLong halves hart
+
 -- why no trace is written
-abbrev pub IsCause : List (List HartStretch) → WeaveFault → Type 0
-IsCause harts HartCount = (length harts ≡ 0) ⊎ (64 < length harts)
-IsCause harts (InnerCall place) = IsAtPlace harts place IsInnerCall
-IsCause harts (JumpEnds place) = IsAtPlace harts place IsFirstJumpEnd
-IsCause harts (TooLong hart) = hart < length harts
-IsCause harts OutOfMemory = Unit {0}
+abbrev pub IsCause : Bool → List (List HartStretch) → WeaveFault → Type 0
+IsCause halves harts HartCount = (length harts ≡ 0) ⊎ (64 < length harts)
+IsCause halves harts (InnerCall place) = IsAtPlace harts place IsInnerCall
+IsCause halves harts (JumpEnds place) = IsAtPlace harts place IsFirstJumpEnd
+IsCause halves harts (TooLong number) = IsHartTooLong halves harts number
+IsCause halves harts OutOfMemory = Unit {0}

@@ -7,8 +7,8 @@ ghost use Rattle.rept_encode.specs.Walkable.{IsWalkable, AreStraight};
 ghost use Rattle.rept_trace.specs.Grammar.{timed};
 ghost use Rattle.rept_trace.specs.Header.{several_streams, heading_of, header_bytes};
 ghost use Rattle.rept_encode.specs.Weaving.Stamped.{AddsPackets};
-ghost use Rattle.rept_encode.specs.Weaving.Steps.{AddsStart, AddsStretch, AddsHart, AreStretchesTold, IsTraceFront, IsStretchCause, IsHartCause, framed};
-ghost use Rattle.rept_encode.specs.Weaving.Woven.{IsInnerCall, IsWoven, IsCause, ended, end_of};
+ghost use Rattle.rept_encode.specs.Weaving.Steps.{AddsStart, AddsStretch, AddsHart, IsTraceFront, IsStretchCause, IsHartCause, framed};
+ghost use Rattle.rept_encode.specs.Weaving.Woven.{AreStretchesTold, IsInnerCall, IsWoven, IsCause, ended, end_of};
 
 use crate::weaving::fault::{HartPlace, WeaveFault};
 use crate::weaving::stamped::{Start, push_context, push_start};
@@ -118,7 +118,7 @@ fn push_stretch(
 fn stream_of(alloc: Global, halves: bool, hart: &Hart, number: usize) -> Result<Text, WeaveFault>
     requires { All (λ s. IsWalkable halves s.steps) hart.now }
     ensures ok { IfOk result (AreStretchesTold halves hart.now) }
-    ensures err { IfErr result (IsHartCause number hart.now) }
+    ensures err { IfErr result (IsHartCause halves number hart.now) }
 {
     let stretches = hart.all();
     let mut stream = Text::new(alloc);
@@ -155,7 +155,7 @@ fn push_hart(
 ) -> Result<(), WeaveFault>
     requires { All (λ s. IsWalkable halves s.steps) hart.now }
     ensures ok { OnOk result (AddsHart halves hart.now trace.old trace.new) }
-    ensures err { IfErr result (IsHartCause number hart.now) }
+    ensures err { IfErr result (IsHartCause halves number hart.now) }
 {
     let stream = match stream_of(alloc, halves, hart, number) {
         Ok(stream) => stream,
@@ -190,13 +190,13 @@ fn header(alloc: Global, halves: bool, count: u8) -> Result<Text, OutOfMemory>
 ///
 /// The refusals are `HartCount`; `InnerCall` of a call that isn't the last step of its stretch;
 /// `JumpEnds` of the first call of a stretch that directly follows an uninferable jump; and
-/// `TooLong` of a hart. Times aren't looked at: `rept_streams::threads::rebuilding::rebuild_many`
-/// refuses those that go back, and skips what is before the greatest begin of the harts' first
-/// stretches.
+/// `TooLong` of a hart whose packets take 2^32 bytes or more. Times aren't looked at:
+/// `rept_streams::threads::rebuilding::rebuild_many` refuses those that go back, and skips what is
+/// before the greatest begin of the harts' first stretches.
 pub fn weave(alloc: Global, halves: bool, harts: &Harts) -> Result<Text, WeaveFault>
     requires { All (All (λ s. IsWalkable halves s.steps)) harts.now }
     ensures woven { IfOk result (IsWoven halves harts.now) }
-    ensures cause { IfErr result (IsCause harts.now) }
+    ensures cause { IfErr result (IsCause halves harts.now) }
 {
     let all = harts.all();
     let count = all.len();

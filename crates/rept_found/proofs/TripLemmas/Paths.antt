@@ -22,5 +22,5 @@ pub is_sound : (rows : List StepRow) → IsSoundCourse (course_of (run_of_one ro
 is_sound rows = record { taken = taken rows; in_time = in_time rows; calls = inl (is_alone rows) }
 
 pub saves_one : {W : Type 0} (P : ThreadPath W) → SavesOne (trip_of P).ending
-saves_one P zero some = absurd (omega arith)
-saves_one P (suc t) some = refl
+saves_one P zero s some = absurd (omega arith)
+saves_one P (suc t) s some = refl

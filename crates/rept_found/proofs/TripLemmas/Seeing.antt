@@ -126,7 +126,7 @@ module _ {W : Type 0} (sets : Sets W) (moves : Moves W) (rules : Rules) (C : Cou
         let three = subst (λ (k : ℕ). IsStep D.image_end its_row (state_from (run.register k) (it.memory i)) (state_from (run.register (suc k)) (it.memory (cond (is_call its_row.instr) i (i + 1))))) (zero-add i) two in
         subst (λ (k : ℕ). IsStep D.image_end its_row (state_from (run.register i) (it.memory i)) (state_from (run.register k) (it.memory (cond (is_call its_row.instr) i (i + 1))))) (one_more i) three
 
-    registers_end : (p r v : ℕ) → IsLast S p → 0 < r → slice_get (S.last p) r ≡ Some v → run.register p r ≡ v
+    registers_end : (p r v : ℕ) → IsLast S p → 0 < r → S.last p r ≡ Some v → run.register p r ≡ v
     registers_end p r v final some is =
         let few = final.0 in
         let threads = one_thread C rows e in
@@ -185,7 +185,7 @@ module _ {W : Type 0} (sets : Sets W) (moves : Moves W) (rules : Rules) (C : Cou
         zero = r.zero;
         bytes = r.bytes;
         steps = r.steps;
-        registers_end = λ p k v final low is. r.registers_end p k v final low (subst (λ (t : ℕ). slice_get (D.registers t) k ≡ Some v) (thread_here C p some final.0) is);
+        registers_end = λ p k v final low is. r.registers_end p k v final low (subst (λ (t : ℕ). D.registers t k ≡ Some v) (thread_here C p some final.0) is);
         bytes_end = r.bytes_end;
         quiet = λ a m w next light none. r.quiet a m w next light (λ i may_act k. none i may_act (record { row = k.row; is_row = k.is_row; writes = k.writes }));
       }

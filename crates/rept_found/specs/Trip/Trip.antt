@@ -27,7 +27,7 @@ thread_on C p = if nat_lt (point_at C p).thread (length C.threads) then (point_a
 
 -- the last values of registers of the thread of a point; where there is one thread in one slice,
 -- all of which is told, those of that thread
-abbrev pub values_by : Course → (ℕ → List ℕ) → Option (List StepRow) → ℕ → List ℕ
+abbrev pub values_by : Course → (ℕ → ℕ → Option ℕ) → Option (List StepRow) → ℕ → ℕ → Option ℕ
 values_by C registers (Some rows) p = registers 0
 values_by C registers None p = registers (thread_on C p)
 

@@ -11,7 +11,7 @@ use rept_isa::{Reg, register};
 use rept_versions::ByteFacts;
 
 /// Whether the value was found.
-fn has(found: Option<u32>, value: u32) -> bool
+pub(crate) fn has(found: Option<u32>, value: u32) -> bool
     ensures { IsTrue result ↔ (found ≡ Some value) }
 {
     found == Some(value)

@@ -83,7 +83,7 @@ module _ {W : Type 0} (sets : Sets W) (moves : Moves W) (rules : Rules) (C : Cou
       let three = subst (λ (k : ℕ). IsStep D.image_end its_row (state_from (run.register k) (run.memory (N.last (N.name (before (row_on C i)))))) (state_from (run.register (suc k)) (run.memory (N.last (cond (is_call its_row.instr) (N.name (before (row_on C i))) (N.name (after (row_on C i)))))))) (number_point C i) two in
       subst (λ (k : ℕ). IsStep D.image_end its_row (state_from (run.register i) (run.memory (N.last (N.name (before (row_on C i)))))) (state_from (run.register k) (run.memory (N.last (cond (is_call its_row.instr) (N.name (before (row_on C i))) (N.name (after (row_on C i)))))))) (one_more i) three
 
-  registers_end : (p r v : ℕ) → IsLast S p → 0 < r → slice_get (S.last p) r ≡ Some v → run.register p r ≡ v
+  registers_end : (p r v : ℕ) → IsLast S p → 0 < r → S.last p r ≡ Some v → run.register p r ≡ v
   registers_end p r v final some e =
       let low = final.0 in
       let all = points_next C.threads 0 0 threads (omega arith) in

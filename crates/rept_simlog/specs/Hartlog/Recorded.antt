@@ -1,12 +1,12 @@
 -- What is recorded of a log of several harts, and why it isn't.
-use Rattle.std.specs.Prelude.{◌≡◌, ℕ, ◌<◌, List, [], ◌∷◌, length, None, Some}
+use Rattle.std.specs.Prelude.{◌≡◌, ℕ, ◌<◌, Bool, List, [], ◌∷◌, length, None, Some}
 use Rattle.rept_elf.specs.Checks.{checks, first_failure}
 use Rattle.rept_elf.specs.declared.fault.Want.TheVariants.{Exec}
 use Rattle.rept_path.specs.Code.{Code}
 use Rattle.rept_simlog.specs.Lines.{AreEntries, IsNoEntry, last_entries}
 use Rattle.rept_simlog.specs.Program.{built}
 use Rattle.rept_encode.specs.declared.weaving.stretch.HartStretch.{HartStretch}
-use Rattle.rept_encode.specs.Weaving.Woven.{IsWoven}
+use Rattle.rept_encode.specs.Weaving.Woven.{IsTooLong, IsWoven}
 use Rattle.rept_simlog.specs.declared.hartlog.log.HartLogLine.{HartLogLine}
 use Rattle.rept_simlog.specs.declared.hartlog.refusal.HartLogRefusal.{HartLogRefusal}
 use Rattle.rept_simlog.specs.declared.hartlog.refusal.HartLogRefusal.TheVariants.{Executable, NoNumbers, NoInstruction, NoStep, JumpEnds, NoSteps, TooLong, OutOfMemory}
@@ -37,15 +37,15 @@ IsStepsFault code entries (NoNumbers k) = ⊥
 IsStepsFault code entries (Executable fault) = ⊥
 
 -- why stretches aren't written
-abbrev pub IsTraceFault : List HartStretch → HartLogRefusal → Type 0
-IsTraceFault stretches (JumpEnds k) = IsJumpEndOf stretches k
-IsTraceFault stretches TooLong = Unit {0}
-IsTraceFault stretches OutOfMemory = Unit {0}
-IsTraceFault stretches (NoInstruction k fault) = ⊥
-IsTraceFault stretches (NoStep k) = ⊥
-IsTraceFault stretches NoSteps = ⊥
-IsTraceFault stretches (NoNumbers k) = ⊥
-IsTraceFault stretches (Executable fault) = ⊥
+abbrev pub IsTraceFault : Bool → List HartStretch → HartLogRefusal → Type 0
+IsTraceFault halves stretches (JumpEnds k) = IsJumpEndOf stretches k
+IsTraceFault halves stretches TooLong = IsTooLong halves stretches
+IsTraceFault halves stretches OutOfMemory = Unit {0}
+IsTraceFault halves stretches (NoInstruction k fault) = ⊥
+IsTraceFault halves stretches (NoStep k) = ⊥
+IsTraceFault halves stretches NoSteps = ⊥
+IsTraceFault halves stretches (NoNumbers k) = ⊥
+IsTraceFault halves stretches (Executable fault) = ⊥
 
 -- The trace has one stream, which has the steps of these entries.
 pub record RecordsSeveralHarts (code : Code) (entries : List HartLogLine) (trace : List ℕ) : Type 0 where
@@ -64,7 +64,7 @@ IsNotRecorded code entries (NoInstruction k fault) = LacksInstruction code entri
 IsNotRecorded code entries (NoStep k) = LacksStep code entries k
 IsNotRecorded code entries (JumpEnds k) = HaveStretches code entries (λ stretches. IsJumpEndOf stretches k)
 IsNotRecorded code entries NoSteps = AreLogged code entries []
-IsNotRecorded code entries TooLong = HaveStretches code entries (λ stretches. 0 < length stretches)
+IsNotRecorded code entries TooLong = HaveStretches code entries (λ stretches. (0 < length stretches) × IsTooLong code.halves stretches)
 IsNotRecorded code entries OutOfMemory = Unit {0}
 IsNotRecorded code entries (NoNumbers k) = ⊥
 IsNotRecorded code entries (Executable fault) = ⊥

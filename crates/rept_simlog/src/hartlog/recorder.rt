@@ -35,7 +35,7 @@ fn trace_of(alloc: Global, halves: bool, stretches: Hart) -> Result<Text, HartLo
     requires straight { All (λ s. AreStraight s.steps (length s.steps - 1)) stretches }
     requires short { All (λ s. s.begin + length s.steps ≤ 2 ^ 32) stretches }
     ensures ok { IfOk result (λ trace. IsWoven halves (stretches ∷ []) trace) }
-    ensures err { IfErr result (λ refusal. IsTraceFault stretches refusal) }
+    ensures err { IfErr result (λ refusal. IsTraceFault halves stretches refusal) }
 {
     let mut harts = Harts::new(alloc);
     if let Err(_) = harts.push(stretches) {

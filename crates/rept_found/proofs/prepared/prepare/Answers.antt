@@ -1,4 +1,4 @@
-use Rattle.std.proofs.Common.{◌≡◌, ◌≤◌, length, ap, subst, sym, arith, ◌∙◌}
+use Rattle.std.proofs.Common.{◌≡◌, ◌<◌, ◌≤◌, Some, ap, subst, sym, arith, ◌∙◌}
 use Rattle.rept_dump.specs.Dump.{exe_of, core_of}
 use Rattle.rept_moments.specs.Courses.{seen_in}
 use Rattle.rept_moments.specs.Seen.{SeenMoments}
@@ -19,7 +19,7 @@ prepare-requires-clause-few g c =
     subst (λ (x : RunPaths). (seen_in x.ways).legs.count ≤ 66560) (sym c.in-Ok.ensures) here
 
 pub prepare-requires-clause-registers : goal.prepare-requires-clause-registers
-prepare-requires-clause-registers g c = λ p. subst (λ (x : Ends). length (last_values_in x p) ≡ 32) (sym c.new-last.ensures) (values_long c.args.ends.now c.account.ensures.ends c.account.ensures.some p)
+prepare-requires-clause-registers g c = λ p r v. subst (λ (x : Ends). last_values_in x p r ≡ Some v → r < 32) (sym c.new-last.ensures) (values_long c.args.ends.now c.account.ensures.ends c.account.ensures.some p r v)
 
 pub invariant_of-result : goal.invariant_of-result
 invariant_of-result g c =
@@ -40,7 +40,7 @@ returns-in-Ok-prepare g c =
     let new : CrashView g.row.W.Denot g.row.R.Denot = record { analysis = c.in-Ok-prepare.analysis; ends = c.args.ends.now; program = exe_of c.args.dump.now; core = core_of c.args.dump.now } in
     record {
       prepared = λ notes noted same. record {
-        trip = trip_is m new notes c.account.ensures.ends.whole noted same;
+        trip = trip_is m new notes c.requires.program c.account.ensures.ends.whole noted same;
         same_scene = scene_is new notes noted same;
       };
     }

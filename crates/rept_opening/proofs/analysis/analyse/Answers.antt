@@ -15,6 +15,9 @@ prepare-requires-clause-sound g c = sound_ends (means g.W.Partial.sets g.W.Trans
 pub prepare-requires-clause-course : goal.prepare-requires-clause-course
 prepare-requires-clause-course g c = course_ends (means g.W.Partial.sets g.W.Transfer.moves atomic_rules) c.args.dump.now c.args.run.now c.args.basis.now.ends c.requires.fits c.requires.ended c.args.basis.now.paths.ways c.requires.course
 
+pub prepare-requires-clause-program : goal.prepare-requires-clause-program
+prepare-requires-clause-program g c = c.requires.ended.program
+
 pub returns-in-Ok-search-clause-found : goal.returns-in-Ok-search-clause-found
 returns-in-Ok-search-clause-found g c = λ notes are.
     found_here (means g.W.Partial.sets g.W.Transfer.moves atomic_rules) c.args.dump.now c.args.run.now c.args.basis.now.ends c.requires.fits c.requires.ended notes are c.in-Ok.prepared c.in-Ok.ensures.prepared c.in-Ok-search.found c.in-Ok-search.ensures.found

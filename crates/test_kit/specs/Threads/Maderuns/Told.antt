@@ -18,7 +18,7 @@ use Rattle.test_kit.specs.declared.threads.maderuns.made.MadeRun.{MadeRun}
 -- an ending of which all that is said is what a core file and an executable say: the registers of
 -- each thread by its note, and the bytes
 pub record IsEndingOf (exe core : List ℕ) (descs : List (List ℕ)) (D : Ending) : Type 0 where
-  pub registers : (t s v : ℕ) → 0 < s → slice_get (D.registers t) s ≡ Some v → (desc : List ℕ) × (slice_get descs t ≡ Some desc) × (s < 32) × (word_at desc (72 + 4 * s) ≡ v)
+  pub registers : (t s v : ℕ) → 0 < s → D.registers t s ≡ Some v → (desc : List ℕ) × (slice_get descs t ≡ Some desc) × (s < 32) × (word_at desc (72 + 4 * s) ≡ v)
   pub bytes : (a v : ℕ) → D.dump a ≡ Some v → crash_byte (of_executable exe) (segments core) a ≡ Some v
 
 -- The executable and the core file pass their checks, and the core file has the notes of its

@@ -1,5 +1,5 @@
 -- What a played run is: its rows and slices, and that it has an execution. This project's own.
-use Rattle.std.specs.Prelude.{◌≡◌, ℕ, ◌-◌, ◌<◌, ◌≤◌, if◌then◌else◌, List, length, Option, None, Some, slice_get, slice_index}
+use Rattle.std.specs.Prelude.{◌≡◌, ℕ, ◌-◌, ◌<◌, ◌≤◌, if◌then◌else◌, List, length, Option, None, Some, slice_index}
 use Rattle.rept_isa.specs.declared.instr.Instr.{Instr}
 use Rattle.rept_steps.specs.Course.{Course, row_of, row_at, IsSoundCourse}
 use Rattle.rept_steps.specs.Runs.{course_of}
@@ -14,7 +14,7 @@ use Rattle.test_kit.specs.Threads.Play.Code.{row_in}
 -- an ending of which all that was saved is what the play left: registers of the four threads, and
 -- bytes
 pub record IsPlayLeft (D : Ending) (played : Played) : Type 0 where
-  pub registers : (t s v : ℕ) → 0 < s → slice_get (D.registers t) s ≡ Some v → (t < 4) × ((if sees t s then slice_index played.registers s else 0) ≡ v)
+  pub registers : (t s v : ℕ) → 0 < s → D.registers t s ≡ Some v → (t < 4) × ((if sees t s then slice_index played.registers s else 0) ≡ v)
   pub inside : (a v : ℕ) → D.dump a ≡ Some v → (131072 ≤ a) × (a < 131104)
   pub bytes : (a v : ℕ) → D.dump a ≡ Some v → slice_index played.bytes.items (a - 131072) ≡ v
 

@@ -1,7 +1,7 @@
 -- A play: turns as they happened one after the other, each row a step of the machine by its
 -- thread's registers and the one memory (RISC-V unprivileged manual 20191213, chapters 1.2 and
 -- 1.4). This project's own.
-use Rattle.std.specs.Prelude.{◌≡◌, ℕ, suc, ◌<◌, ◌≤◌, List, Some, slice_get}
+use Rattle.std.specs.Prelude.{◌≡◌, ℕ, suc, ◌<◌, ◌≤◌, List, Some}
 use Rattle.rept_machine.specs.State.{IsState}
 use Rattle.rept_steps.specs.Course.{Course, Row, row_of}
 use Rattle.rept_order.specs.History.{World, seen_by, Stays, ExecutesRow, Ending, History, IsExecution}
@@ -28,7 +28,7 @@ last_world x = x.world (all_rows x.turns)
 pub record IsPlay (C : Course) (D : Ending) (x : Playing) : Type 0 where
   pub states : (k t : ℕ) → k ≤ all_rows x.turns → IsState (seen_by t (x.world k))
   pub executes : (k : ℕ) (turn : Turn) → turn_at x.turns k ≡ Some turn → ExecutesRow C D (row_played x.turns turn k) (record { old = x.world k; new = x.world (suc k) })
-  pub registers_end : (t s v : ℕ) → 0 < s → slice_get (D.registers t) s ≡ Some v → (last_world x).register t s ≡ v
+  pub registers_end : (t s v : ℕ) → 0 < s → D.registers t s ≡ Some v → (last_world x).register t s ≡ v
   pub bytes_end : (a v : ℕ) → D.dump a ≡ Some v → (last_world x).memory a ≡ v
 
 -- there is an execution of the course that begins in the play's first world and ends in its last
