@@ -1,6 +1,7 @@
 pub mod Sentences
 pub mod Placing
 pub mod Combining
+mod Computing
 pub mod Frame
 pub mod Calling
 pub mod Loading

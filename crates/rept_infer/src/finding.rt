@@ -148,7 +148,7 @@ fn related<K: KnownPath, P: PathPremises>(
         Ok((next, changed)) => {
             let Found { table, on, back } = next;
             let mut table = table;
-            match relate_few(earlier.0, &mut table, earlier.1.rows) {
+            match relate_few(earlier.0, &mut table, earlier.1) {
                 Err(stop) => Err(stop),
                 Ok(more) => Ok((Found { table, on, back }, changed || more)),
             }

@@ -5,6 +5,7 @@ mod answers;
 pub mod bytes;
 mod calls;
 pub mod crossing;
+mod exact;
 pub mod finding;
 pub mod fixed;
 pub mod inferring;

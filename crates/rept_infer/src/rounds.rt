@@ -4,6 +4,7 @@ ghost use Rattle.std.specs.Prelude.{◌≡◌, ◌+◌, ◌<◌, OnOk, OnErr, So
 ghost use Rattle.rept_infer.specs.Admitted.{Story};
 ghost use Rattle.rept_infer.specs.Rules.{KeepsSets, RefusesSets};
 
+use crate::exact::exactly;
 use crate::inverse::back;
 use crate::row::{carry, forward, turn};
 use crate::table::{Empty, Table};
@@ -18,7 +19,8 @@ pub fn visit(table: &mut Table, index: u32, row: &StepRow) -> Result<bool, Empty
 {
     let turned = turn(table, index, row)?;
     let made = forward(table, index, row)?;
+    let known = exactly(table, index, row)?;
     let found = back(table, index, row)?;
     let carried = carry(table, index, row)?;
-    Ok(turned || made || found || carried)
+    Ok(turned || made || known || found || carried)
 }

@@ -27,6 +27,23 @@ fn carry_one(table: &mut Table, index: u32, row: &StepRow, r: Reg) -> Result<boo
     Ok(onward || back)
 }
 
+/// Where both sets are the same, there is nothing to carry.
+fn carry_apart(table: &mut Table, index: u32, row: &StepRow, r: Reg) -> Result<bool, Empty>
+    requires inside { index + 1 < table.old.points }
+    requires kept { written_by row.now.instr ≢ Some r }
+    ensures points { table.new.points ≡ table.old.points }
+    ensures keeps { OnOk result ((story : Story) → slice_get story.rows index ≡ Some row.now → KeepsSets story table.old table.new) }
+    ensures refuses { OnErr result ((story : Story) → slice_get story.rows index ≡ Some row.now → RefusesSets story table.old) }
+{
+    let _points = table.points();
+    let before = table.at(index, r);
+    let after = table.at(index + 1, r);
+    if before == after {
+        return Ok(false);
+    }
+    carry_one(table, index, row, r)
+}
+
 /// Each register but the one that the row writes has the same value before and after it: both sets
 /// are cut to their common values. Answers whether a set changed.
 pub fn carry(table: &mut Table, index: u32, row: &StepRow) -> Result<bool, Empty>
@@ -40,7 +57,7 @@ pub fn carry(table: &mut Table, index: u32, row: &StepRow) -> Result<bool, Empty
     for number in 0..32u8 {
         let r = register(number);
         if written != Some(r) {
-            if carry_one(table, index, row, r)? {
+            if carry_apart(table, index, row, r)? {
                 changed = true;
             }
         }

@@ -31,7 +31,7 @@ row_moment_end legs moments laws i Before there = let x = the_row (legs.row i) t
 row_moment_end legs moments laws i After there = let x = the_row (legs.row i) there in laws.rows_after i x.0 x.1
 
 -- the byte and the rows and moments that a front's byte speaks of are the front's
-module _ {P L W : Type 0} (sets : Sets W) (moves : Moves W) (rules : Rules) (timeline : P → Timeline) (values : L → ℕ → List ℕ) where
+module _ {P L W : Type 0} (sets : Sets W) (moves : Moves W) (rules : Rules) (timeline : P → Timeline) (values : L → ℕ → ℕ → Option ℕ) where
   abbrev setting_at : Stored P L → Setting W
   setting_at b = setting_in (front_of sets moves rules (basis_of timeline values b))
 

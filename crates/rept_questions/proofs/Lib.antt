@@ -1,3 +1,5 @@
+pub mod CallLemmas
+pub mod LostLemmas
 pub mod SpotLemmas
 pub mod StackLemmas
 pub mod TrailLemmas

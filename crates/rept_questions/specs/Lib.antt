@@ -1,3 +1,5 @@
+pub mod Calls
+pub mod Lost
 pub mod Spots
 pub mod Texts
 pub mod Trail

@@ -4,4 +4,5 @@ mod frames;
 mod jumps;
 mod unwind;
 
-pub use frames::{Frame, frames_of};
+pub use frames::{Frame, follow, frames_of};
+pub use jumps::calls;

@@ -1,7 +1,9 @@
 //! Answers that are worked out from what an analysis found.
 #![tactic(auto)]
 
+pub mod calls;
 pub mod frames;
+pub mod lost;
 pub mod reasons;
 pub mod rows;
 pub mod spots;

@@ -159,7 +159,7 @@ pub fn register_source(rows: &[StepRow], point: u32, register: Reg) -> Option<u3
 }
 
 /// Whether an instruction writes a register.
-fn is_written(instr: &Instr, register: Reg) -> bool
+pub fn is_written(instr: &Instr, register: Reg) -> bool
     ensures { result ≡ is_some_of register (written_by instr.now) }
 {
     match writes(instr) {

@@ -1,12 +1,12 @@
 //! The steps that wrote a byte, or may have, by instruction.
 
-ghost use Rattle.std.specs.Prelude.{◌≡◌, ◌<◌, ◌++◌, slice_get, IfOk, IfSome, OnOk};
+ghost use Rattle.std.specs.Prelude.{◌≡◌, ◌<◌, ◌++◌, length, slice_get, IfOk, IfSome, OnOk};
 ghost use Rattle.std.specs.Fmt.{decimal};
 ghost use Rattle.std.specs.List.{filter, flat_map};
 ghost use Rattle.rept_findings.specs.Shown.{IsThreadPoint};
 ghost use Rattle.rept_findings.specs.Texts.{at as at_of};
 ghost use Rattle.rept_questions.specs.Texts.{group_at, group_counts, group_entry, group_line, group_of, is_of, is_sure_step, is_value, left_line, newest_of, writers_lines};
-ghost use Rattle.rept_questions.specs.Writers.{is_step, is_untold, kept_step, may_touch, names_surely, next_below, stored, stored_by, told_step, touches, writers_before};
+ghost use Rattle.rept_questions.specs.Writers.{is_step, is_untold, is_writer, kept_step, may_touch, names, names_surely, next_below, stored, stored_by, told_step, touches, writers_before};
 
 use crate::rows::push_named_row;
 use crate::spots::{push_point, push_where};
@@ -162,6 +162,35 @@ fn may_touch<F: Findings>(findings: &F, point: u32, address: u32, instr: &Instr)
     match address_at(findings, point, instr) {
         Some(first) => address.wrapping_sub(first) < count,
         None => true,
+    }
+}
+
+/// Whether a step of the thread wrote a byte, or may have, as far as that is known after it.
+pub fn is_writer<F: Findings>(findings: &F, at: ThreadPoint, address: u32) -> bool
+    requires point { IsThreadPoint (F.shown findings.now) at }
+    requires step { at.point < length ((F.shown findings.now).rows at.thread) }
+    ensures { result ≡ is_writer (F.shown findings.now) address at }
+{
+    let _rows = findings.rows(at.thread);
+    let after = ThreadPoint {
+        thread: at.thread,
+        point: at.point + 1,
+    };
+    touches(findings, at, address)
+        && names(
+            findings,
+            at,
+            findings.writer(moment_of(findings, after), address),
+        )
+}
+
+/// Whether a writer that is told is this step, for certain or not.
+fn names<F: Findings>(findings: &F, at: ThreadPoint, writer: Writer) -> bool
+    ensures { result ≡ names (F.shown findings.now) at writer }
+{
+    match writer {
+        Writer::Writes(row) | Writer::MayWrite(row) => is_step(at, findings.point(row)),
+        Writer::Several | Writer::None => false,
     }
 }
 
@@ -410,7 +439,7 @@ fn push_counted(text: &mut Text, words: &[u8], count: usize) -> Result<(), OutOf
 }
 
 /// How many steps were left out, if any.
-fn push_left(text: &mut Text, count: usize) -> Result<(), OutOfMemory>
+pub fn push_left(text: &mut Text, count: usize) -> Result<(), OutOfMemory>
     ensures { OnOk result (text.new ≡ text.old ++ left_line count) }
 {
     if count == 0 {

@@ -50,7 +50,7 @@ pub word_there : (value : ℕ → ℕ) (s : State) (place : WordPlace) (a node k
 word_there value s place a node known p e f = e ∙ ap (λ (n : ℕ). word_at s.memory n) (sym p.stands) ∙ f
 
 -- ---- the words that are left
-word_same : (m n : ℕ → ℕ) (a : ℕ) → ((k : ℕ) → k < 4 → m (beside a k) ≡ n (beside a k)) → word_at m a ≡ word_at n a
+pub word_same : (m n : ℕ → ℕ) (a : ℕ) → ((k : ℕ) → k < 4 → m (beside a k) ≡ n (beside a k)) → word_at m a ≡ word_at n a
 word_same m n a same =
     let p = same 0 (lit< tt) in
     let q = same 1 (lit< tt) in

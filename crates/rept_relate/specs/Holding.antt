@@ -1,10 +1,14 @@
 -- Words of memory that nodes stand for. Their addresses are terms, known or not.
-use Rattle.std.specs.Prelude.{◌≡◌, ℕ, ◌<◌, ◌≤◌, Bool, true, false, List, Some, slice_get}
+use Rattle.std.specs.Prelude.{◌≡◌, ℕ, ◌+◌, ◌<◌, ◌≤◌, Bool, true, false, List, Some, slice_get}
 use Rattle.rept_isa.specs.declared.instr.Instr.{Instr}
 use Rattle.rept_isa.specs.declared.instr.Instr.TheVariants.{Store, Amo, Ecall}
+use Rattle.rept_isa.specs.declared.row.StepRow.{StepRow}
 use Rattle.rept_isa.specs.Numbers.{beside}
+use Rattle.rept_alias.specs.declared.addresses.CallAccess.{CallAccess}
+use Rattle.rept_alias.specs.Accesses.{call_hits}
 use Rattle.rept_machine.specs.Arithmetic.{word_at}
 use Rattle.rept_machine.specs.State.{State}
+use Rattle.rept_machine.specs.Writes.{WritesBy}
 use Rattle.rept_relate.specs.Classes.Valuations.{word_of}
 use Rattle.rept_relate.specs.declared.words.WordPlace.{WordPlace}
 use Rattle.rept_relate.specs.declared.words.WordSlot.{WordSlot}
@@ -48,3 +52,23 @@ is_quiet (Store op rs1 rs2 imm) = false
 is_quiet (Amo op rd rs1 rs2) = false
 is_quiet Ecall = false
 is_quiet _ = true
+
+-- no byte of the word at the place is one of an access
+abbrev pub IsOutside : WordPlace → CallAccess → Type 0
+IsOutside place access = (value : ℕ → ℕ) (a k : ℕ) → IsPlaceOf value place a → k < 4 → call_hits access (beside a k) ≡ false
+
+-- a live slot of the new list is one of the old list, outside of an access
+pub record IsLeft (old : List WordSlot) (k : ℕ) (slot : WordSlot) (access : CallAccess) : Type 0 where
+  pub kept : slice_get old k ≡ Some slot
+  pub outside : IsOutside slot.place access
+
+abbrev pub AreLeft : List WordSlot → List WordSlot → CallAccess → Type 0
+AreLeft old new access = (k : ℕ) (slot : WordSlot) → slice_get new k ≡ Some slot → slot.live ≡ true → IsLeft old k slot access
+
+-- a call writes bytes of an access alone
+abbrev pub IsCallWithin : StepRow → CallAccess → ℕ → State → State → Type 0
+IsCallWithin row access image_end s t = row.instr ≡ Ecall → (a : ℕ) → WritesBy row.instr image_end s t a → call_hits access a ≡ true
+
+-- so does each call of the rows, by a list with an access for each row
+abbrev pub AreCallsWithin : ℕ → List StepRow → List CallAccess → (ℕ → State) → Type 0
+AreCallsWithin image_end rows calls run = (i : ℕ) (row : StepRow) (access : CallAccess) → slice_get rows i ≡ Some row → slice_get calls i ≡ Some access → IsCallWithin row access image_end (run i) (run (i + 1))

@@ -1,6 +1,7 @@
 //! Registers of a path whose values differ by constants.
 #![tactic(auto)]
 
+mod called;
 pub mod classes;
 mod numbering;
 mod operations;
@@ -11,4 +12,4 @@ mod storing;
 mod words;
 
 pub use classes::{ClassNode, Classes, Impossible, Term, shifted};
-pub use passes::{RelateStop, relate};
+pub use passes::{CalledPath, RelateStop, relate};

@@ -16,7 +16,7 @@ use Rattle.rept_session.specs.declared.verb.Single.{Single}
 use Rattle.rept_session.specs.declared.verb.Single.TheVariants as single
 use Rattle.rept_session.specs.declared.verb.Double.{Double}
 use Rattle.rept_session.specs.declared.verb.Double.TheVariants as double
-use Rattle.rept_session.specs.Commands.{IsCommandWithin, around_command, asked_command, bare_command, begins_with_digit, command_of, command_of_first, command_of_words, double_command, double_verb, find_command, from_command, goto_command, question_word, reg_command, thread_command, is_count, lone_command, single_command, single_verb, verb_of, why_command, with_number, with_register}
+use Rattle.rept_session.specs.Commands.{IsCommandWithin, around_command, asked_command, bare_command, begins_with_digit, calls_command, command_of, command_of_first, command_of_words, double_command, double_verb, find_command, from_command, goto_command, lost_command, question_word, reg_command, thread_command, is_count, lone_command, single_command, single_verb, verb_of, why_command, with_number, with_register}
 use Rattle.rept_word.specs.Parsing.Numbers.{number_of_word}
 use Rattle.rept_session.specs.Registers.{register_of}
 use Rattle.rept_session.specs.Words.{words_in}
@@ -86,6 +86,14 @@ module _ (last threads : ℕ) where
   from_good (Some r) word = tt
   from_good None word = either Good (begins_with_digit word) _ _ (λ _. number_good (λ a. command.Ask (question.FromByte a)) (λ k. tt) (number_of_word word)) (λ _. tt)
 
+  calls_good : (o : Option ℕ) → Good (calls_command o)
+  calls_good None = tt
+  calls_good (Some count) = either Good (is_count count) _ _ (λ _. tt) (λ _. tt)
+
+  lost_good : (o : Option ℕ) (word : List ℕ) → Good (lost_command o word)
+  lost_good (Some r) word = tt
+  lost_good None word = either Good (begins_with_digit word) _ _ (λ _. number_good (λ a. command.Ask (question.LostByte a)) (λ k. tt) (number_of_word word)) (λ _. tt)
+
   asked_good : (v : QuestionWord) (words : List (List ℕ)) → Good (asked_command v words)
   asked_good asks.Around [] = tt
   asked_good asks.Around (w ∷ []) = around_good (number_of_word w)
@@ -103,6 +111,12 @@ module _ (last threads : ℕ) where
   asked_good asks.Writers [] = tt
   asked_good asks.Writers (w ∷ []) = number_good (λ a. command.Ask (question.Writers a)) (λ k. tt) (number_of_word w)
   asked_good asks.Writers (w ∷ x ∷ ws) = tt
+  asked_good asks.Calls [] = tt
+  asked_good asks.Calls (w ∷ []) = calls_good (number_of_word w)
+  asked_good asks.Calls (w ∷ x ∷ ws) = tt
+  asked_good asks.Lost [] = tt
+  asked_good asks.Lost (w ∷ []) = lost_good (register_of w) w
+  asked_good asks.Lost (w ∷ x ∷ ws) = tt
 
   goto_good : (o : Option ℕ) → Good (goto_command last o)
   goto_good None = tt

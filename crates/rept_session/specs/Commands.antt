@@ -60,6 +60,8 @@ question_word word =
     else if bytes_eq word (codes "find") then Some asks.Find
     else if bytes_eq word (codes "from") then Some asks.From
     else if bytes_eq word (codes "writers") then Some asks.Writers
+    else if bytes_eq word (codes "calls") then Some asks.Calls
+    else if bytes_eq word (codes "lost") then Some asks.Lost
     else None
 
 abbrev pub verb_of : List ℕ → Option Verb
@@ -142,7 +144,18 @@ abbrev pub from_command : Option ℕ → List ℕ → Result Command BadCommand
 from_command (Some r) word = Ok (command.Ask (question.FromRegister r))
 from_command None word = if begins_with_digit word then with_number (λ address. command.Ask (question.FromByte address)) (number_of_word word) else Err bad.Register
 
--- the question of a first word, and the words that come after it; `around` alone is `around 3`
+-- `calls`: a count
+abbrev pub calls_command : Option ℕ → Result Command BadCommand
+calls_command None = Err bad.Number
+calls_command (Some count) = if is_count count then Ok (command.Ask (question.Calls count)) else Err bad.Limit
+
+-- `lost`: as `why`, a register or else an address
+abbrev pub lost_command : Option ℕ → List ℕ → Result Command BadCommand
+lost_command (Some r) word = Ok (command.Ask (question.LostRegister r))
+lost_command None word = if begins_with_digit word then with_number (λ address. command.Ask (question.LostByte address)) (number_of_word word) else Err bad.Register
+
+-- the question of a first word, and the words that come after it; `around` alone is `around 3`, and
+-- `calls` alone `calls 16`
 abbrev pub asked_command : QuestionWord → List (List ℕ) → Result Command BadCommand
 asked_command asks.Around [] = Ok (command.Ask (question.Around 3))
 asked_command asks.Around (word ∷ []) = around_command (number_of_word word)
@@ -155,6 +168,11 @@ asked_command asks.From (word ∷ []) = from_command (register_of word) word
 asked_command asks.From words = Err (bad.Words (length words))
 asked_command asks.Writers (word ∷ []) = with_number (λ address. command.Ask (question.Writers address)) (number_of_word word)
 asked_command asks.Writers words = Err (bad.Words (length words))
+asked_command asks.Calls [] = Ok (command.Ask (question.Calls 16))
+asked_command asks.Calls (word ∷ []) = calls_command (number_of_word word)
+asked_command asks.Calls words = Err (bad.Words (length words))
+asked_command asks.Lost (word ∷ []) = lost_command (register_of word) word
+asked_command asks.Lost words = Err (bad.Words (length words))
 
 abbrev pub alone : Command → List (List ℕ) → Result Command BadCommand
 alone c [] = Ok c

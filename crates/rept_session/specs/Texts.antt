@@ -16,6 +16,8 @@ use Rattle.rept_findings.specs.declared.place.ThreadPoint.{ThreadPoint}
 use Rattle.rept_session.specs.declared.question.Question.{Question}
 use Rattle.rept_session.specs.declared.question.Question.TheVariants as question
 use Rattle.rept_session.specs.Help.{help_text}
+use Rattle.rept_questions.specs.Calls.{calls_lines}
+use Rattle.rept_questions.specs.Lost.{lost_byte, lost_register}
 use Rattle.rept_questions.specs.Trail.{byte_source, register_source}
 use Rattle.rept_questions.specs.Writers.{writers_before}
 use Rattle.rept_findings.specs.Texts.{at, memory_lines, note_text, pc_at, range_text, register_line, register_lines, step_lines, writer_line}
@@ -84,6 +86,9 @@ IsAnswered s c question.Recent text = text ≡ recent_lines s c
 IsAnswered s c (question.FromRegister r) text = IsFromRegister s c r (register_source (s.rows c.thread) c.point r) text
 IsAnswered s c (question.FromByte a) text = IsFromByte s c a (byte_source s c a) text
 IsAnswered s c (question.Writers a) text = text ≡ writers_lines s c a (writers_before s a c)
+IsAnswered s c (question.Calls count) text = text ≡ calls_lines s c count
+IsAnswered s c (question.LostRegister r) text = text ≡ lost_register s c r (s.register (number s c) r)
+IsAnswered s c (question.LostByte a) text = text ≡ lost_byte s c a (s.byte (moment_at s c) a)
 IsAnswered s c question.Help text = text ≡ help_text
 
 -- whether a text answers a command, with the cursor after it; which reason `why` tells is free

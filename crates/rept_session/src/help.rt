@@ -18,6 +18,7 @@ at            the step at the cursor, what it reads and what it writes
 around [K]    the steps so near to the cursor; K is 3 if not given
 list [I [K]]  K steps from step I on; alone the last 16 before the cursor
 stack         the calls that the thread is in
+calls [K]     the last K calls before the cursor, and where they returned; 16 if not given
 reg R         the value of a register; of pc the address
 regs          the values of x1 to x31
 range R       the lowest and the highest value of a register
@@ -26,6 +27,8 @@ writer A      the last writer of the byte at address A
 writers A     the steps that wrote it or may have, by instruction
 why R         why a register has its value
 why A         why the byte at address A has its value
+lost R        what keeps a register from being known
+lost A        what keeps the byte at address A from being known
 from R        the steps that the value of register R came from
 from A        the steps that the byte at address A came from
 visits A      the points at which the path is at address A

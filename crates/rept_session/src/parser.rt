@@ -1,7 +1,7 @@
 //! Reading a line as a command.
 
 ghost use Rattle.std.specs.Prelude.{◌≡◌, ℕ, IfOk, MatchResult, None, Some};
-ghost use Rattle.rept_session.specs.Commands.{IsCommandWithin, alone, around_command, asked_command, bare_command, command_of, begins_with_digit, command_of_verb, double_command, find_command, from_command, goto_command, reg_command, single_command, thread_command, why_command};
+ghost use Rattle.rept_session.specs.Commands.{IsCommandWithin, alone, around_command, asked_command, bare_command, calls_command, command_of, begins_with_digit, command_of_verb, double_command, find_command, from_command, goto_command, lost_command, reg_command, single_command, thread_command, why_command};
 ghost use Rattle.rept_word.specs.Parsing.Numbers.{number_of_word};
 ghost use Rattle.rept_session.specs.Registers.{register_of};
 ghost use Rattle.rept_session.specs.Words.{words_in};
@@ -20,10 +20,10 @@ use rept_word::{is_word, number_in};
 /// The most bytes of a line that is a command.
 const MOST_BYTES: usize = 256;
 
-/// The most bytes or steps that one command tells.
+/// The most bytes, steps or calls that one command tells.
 const MOST_TOLD: u32 = 256;
 
-/// How many bytes or steps one tells that names no count.
+/// How many bytes, steps or calls one tells that names no count.
 const SHORT_COUNT: u32 = 16;
 
 /// How many steps to each side `around` tells that names no count.
@@ -234,6 +234,8 @@ fn read_asked(asked: QuestionWord, rest: &[u8]) -> Result<Command, BadCommand>
         QuestionWord::Find => read_find(rest),
         QuestionWord::From => read_from(rest),
         QuestionWord::Writers => read_writers(rest),
+        QuestionWord::Calls => read_calls(rest),
+        QuestionWord::Lost => read_lost(rest),
     }
 }
 
@@ -258,6 +260,55 @@ fn around_command(word: &[u8]) -> Result<Command, BadCommand>
         return Err(BadCommand::Limit);
     }
     Ok(Command::Ask(Question::Around(count)))
+}
+
+/// `calls`, and a count where there is one.
+fn read_calls(rest: &[u8]) -> Result<Command, BadCommand>
+    ensures { result ≡ asked_command asks.Calls (words_in rest.now) }
+{
+    let Some((word, more)) = first_word(rest) else {
+        return Ok(Command::Ask(Question::Calls(SHORT_COUNT)));
+    };
+    if first_word(more).is_some() {
+        return Err(BadCommand::Words(count_words(rest)));
+    }
+    calls_command(word)
+}
+
+fn calls_command(word: &[u8]) -> Result<Command, BadCommand>
+    ensures { result ≡ calls_command (number_of_word word.now) }
+{
+    let count = read_number(word)?;
+    if count == 0 || count > MOST_TOLD {
+        return Err(BadCommand::Limit);
+    }
+    Ok(Command::Ask(Question::Calls(count)))
+}
+
+/// `lost`, and a register or an address.
+fn read_lost(rest: &[u8]) -> Result<Command, BadCommand>
+    ensures { result ≡ asked_command asks.Lost (words_in rest.now) }
+{
+    let Some((word, more)) = first_word(rest) else {
+        return Err(BadCommand::Words(0));
+    };
+    if first_word(more).is_some() {
+        return Err(BadCommand::Words(count_words(rest)));
+    }
+    lost_command(word)
+}
+
+/// A word that names a register is one; any other is a number where it begins with a digit.
+fn lost_command(word: &[u8]) -> Result<Command, BadCommand>
+    ensures { result ≡ lost_command (register_of word.now) word.now }
+{
+    if let Some(found) = register_named(word) {
+        return Ok(Command::Ask(Question::LostRegister(found)));
+    }
+    if !begins_with_digit(word) {
+        return Err(BadCommand::Register);
+    }
+    Ok(Command::Ask(Question::LostByte(read_number(word)?)))
 }
 
 /// `visits`, and an address.

@@ -28,6 +28,13 @@ pub enum Question {
     FromByte(u32),
     /// `writers A`: tells the steps that wrote the byte at an address, or may have, by instruction.
     Writers(u32),
+    /// `calls K`: tells the last calls before the cursor, so many at most, 16 where no number is
+    /// given.
+    Calls(u32),
+    /// `lost R`: tells what keeps the value of a register from being known.
+    LostRegister(Reg),
+    /// `lost A`: tells what keeps the byte at an address from being known.
+    LostByte(u32),
     /// `help`: tells the commands, and what each `? N` means.
     Help,
 }

@@ -10,6 +10,8 @@ use crate::question::Question;
 use rept_findings::findings::address_at;
 use rept_findings::lines::step_texts;
 use rept_findings::{Findings, ThreadPoint};
+use rept_questions::calls::calls_text;
+use rept_questions::lost::{byte_lost, register_lost};
 use rept_questions::rows::{around_text, at_text};
 use rept_questions::spots::{find_text, visits_text};
 use rept_questions::trail_text::{byte_from, register_from};
@@ -40,6 +42,9 @@ pub fn question_text<F: Findings>(
         Question::FromRegister(register) => register_from(alloc, findings, at, register),
         Question::FromByte(address) => byte_from(alloc, findings, at, address),
         Question::Writers(address) => writers_text(alloc, findings, at, address),
+        Question::Calls(count) => calls_text(alloc, findings, at, count),
+        Question::LostRegister(register) => register_lost(alloc, findings, at, register),
+        Question::LostByte(address) => byte_lost(alloc, findings, at, address),
         Question::Help => whole_help(alloc),
     }
 }

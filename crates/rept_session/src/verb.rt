@@ -48,6 +48,8 @@ pub enum QuestionWord {
     Find,
     From,
     Writers,
+    Calls,
+    Lost,
 }
 
 /// What a line begins that has this first word. None exactly where the word names no command.
@@ -140,6 +142,10 @@ fn question_word(word: &[u8]) -> Option<QuestionWord>
         Some(QuestionWord::From)
     } else if is_word(word, b"writers") {
         Some(QuestionWord::Writers)
+    } else if is_word(word, b"calls") {
+        Some(QuestionWord::Calls)
+    } else if is_word(word, b"lost") {
+        Some(QuestionWord::Lost)
     } else {
         None
     }

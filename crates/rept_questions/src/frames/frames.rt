@@ -19,7 +19,7 @@ pub struct Frame {
 }
 
 /// The calls after a row, of those before it. Its only refusal is of memory.
-fn follow(frames: &mut Vec<Frame>, row: &StepRow) -> Result<(), AllocError>
+pub fn follow(frames: &mut Vec<Frame>, row: &StepRow) -> Result<(), AllocError>
     ensures { OnOk result (frames.new.items ≡ after_row frames.old.items row.now) }
 {
     if calls(&row.instr) {
