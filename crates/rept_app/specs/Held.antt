@@ -6,7 +6,6 @@ use Rattle.rept_findings.specs.Shown.{SessionTold}
 use Rattle.rept_session.specs.Serving.Serving.{Reading, InputEnded, Failed, Overran, FirstAnswers}
 use Rattle.rept_opening.specs.Delivered.{Delivers}
 use Rattle.rept_app.specs.Ends.{IsCaused}
-use Rattle.rept_app.specs.declared.hold.HeldSession.{HeldSession}
 use Rattle.rept_opening.specs.Lines.{line_of}
 use Rattle.rept_opening.specs.declared.refusal.Refusal.{Refusal}
 use Rattle.rept_opening.specs.declared.refusal.Refusal.TheVariants as refusal
@@ -36,6 +35,6 @@ IsHeldSession t reading text status = Replies t reading.input text status ⊎ Cu
 
 -- A session over what is told: what it leaves on the output where the input tells its bytes, and
 -- how it ends; the signal of the crash is none of its answers.
-abbrev pub HoldsSession : SessionTold → ℕ → PortMove Port → PortMove Port → HeldSession → Type 0
-HoldsSession t signal source sink held =
-    IfSome source.before.bytes (λ bytes. Delivers (IsHeldSession t (record { input = bytes; left = source.after.bytes })) sink held.status) × IsCaused source sink held.status
+abbrev pub HoldsSession : SessionTold → ℕ → PortMove Port → PortMove Port → ExitStatus → Type 0
+HoldsSession t signal source sink status =
+    IfSome source.before.bytes (λ bytes. Delivers (IsHeldSession t (record { input = bytes; left = source.after.bytes })) sink status) × IsCaused source sink status

@@ -36,24 +36,23 @@ pub fn hold<F: Findings, S: Source, K: Sink>(
     }
 }
 
-/// A session over the report of a crash, with the status that it ended with.
+/// A session over the report of a crash, which ends with a status.
 #[derive(Clone, Copy)]
-pub struct HeldSession {
-    pub status: ExitStatus,
-}
+pub struct LineSession {}
 
-impl Asking for HeldSession {
-    ghost asks = { HoldsSession };
+impl Asking for LineSession {
+    type End = ExitStatus;
+
+    ghost asks = { λ _. HoldsSession };
 
     fn ask<F: Findings, S: Source, K: Sink>(
+        &mut self,
         alloc: Global,
         findings: &mut F,
         circumstances: Circumstances,
         input: &mut S,
         out: &mut K,
-    ) -> HeldSession {
-        HeldSession {
-            status: hold(alloc, findings, circumstances.skipped, input, out),
-        }
+    ) -> ExitStatus {
+        hold(alloc, findings, circumstances.skipped, input, out)
     }
 }

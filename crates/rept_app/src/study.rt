@@ -15,7 +15,7 @@ ghost use Rattle.rept_opening.specs.Opened.{crash_run};
 ghost use Rattle.rept_opening.specs.TraceRun.{FitsDump};
 ghost use Rattle.rept_opening.specs.True.{IsExcluded};
 
-use crate::hold::HeldSession;
+use crate::hold::LineSession;
 use rept_dump::Dump;
 use rept_opening::{CrashImages, Domain, ExitStatus, open_report, tell};
 use rept_ports::{Sink, Source};
@@ -41,8 +41,18 @@ pub fn study<S: Source, K: Sink>(
     ensures stays { (notes : List (List ℕ)) → AreNotesOf dump.now notes → (input.new ≡ input.old) ⊎ StudyHolds (crash_run (means_of domain) (crash_of dump.now notes) run.now) result }
     ensures impossible { (notes : List (List ℕ)) → AreNotesOf dump.now notes → result ≡ ExitStatus.Inconsistent → IsExcluded (crash_run (means_of domain) (crash_of dump.now notes) run.now) }
 {
-    match open_report::<HeldSession, S, K>(alloc, domain, run, dump, images, input, out) {
-        Ok(held) => held.status,
+    let mut session = LineSession {};
+    match open_report::<LineSession, S, K>(
+        alloc,
+        domain,
+        run,
+        dump,
+        images,
+        &mut session,
+        input,
+        out,
+    ) {
+        Ok(status) => status,
         Err(refusal) => tell(alloc, out, &refusal),
     }
 }

@@ -20,7 +20,7 @@ use Rattle.rept_opening.specs.declared.refusal.FileKind.TheVariants as file
 use Rattle.rept_opening.specs.declared.load.OpenOptions.{OpenOptions}
 use Rattle.rept_opening.specs.declared.refusal.Refusal.{Refusal}
 use Rattle.rept_debug.specs.Debugged.{HasNoTalk, IsDebugged, IsHeld, IsHeldMapped, IsRefusedLoading, IsUnheld, NameStops, Notices, Streams, streams}
-use Rattle.rept_debug.specs.Process.{ArePortsUntouched, DebugProcess, OpensAs, OpensTalk, RefusesAs, session_words}
+use Rattle.rept_debug.specs.Process.{MayHaveGreeted, DebugProcess, OpensAs, OpensTalk, RefusesAs, session_words}
 use Rattle.rept_debug.specs.declared.no_talk.GdbError.{GdbError}
 use Rattle.rept_debug.specs.declared.no_talk.GdbError.TheVariants as no_talk
 use Rattle.rept_debug.specs.declared.talk.GdbSession.{GdbSession}
@@ -74,7 +74,7 @@ refused_core words files core old between new (no_talk.LoadFault name) e loads h
 -- the process opens what its words name
 pub opened : (p : DebugProcess) (words ws : List (List ℕ)) (r : Result GdbSession GdbError) → p.words ≡ Ok words → ws ≡ session_words words
     → IfOk r (λ talk. IfSome p.file_store.before.files (λ files. IsDebugged ws files (streams p.input p.output p.errors) talk))
-    → IfErr r (λ x. IfSome p.file_store.before.files (λ files. HasNoTalk ws files p.file_store x)) → IfErr r (λ _. ArePortsUntouched p) → IfErr r (λ _. Notices p.errors) → OpensTalk p r
+    → IfErr r (λ x. IfSome p.file_store.before.files (λ files. HasNoTalk ws files p.file_store x)) → IfErr r (λ _. MayHaveGreeted p) → IfErr r (λ _. Notices p.errors) → OpensTalk p r
 opened p words ws (Ok talk) is same a b u n =
     subst (λ (w : Result (List (List ℕ)) Unreadable). OpensAs p w talk) (sym is) (subst (λ (x : List (List ℕ)). IfSome p.file_store.before.files (λ files. IsDebugged x files (streams p.input p.output p.errors) talk)) same a)
 opened p words ws (Err x) is same a b u n = (

@@ -1,9 +1,9 @@
 -- From an analysis that has ended to the dialog over it.
-use Rattle.std.proofs.Common.{◌≡◌, ◌⊎◌, ℕ, List, inl, inr, refl, ap, subst, ◌∙◌}
+use Rattle.std.proofs.Common.{◌≡◌, ◌⊎◌, ℕ, List, inl, inr, refl, sym, ap, subst, ◌∙◌}
 use Rattle.rept_dump.specs.declared.dump.Dump.{Dump}
 use Rattle.rept_path.specs.declared.fault.PathFault.{PathFault}
 use Rattle.rept_path.specs.declared.fault.PathFault.TheVariants as fault
-use Rattle.rept_ports.specs.Port.{Port, PortMove}
+use Rattle.rept_ports.specs.Port.{Port, PortMove, move}
 use Rattle.rept_runs.specs.Kind.{is_several}
 use Rattle.rept_steps.specs.declared.run.Run.{Run}
 use Rattle.rept_found.specs.Crash.{Crash, crash_of}
@@ -17,13 +17,19 @@ use Rattle.rept_opening.specs.declared.load.OpenOptions.{OpenOptions}
 use Rattle.rept_opening.specs.declared.refusal.Refusal.{Refusal}
 use Rattle.rept_opening.specs.declared.refusal.Refusal.TheVariants as refusal
 use Rattle.rept_debug.specs.Begin.{BeginsAt, NeverBegins}
-use Rattle.rept_debug.specs.Debugged.{HoldsDialog, IsHeld, IsHeldTrace, IsNoticed, IsRefusedCrash, IsRefusedTrace, Streams, TalksOver}
-use Rattle.rept_debug.specs.declared.talk.HeldDialog.{HeldDialog}
+use Rattle.rept_debug.specs.Debugged.{HoldsDialog, IsHeld, IsHeldTrace, IsNoticed, IsRefusedCrash, IsRefusedTrace, MayGreet, Streams, TalksOver}
+use Rattle.rept_debug.specs.Dialog.Greeting.{IsGreeting}
+use Rattle.rept_debug.specs.declared.dialog.conversation.SessionEnd.{SessionEnd}
+use Rattle.rept_debug.specs.declared.dialog.greeting.Greeting.{Greeting}
 use Rattle.rept_debug.specs.declared.talk.GdbSession.{GdbSession}
 
 -- what was asked over a run was answered over it
-pub talks_over : {W : Type 0} (p : CrashRun W) (source sink : PortMove Port) (held : HeldDialog) → IsAsked HoldsDialog p source sink held → TalksOver p source sink held.end
-talks_over p source sink held h = record { account = h.account; report = h.report; talks = h.asked }
+pub talks_over : {W : Type 0} (p : CrashRun W) (s0 s1 s2 k0 k1 k2 : Port) (g : Greeting) (end : SessionEnd) → IsGreeting (move s0 s1) (move k0 k1) g → IsAsked (HoldsDialog g) p (move s1 s2) (move k1 k2) end → TalksOver p (move s0 s2) (move k0 k2) end
+talks_over p s0 s1 s2 k0 k1 k2 g end greeted h = record { account = h.account; report = h.report; talks = h.asked s0 k0 greeted }
+
+-- what was answered before a refusal stands
+pub still_greeted : (s0 s1 s2 k0 k1 k2 : Port) (g : Greeting) → s2 ≡ s1 → k2 ≡ k1 → IsGreeting (move s0 s1) (move k0 k1) g → MayGreet (move s0 s2) (move k0 k2)
+still_greeted s0 s1 s2 k0 k1 k2 g e f h = inr (g, subst (λ (s : Port). IsGreeting (move s0 s) (move k0 k2) g) (sym e) (subst (λ (k : Port). IsGreeting (move s0 s1) (move k0 k) g) (sym f) h))
 
 -- of a trace
 module _ (t : CrashTrace) where

@@ -14,7 +14,10 @@ use Rattle.rept_runs.specs.Kind.{is_several}
 use Rattle.rept_found.specs.Crash.{note_at}
 use Rattle.rept_findings.specs.Shown.{SessionTold}
 use Rattle.rept_debug.specs.Dialog.Converse.{Parties, Converses, parties_over}
+use Rattle.rept_debug.specs.Dialog.Greeting.{IsGreeting}
+use Rattle.rept_debug.specs.Dialog.Onward.{GoesOn}
 use Rattle.rept_debug.specs.declared.dialog.conversation.SessionEnd.{SessionEnd}
+use Rattle.rept_debug.specs.declared.dialog.greeting.Greeting.{Greeting}
 use Rattle.rept_opening.specs.Forms.{core_image_fault}
 use Rattle.rept_opening.specs.Lines.{status_of}
 use Rattle.rept_opening.specs.Loading.{CrashBytes, CoreBytes, ComesTo, ComesToCore, Loading, core_loads_to, loading, loads_to}
@@ -34,7 +37,6 @@ use Rattle.rept_opening.specs.declared.status.ExitStatus.TheVariants as ends
 use Rattle.rept_debug.specs.Begin.{BeginsAt, NeverBegins}
 use Rattle.rept_debug.specs.declared.no_talk.GdbError.{GdbError}
 use Rattle.rept_debug.specs.declared.no_talk.GdbError.TheVariants as no_talk
-use Rattle.rept_debug.specs.declared.talk.HeldDialog.{HeldDialog}
 use Rattle.rept_debug.specs.declared.talk.GdbSession.{GdbSession}
 
 -- the three streams, before a call and after it
@@ -72,9 +74,15 @@ Notices errors = (errors.after ≡ errors.before) ⊎ ((from : ℕ) × IsWritten
 abbrev pub dialog_over : {W : Type 0} → CrashRun W → RunAccount → Parties
 dialog_over p a = parties_over (told_in p a) (half_at (note_at p.crash 0) 12)
 
--- a dialog over what a session tells, with the signal of the crash, and how it ended
-abbrev pub HoldsDialog : SessionTold → ℕ → PortMove Port → PortMove Port → HeldDialog → Type 0
-HoldsDialog t signal source sink held = Converses (parties_over t signal) source sink held.end
+-- a dialog that began before the report goes on over what a session tells, with the signal of the
+-- crash
+abbrev pub HoldsDialog : Greeting → SessionTold → ℕ → PortMove Port → PortMove Port → SessionEnd → Type 0
+HoldsDialog g t signal source sink end = GoesOn (parties_over t signal) g source sink end
+
+-- What was read and answered where there is no dialog over a report: nothing; or all packets up to
+-- the first one that needs a report.
+abbrev pub MayGreet : PortMove Port → PortMove Port → Type 0
+MayGreet source sink = ((source.after ≡ source.before) × (sink.after ≡ sink.before)) ⊎ ((g : Greeting) × IsGreeting source sink g)
 
 -- what arrived was answered over an account of the run
 pub record TalksOver {W : Type 0} (p : CrashRun W) (source sink : PortMove Port) (end : SessionEnd) : Type 0 where

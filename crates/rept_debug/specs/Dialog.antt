@@ -1,2 +1,4 @@
 pub mod Converse
 pub mod Dialog
+pub mod Greeting
+pub mod Onward

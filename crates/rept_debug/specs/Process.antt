@@ -15,7 +15,7 @@ use Rattle.rept_opening.specs.declared.refusal.Refusal.{Refusal}
 use Rattle.rept_opening.specs.declared.refusal.Refusal.TheVariants as refusal
 use Rattle.rept_opening.specs.declared.status.ExitStatus.{ExitStatus}
 use Rattle.rept_opening.specs.declared.status.ExitStatus.TheVariants as ends
-use Rattle.rept_debug.specs.Debugged.{HasNoTalk, IsDebugged, Notices, status_of_no_talk, streams}
+use Rattle.rept_debug.specs.Debugged.{HasNoTalk, IsDebugged, MayGreet, Notices, status_of_no_talk, streams}
 use Rattle.rept_debug.specs.declared.no_talk.GdbError.{GdbError}
 use Rattle.rept_debug.specs.declared.no_talk.GdbError.TheVariants as no_talk
 use Rattle.rept_debug.specs.declared.talk.GdbSession.{GdbSession}
@@ -61,9 +61,9 @@ abbrev pub TellsNoTalk : GdbError → List ℕ → ExitStatus → Type 0
 TellsNoTalk (no_talk.Refused r) text status = TellsRefusal r text status
 TellsNoTalk (no_talk.LoadFault name) text status = TellsName (string_bytes name) text status
 
--- the ports of the debugger are as they were
-abbrev pub ArePortsUntouched : DebugProcess → Type 0
-ArePortsUntouched p = (p.input.after ≡ p.input.before) × (p.output.after ≡ p.output.before)
+-- the debugger was answered up to its first packet that needs a report, at most
+abbrev pub MayHaveGreeted : DebugProcess → Type 0
+MayHaveGreeted p = MayGreet p.input p.output
 
 -- Of words that are read: the crash was debugged where the files are told, with a notice of where
 -- its run begins. Words that aren't are usage, or there is no memory for them.
@@ -78,12 +78,12 @@ RefusesAs p (Err OutOfMemory) why = why ≡ no_talk.Refused refusal.OutOfMemory
 
 abbrev pub OpensTalk : DebugProcess → Result GdbSession GdbError → Type 0
 OpensTalk p result =
-    MatchResult result (λ talk. OpensAs p p.words talk) (λ why. RefusesAs p p.words why × ArePortsUntouched p × Notices p.errors)
+    MatchResult result (λ talk. OpensAs p p.words talk) (λ why. RefusesAs p p.words why × MayHaveGreeted p × Notices p.errors)
 
 -- A dialog was held, and the number is that of its end. Or there is none: why is written, after
 -- what was noticed, and the number is that of its status.
 abbrev pub AnswersDebugging : DebugProcess → ℕ → Type 0
 AnswersDebugging p number =
     ((talk : GdbSession) × OpensAs p p.words talk × (number ≡ number_of_status (status_of_end talk.end)))
-    ⊎ ((why : GdbError) × (noticed : Port) × RefusesAs p p.words why × ArePortsUntouched p × Notices (move p.errors.before noticed)
+    ⊎ ((why : GdbError) × (noticed : Port) × RefusesAs p p.words why × MayHaveGreeted p × Notices (move p.errors.before noticed)
     × ((told : ExitStatus) × Delivers (TellsNoTalk why) (move noticed p.errors.after) told) × (number ≡ number_of_status (status_of_no_talk why)))

@@ -4,7 +4,7 @@ ghost use Rattle.std.specs.Prelude.{◌≡◌, ◌≤◌, ◌<◌, ◌^◌, map,
 ghost use Rattle.rept_ports.specs.Port.{move};
 ghost use Rattle.rept_opening.specs.Loading.{FileStoreMoves, crash_bytes, FaultsEnd};
 ghost use Rattle.rept_opening.specs.Words.Words.{meaning_of};
-ghost use Rattle.rept_debug.specs.Debugged.{HasNoTalk, IsDebugged, IsHeld, IsRefusedCrash, Notices, streams};
+ghost use Rattle.rept_debug.specs.Debugged.{HasNoTalk, IsDebugged, IsHeld, IsRefusedCrash, MayGreet, Notices, streams};
 
 use crate::mapped::debug_mapped;
 use crate::no_talk::GdbError;
@@ -21,8 +21,9 @@ use std::alloc::Global;
 /// Opens the crash that the words name, as a session does, and answers a debugger over its report:
 /// `open EXE CORE TRACE` (or `bits`), or `maps CORE TRACE`, and maybe the number of a packet. From
 /// the first packet, where that run has too many steps, it begins from a later one. The refusals
-/// are those of a session, in its order, and words that ask for a made run are refused as usage. At
-/// a refusal nothing was read or written.
+/// are those of a session, in its order, and words that ask for a made run are refused as usage.
+/// The first packets of the debugger are answered before the crash is analysed; at a refusal these
+/// answers stand.
 pub fn debug<H: FileStore, S: Source, K: Sink, E: Sink>(
     alloc: Global,
     words: &[String],
@@ -37,7 +38,7 @@ pub fn debug<H: FileStore, S: Source, K: Sink, E: Sink>(
 
     // Why not, where the files are told; the ports are as they were.
     ensures refused { IfErr result (λ why. IfSome (H.port file_store.old).files (λ files. HasNoTalk (map string_bytes words.now) files (move (H.port file_store.old) (H.port file_store.new)) why)) }
-    ensures unread { IfErr result (λ _. (input.new ≡ input.old) × (out.new ≡ out.old)) }
+    ensures greeted { IfErr result (λ _. MayGreet (move (S.port input.old) (S.port input.new)) (move (K.port out.old) (K.port out.new))) }
     ensures noticed { IfErr result (λ _. Notices (move (E.port errors.old) (E.port errors.new))) }
 
     // The files stay. At most one fault is counted, and none before a dialog, unless a mapped file
@@ -74,7 +75,7 @@ fn debug_files<S: Source, K: Sink, E: Sink>(
     requires { length files.now.trace.items < 2 ^ 32 }
     ensures held { IfOk result (IsHeld (crash_bytes files.now.exe.items files.now.core.items files.now.trace.items files.now.manner) (streams (move (S.port input.old) (S.port input.new)) (move (K.port out.old) (K.port out.new)) (move (E.port errors.old) (E.port errors.new)))) }
     ensures refused { IfErr result (IsRefusedCrash (crash_bytes files.now.exe.items files.now.core.items files.now.trace.items files.now.manner)) }
-    ensures unread { IfErr result (λ _. (input.new ≡ input.old) × (out.new ≡ out.old)) }
+    ensures greeted { IfErr result (λ _. MayGreet (move (S.port input.old) (S.port input.new)) (move (K.port out.old) (K.port out.new))) }
     ensures noticed { IfErr result (λ _. Notices (move (E.port errors.old) (E.port errors.new))) }
 {
     let trace = files.trace.as_slice();

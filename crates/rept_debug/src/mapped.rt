@@ -9,7 +9,7 @@ ghost use Rattle.rept_ports.specs.Port.{move};
 ghost use Rattle.rept_opening.specs.Forms.{core_image_fault};
 ghost use Rattle.rept_opening.specs.Loading.{core_bytes, parts_bytes};
 ghost use Rattle.rept_opening.specs.Mapped.{mapped_crash};
-ghost use Rattle.rept_debug.specs.Debugged.{IsHeld, IsHeldMapped, IsRefusedCrash, IsUnheld, Notices, streams};
+ghost use Rattle.rept_debug.specs.Debugged.{IsHeld, IsHeldMapped, IsRefusedCrash, IsUnheld, MayGreet, Notices, streams};
 
 use crate::no_talk::{GdbError, load_fault};
 use crate::talk::{GdbSession, debug_trace};
@@ -34,7 +34,7 @@ pub fn debug_mapped<H: FileStore, S: Source, K: Sink, E: Sink>(
     requires { length files.now.trace.items < 2 ^ 32 }
     ensures held { IfOk result (λ talk. IfSome (H.port file_store.old).files (λ told. IsHeldMapped (mapped_crash told (core_bytes files.now.core.items files.now.trace.items files.now.manner)) (streams (move (S.port input.old) (S.port input.new)) (move (K.port out.old) (K.port out.new)) (move (E.port errors.old) (E.port errors.new))) talk)) }
     ensures unheld { IfErr result (λ why. IfSome (H.port file_store.old).files (λ told. IsUnheld (mapped_crash told (core_bytes files.now.core.items files.now.trace.items files.now.manner)) (move (H.port file_store.old).loads (H.port file_store.new).loads) why)) }
-    ensures unread { IfErr result (λ _. (input.new ≡ input.old) × (out.new ≡ out.old)) }
+    ensures greeted { IfErr result (λ _. MayGreet (move (S.port input.old) (S.port input.new)) (move (K.port out.old) (K.port out.new))) }
     ensures noticed { IfErr result (λ _. Notices (move (E.port errors.old) (E.port errors.new))) }
     ensures files { (H.port file_store.new).files ≡ (H.port file_store.old).files }
     ensures later { (H.port file_store.old).faults ≤ (H.port file_store.new).faults }
@@ -82,7 +82,7 @@ fn debug_images<S: Source, K: Sink, E: Sink>(
     requires places { length images.now ≡ map_count (desc_of maps) }
     ensures held { IfOk result (IsHeld (parts_bytes (mappings (desc_of maps.entry) images.now) (core_bytes (file_of core.entry) files.now.trace.items files.now.manner)) (streams (move (S.port input.old) (S.port input.new)) (move (K.port out.old) (K.port out.new)) (move (E.port errors.old) (E.port errors.new)))) }
     ensures refused { IfErr result (IsRefusedCrash (parts_bytes (mappings (desc_of maps.entry) images.now) (core_bytes (file_of core.entry) files.now.trace.items files.now.manner))) }
-    ensures unread { IfErr result (λ _. (input.new ≡ input.old) × (out.new ≡ out.old)) }
+    ensures greeted { IfErr result (λ _. MayGreet (move (S.port input.old) (S.port input.new)) (move (K.port out.old) (K.port out.new))) }
     ensures noticed { IfErr result (λ _. Notices (move (E.port errors.old) (E.port errors.new))) }
 {
     let trace = files.trace.as_slice();

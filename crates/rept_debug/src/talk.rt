@@ -10,10 +10,11 @@ ghost use Rattle.rept_found.specs.Crash.{crash_of};
 ghost use Rattle.rept_opening.specs.Beyond.{executable_of};
 ghost use Rattle.rept_opening.specs.Reading.{AreNotesOf, HasNotes};
 ghost use Rattle.rept_opening.specs.Opened.{crash_trace};
-ghost use Rattle.rept_debug.specs.Debugged.{HoldsDialog, IsHeldTrace, IsRefusedTrace, Notices, streams};
+ghost use Rattle.rept_debug.specs.Debugged.{IsHeldTrace, IsRefusedTrace, MayGreet, Notices, streams};
+ghost use Rattle.rept_debug.specs.Debugged.{HoldsDialog};
 
 use crate::begin::begin_run;
-use crate::dialog::{SessionEnd, converse};
+use crate::dialog::{Greeting, SessionEnd, go_on, greet};
 use crate::notice::noticed;
 use rept_dump::Dump;
 use rept_findings::Findings;
@@ -31,9 +32,10 @@ pub struct GdbSession {
     pub end: SessionEnd,
 }
 
-/// Rebuilds the run of a trace over the dump in which it ends, and answers a debugger over its
-/// report; `images` are the files of the dump. A trace of several streams wants the registers of
-/// each thread.
+/// Answers a debugger up to its first packet that needs a report; then rebuilds the run of a trace
+/// over the dump in which it ends, and goes on over its report. `images` are the files of the dump.
+/// A trace of several streams wants the registers of each thread. At a refusal what was answered
+/// before it stands.
 pub fn debug_trace<S: Source, K: Sink, E: Sink>(
     alloc: Global,
     trace: &[u8],
@@ -50,9 +52,10 @@ pub fn debug_trace<S: Source, K: Sink, E: Sink>(
     requires exe { option_map file_of images.executable ≡ executable_of (exe_of dump.now) }
     ensures held { (notes : List (List ℕ)) → AreNotesOf dump.now notes → IfOk result (IsHeldTrace (crash_trace (crash_of dump.now notes) trace.now manner) (streams (move (S.port input.old) (S.port input.new)) (move (K.port out.old) (K.port out.new)) (move (E.port errors.old) (E.port errors.new)))) }
     ensures refused { (notes : List (List ℕ)) → AreNotesOf dump.now notes → IfErr result (IsRefusedTrace (crash_trace (crash_of dump.now notes) trace.now manner)) }
-    ensures unread { IfErr result (λ _. (input.new ≡ input.old) × (out.new ≡ out.old)) }
+    ensures greeted { IfErr result (λ _. MayGreet (move (S.port input.old) (S.port input.new)) (move (K.port out.old) (K.port out.new))) }
     ensures noticed { IfErr result (λ _. Notices (move (E.port errors.old) (E.port errors.new))) }
 {
+    let mut greeting = greet(alloc, input, out);
     let begun = match begin_run(alloc, trace, dump, manner.from) {
         Ok(begun) => begun,
         Err(fault) => return Err(Refusal::Path(fault)),
@@ -61,45 +64,41 @@ pub fn debug_trace<S: Source, K: Sink, E: Sink>(
         Ok(()) => {}
         Err(_) => return Err(Refusal::OutOfMemory),
     }
-    match open_report::<HeldDialog, S, K>(
+    match open_report::<Greeting, S, K>(
         alloc,
         manner.domain,
         &begun.run,
         dump,
         images,
+        &mut greeting,
         input,
         out,
     ) {
-        Ok(held) => Ok(GdbSession {
+        Ok(end) => Ok(GdbSession {
             from: begun.from,
-            end: held.end,
+            end,
         }),
         Err(refusal) => Err(refusal),
     }
 }
 
-/// The dialog of a debugger over the report of a crash, and how it ended.
-#[derive(Clone, Copy)]
-struct HeldDialog {
-    end: SessionEnd,
-}
+impl Asking for Greeting {
+    type End = SessionEnd;
 
-impl Asking for HeldDialog {
     ghost asks = { HoldsDialog };
 
     fn ask<F: Findings, S: Source, K: Sink>(
+        &mut self,
         alloc: Global,
         findings: &mut F,
         circumstances: Circumstances,
         input: &mut S,
         out: &mut K,
-    ) -> HeldDialog {
+    ) -> SessionEnd {
         let setting = Setting {
             skipped: circumstances.skipped,
             signal: circumstances.signal,
         };
-        HeldDialog {
-            end: converse(alloc, findings, setting, input, out),
-        }
+        go_on(alloc, findings, setting, self, input, out)
     }
 }

@@ -4,6 +4,7 @@ pub mod Combining
 mod Computing
 pub mod Frame
 pub mod Calling
+pub mod Handing
 pub mod Loading
 pub mod Listing
 pub mod Carrying

@@ -1,7 +1,7 @@
 -- Which executions of a path are admitted: those that end in the dump and keep premises that no
 -- instruction tells. Each premise is a field with a name. Where none applies, every execution is
 -- admitted. This project's own.
-use Rattle.std.specs.Prelude.{◌≡◌, ℕ, ◌≤◌, ◌+◌, ◌%◌, ◌==◌, ◌&&◌, ◌||◌, if◌then◌else◌, nat_le, nat_lt, not, bit_and, Bool, true, false, List, Option, Some, None, slice_get}
+use Rattle.std.specs.Prelude.{◌≡◌, ℕ, ◌<◌, ◌≤◌, ◌+◌, ◌*◌, ◌/◌, ◌%◌, ◌==◌, ◌&&◌, ◌||◌, if◌then◌else◌, nat_le, nat_lt, not, bit_and, Bool, true, false, List, Option, Some, None, slice_get}
 use Rattle.rept_isa.specs.declared.instr.Instr.{Instr}
 use Rattle.rept_isa.specs.declared.instr.Instr.TheVariants.{Ecall}
 use Rattle.rept_isa.specs.declared.row.StepRow.{StepRow}
@@ -22,6 +22,8 @@ pub record Premises : Type 0 where
   pub process : Option ℕ
   -- the lowest address of the area that has the stack
   pub stack_from : Option ℕ
+  -- where that begins, if the path begins with the program's first instruction
+  pub clear_from : Option ℕ
 
 -- a path, and what its executions have to keep
 pub record Story : Type 0 where
@@ -62,16 +64,42 @@ is_same None v = true
 is_same (Some w) v = v == w
 
 -- What a call answers, by its number and third argument (Linux, section 2 of the manual): brk 214
--- where the heap ends, mmap2 222 the address of pages or an error, read 63 and write 64 no more than
--- they were asked for or an error, getpid 172 and gettid 178 the process. Heap and mapped pages lie
--- between the program's own memory and the stack's area.
+-- where the heap ends, mmap2 222 the address of pages or an error, read 63 and write 64 no more
+-- than they were asked for or an error, getpid 172 and gettid 178 the process. The heap lies between
+-- the program's own memory and the stack's area, and mapped pages lie above the first.
 abbrev pub answer_fits : Premises → (image_end number most answer : ℕ) → Bool
 answer_fits premises image_end number most answer =
     if number == 214 then nat_le image_end answer && is_below premises.stack_from answer
-    else if number == 222 then is_error answer || (answer % 4096 == 0 && (nat_le image_end answer && is_below premises.stack_from answer))
+    else if number == 222 then is_error answer || (answer % 4096 == 0 && nat_le image_end answer)
     else if number == 63 || number == 64 then is_error answer || nat_le answer most
     else if number == 172 || number == 178 then is_same premises.process answer
     else true
+
+-- a row is a call of this number
+pub record IsCallAt (story : Story) (run : ℕ → State) (i number : ℕ) : Type 0 where
+  pub row : StepRow
+  pub at : slice_get story.rows i ≡ Some row
+  pub call : row.instr ≡ Ecall
+  pub number_is : (run i).register 17 ≡ number
+
+-- no row from one to before another is a call of this number
+abbrev pub HasNoCall : Story → (ℕ → State) → (number i j : ℕ) → Type 0
+HasNoCall story run number i j = (k : ℕ) → i ≤ k → k < j → IsCallAt story run k number → ⊥
+
+-- the first address of a page that isn't below an address (Linux: PAGE_ALIGN, of 4,096 bytes)
+abbrev pub page_from : ℕ → ℕ
+page_from a = (a + 4095) / 4096 * 4096
+
+-- mmap2's flags name pages of no file (Linux: MAP_ANONYMOUS, 32)
+abbrev pub is_anonymous : ℕ → Bool
+is_anonymous flags = not (bit_and flags 32 == 0)
+
+-- The bytes that calls hand out are 0 after them: of brk 214 those of the pages from where the heap
+-- ended by the call of brk before, up to where it ends now; of mmap2 222 without a file those that
+-- were asked for, by the length in x11 (Linux: brk(2), mmap(2)).
+pub record AreFresh (story : Story) (run : ℕ → State) : Type 0 where
+  pub heap : (i j a : ℕ) → i < j → IsCallAt story run i 214 → HasNoCall story run 214 (i + 1) j → IsCallAt story run j 214 → page_from ((run (i + 1)).register 10) ≤ a → a < (run (j + 1)).register 10 → (run (j + 1)).memory a ≡ 0
+  pub mapped : (j a : ℕ) → IsCallAt story run j 222 → is_anonymous ((run j).register 13) ≡ true → is_error ((run (j + 1)).register 10) ≡ false → (run (j + 1)).register 10 ≤ a → a < (run (j + 1)).register 10 + (run j).register 11 → (run (j + 1)).memory a ≡ 0
 
 pub record IsAdmitted (story : Story) (run : ℕ → State) : Type 0 where
   pub execution : Execution story.image_end story.rows story.registers story.dump run
@@ -81,3 +109,7 @@ pub record IsAdmitted (story : Story) (run : ℕ → State) : Type 0 where
   pub answers : (i : ℕ) (row : StepRow) → slice_get story.rows i ≡ Some row → row.instr ≡ Ecall → answer_fits story.premises story.image_end ((run i).register 17) ((run i).register 12) ((run (i + 1)).register 10) ≡ true
   -- `first-memory`
   pub first_memory : (a v : ℕ) → story.premises.first_byte a ≡ Some v → (run 0).memory a ≡ v
+  -- `first-memory`, of the stack: the bytes of its area that are below the stack pointer are 0
+  pub first_stack : (from a : ℕ) → story.premises.clear_from ≡ Some from → from ≤ a → a < (run 0).register 2 → (run 0).memory a ≡ 0
+  -- `fresh-pages`
+  pub fresh_pages : AreFresh story run

@@ -1,4 +1,5 @@
 pub mod Admitted
+pub mod Fresh
 pub mod Holding
 pub mod Rules
 pub mod Stores

@@ -31,11 +31,11 @@ fn words_between(lo: u32, hi: u32, bits: Bits) -> Both
     }
 }
 
-/// The greatest word below the stack's area; the greatest one where it isn't known.
-fn below_stack<P: PathPremises>(premises: &P) -> u32
-    ensures { (v : ℕ) → v < 2 ^ 32 → is_below (P.premises premises.now).stack_from v ≡ true → v ≤ result }
+/// The greatest word below a limit; the greatest one where there is none.
+fn last_below(limit: Option<u32>) -> u32
+    ensures { (v : ℕ) → v < 2 ^ 32 → is_below limit v ≡ true → v ≤ result }
 {
-    match premises.stack_from() {
+    match limit {
         None => u32::MAX,
         Some(limit) => limit.saturating_sub(1),
     }
@@ -52,11 +52,11 @@ fn past_image(image_end: u64) -> u32
     }
 }
 
-/// The addresses between the program's own memory and the stack's area that agree with known bits.
-fn heap_words<P: PathPremises>(premises: &P, image_end: u64, bits: Bits) -> Both
-    ensures { (v : ℕ) → v < 2 ^ 32 → bits_has bits v ≡ true → (nat_le image_end v && is_below (P.premises premises.now).stack_from v) ≡ true → both_has result v ≡ true }
+/// The addresses between the program's own memory and a limit that agree with known bits.
+fn heap_words(limit: Option<u32>, image_end: u64, bits: Bits) -> Both
+    ensures { (v : ℕ) → v < 2 ^ 32 → bits_has bits v ≡ true → (nat_le image_end v && is_below limit v) ≡ true → both_has result v ≡ true }
 {
-    words_between(past_image(image_end), below_stack(premises), bits)
+    words_between(past_image(image_end), last_below(limit), bits)
 }
 
 /// The words that begin a page.
@@ -74,11 +74,11 @@ fn has_no_error(answer: Both) -> bool
 }
 
 /// Where mapped pages may begin, if the set that is known of the answer has no error.
-fn mapped_at<P: PathPremises>(premises: &P, image_end: u64, answer: Both) -> Both
-    ensures { (v : ℕ) → both_has answer v ≡ true → (is_error v || (v % 4096 == 0 && (nat_le image_end v && is_below (P.premises premises.now).stack_from v))) ≡ true → both_has result v ≡ true }
+fn mapped_at(image_end: u64, answer: Both) -> Both
+    ensures { (v : ℕ) → both_has answer v ≡ true → (is_error v || (v % 4096 == 0 && nat_le image_end v)) ≡ true → both_has result v ≡ true }
 {
     if has_no_error(answer) {
-        heap_words(premises, image_end, page_starts())
+        heap_words(None, image_end, page_starts())
     } else {
         Both::unknown()
     }
@@ -131,9 +131,9 @@ fn answer_set<P: PathPremises>(
 {
     let (asked, answer) = sets;
     if number == 214 {
-        heap_words(premises, image_end, Bits::unknown())
+        heap_words(premises.stack_from(), image_end, Bits::unknown())
     } else if number == 222 {
-        mapped_at(premises, image_end, answer)
+        mapped_at(image_end, answer)
     } else if counts_bytes(number) {
         counted(asked, answer)
     } else if asks_process(number) {

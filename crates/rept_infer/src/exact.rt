@@ -13,7 +13,7 @@ use rept_partial::Partial;
 
 /// An operation on registers: which one, where its result goes, and what it reads.
 #[derive(Clone, Copy)]
-struct Operation {
+struct ExactOperation {
     op: RegOp,
     rd: Reg,
     rs1: Reg,
@@ -39,7 +39,7 @@ fn operated(
     table: &mut Table,
     index: u32,
     row: &StepRow,
-    operation: Operation,
+    operation: ExactOperation,
 ) -> Result<bool, Empty>
     requires inside { index + 1 < table.old.points }
     requires form { row.now.instr ≡ Instr.Op operation.op operation.rd operation.rs1 operation.rs2 }
@@ -72,7 +72,7 @@ pub fn exactly(table: &mut Table, index: u32, row: &StepRow) -> Result<bool, Emp
             if rd.number() == 0 {
                 Ok(false)
             } else {
-                operated(table, index, row, Operation { op, rd, rs1, rs2 })
+                operated(table, index, row, ExactOperation { op, rd, rs1, rs2 })
             }
         }
         _ => Ok(false),

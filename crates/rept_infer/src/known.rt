@@ -43,6 +43,11 @@ pub trait PathPremises {
     /// The lowest address of the area that has the stack, if it is known.
     fn stack_from(&self) -> Option<u32>
         ensures { result ≡ (premises self.now).stack_from };
+
+    /// Where the stack's area begins, if the path begins with the program's first instruction: from
+    /// there up to the stack pointer bytes are 0 at the first point.
+    fn clear_from(&self) -> Option<u32>
+        ensures { result ≡ (premises self.now).clear_from };
 }
 
 /// The rows of a path, and the address at which the program's own memory ends and the heap begins.

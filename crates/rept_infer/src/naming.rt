@@ -9,6 +9,7 @@ ghost use Rattle.rept_infer.specs.Sweeps.{load_width};
 use crate::memory::{byte_in, place_of};
 use crate::table::Table;
 use rept_isa::{Instr, LoadOp, StepRow};
+use rept_lanes::Sweep;
 use rept_machine::store_width;
 
 /// A byte of memory.
@@ -54,6 +55,19 @@ pub fn named(table: &Table, index: u32, row: &StepRow, k: u32) -> Option<u32>
         }
         _ => None,
     }
+}
+
+/// The first of the 32 bytes that lie around those that a load or a store names, from a multiple of
+/// 16 on, where its base has one value.
+pub fn window_of(table: &Table, index: u32, row: &StepRow) -> Option<u32>
+    requires inside { index + 1 < table.now.points }
+{
+    Some(named(table, index, row, 0)? & 0xffff_fff0)
+}
+
+/// Whether the first and the last one of such bytes are held.
+pub fn is_window_held(sweep: &Sweep, first: u32) -> bool {
+    sweep.held().get(first).is_some() && sweep.held().get(first.wrapping_add(31)).is_some()
 }
 
 /// Byte `k` of those that a load reads, as its register tells it.

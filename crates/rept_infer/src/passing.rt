@@ -8,6 +8,7 @@ ghost use Rattle.rept_infer.specs.Rules.{AreBytes, HasSets};
 ghost use Rattle.rept_infer.specs.Sweeps.{IsAround, IsFollowed, memory_of};
 
 use crate::bytes::ToldBytes;
+use crate::fresh::{most_later, note_fresh};
 use crate::known::KnownPath;
 use crate::memory::{load_row, store_row};
 use crate::rounds::visit;
@@ -189,6 +190,32 @@ fn step_back<K: KnownPath>(
     }
 }
 
+/// One row on, and what it hands out, as so many rows after it name it. Answers whether a set
+/// changed.
+fn pass_on<K: KnownPath>(
+    earlier: &Earlier<'_, K>,
+    sweep: &mut Sweep,
+    table: &mut Table,
+    place: (u32, u32),
+) -> Result<bool, InferStop>
+    requires points { table.old.points ≡ length earlier.now.rows.now + 1 }
+    requires small { table.old.points < 2 ^ 32 }
+    requires inside { place.0 < length earlier.now.rows.now }
+    requires here { sweep.old.point ≡ place.0 }
+    ensures points { table.new.points ≡ table.old.points }
+    ensures point { OnOk result (sweep.new.point ≡ place.0 + 1) }
+    ensures keeps { OnOk result ((story : Story) (run : ℕ → State) → story.rows ≡ earlier.now.rows.now → IsAround story run (K.byte earlier.now.known.now) earlier.now.lanes.now earlier.now.image_end → IsFollowed story run table.old sweep.old → IsFollowed story run table.new sweep.new) }
+    ensures refuses { (empty : Empty) → result ≡ Err (InferStop.Contradiction empty) → (story : Story) (run : ℕ → State) → story.rows ≡ earlier.now.rows.now → IsAround story run (K.byte earlier.now.known.now) earlier.now.lanes.now earlier.now.image_end → IsFollowed story run table.old sweep.old → ⊥ }
+{
+    match step_on(earlier, sweep, table, place.0) {
+        Err(stop) => Err(stop),
+        Ok(changed) => match note_fresh(sweep, table, earlier.rows, place) {
+            Err(_) => Err(InferStop::OutOfMemory),
+            Ok(()) => Ok(changed),
+        },
+    }
+}
+
 /// All rows, from the first one on. Answers whether a set changed.
 pub fn all_on<K: KnownPath>(
     earlier: &Earlier<'_, K>,
@@ -202,9 +229,10 @@ pub fn all_on<K: KnownPath>(
     ensures keeps { OnOk result ((story : Story) (run : ℕ → State) → story.rows ≡ earlier.now.rows.now → IsAround story run (K.byte earlier.now.known.now) earlier.now.lanes.now earlier.now.image_end → IsFollowed story run table.old sweep.old → IsFollowed story run table.new sweep.new) }
     ensures refuses { (empty : Empty) → result ≡ Err (InferStop.Contradiction empty) → (story : Story) (run : ℕ → State) → story.rows ≡ earlier.now.rows.now → IsAround story run (K.byte earlier.now.known.now) earlier.now.lanes.now earlier.now.image_end → IsFollowed story run table.old sweep.old → ⊥ }
 {
+    let most = most_later(earlier.rows);
     let mut changed = false;
     for index in 0..table.points() - 1 {
-        match step_on(earlier, sweep, table, index) {
+        match pass_on(earlier, sweep, table, (index, most)) {
             Err(stop) => return Err(stop),
             Ok(more) => changed = changed || more,
         }

@@ -3,15 +3,16 @@
 ghost use Rattle.std.specs.Prelude.{◌≡◌, ◌+◌, ◌<◌, ◌≤◌, ◌^◌, ℕ, length, Some, Err, IfOk, OnOk};
 ghost use Rattle.rept_machine.specs.State.{State};
 ghost use Rattle.rept_lanes.specs.Lanes.{AreTrueSpans, IsTrueSweep};
-ghost use Rattle.rept_infer.specs.Admitted.{Story, IsAdmitted};
+ghost use Rattle.rept_infer.specs.Admitted.{Story};
 ghost use Rattle.rept_infer.specs.Rules.{HasSets};
 ghost use Rattle.rept_infer.specs.Sweeps.{IsAround, memory_of};
 
+use crate::first::start_on;
 use crate::known::{KnownPath, PathPremises};
-use crate::naming::named;
+use crate::naming::{is_window_held, window_of};
 use crate::passing::{Earlier, all_back, all_on};
 use crate::stop::InferStop;
-use crate::sweeping::{BytesAround, note_named};
+use crate::sweeping::{BytesAround, note_around, note_named};
 use crate::table::{Empty, Table};
 use rept_isa::StepRow;
 use rept_lanes::{Lanes, Sweep};
@@ -24,61 +25,6 @@ pub struct Swept {
     pub lanes: Lanes,
     /// whether a set changed
     pub changed: bool,
-}
-
-/// Holds the byte at an address, if there is one, at the first point, if it is told there.
-fn note_first<P: PathPremises>(
-    sweep: &mut Sweep,
-    premises: &P,
-    address: Option<u32>,
-) -> Result<(), OutOfMemory>
-    requires here { sweep.old.point ≡ 0 }
-    ensures point { sweep.new.point ≡ sweep.old.point }
-    ensures holds { OnOk result ((story : Story) (run : ℕ → State) → story.premises ≡ P.premises premises.now → IsAdmitted story run → IsTrueSweep (memory_of run) sweep.old → IsTrueSweep (memory_of run) sweep.new) }
-{
-    match address {
-        None => Ok(()),
-        Some(address) => match premises.first_byte(address) {
-            None => Ok(()),
-            Some(value) => sweep.note(address, value),
-        },
-    }
-}
-
-/// Holds the bytes that a row names at the first point, as far as they are told there.
-fn note_row_first<P: PathPremises>(
-    sweep: &mut Sweep,
-    premises: &P,
-    table: &Table,
-    row: (u32, &StepRow),
-) -> Result<(), OutOfMemory>
-    requires here { sweep.old.point ≡ 0 }
-    requires inside { row.0 + 1 < table.now.points }
-    ensures point { sweep.new.point ≡ sweep.old.point }
-    ensures holds { OnOk result ((story : Story) (run : ℕ → State) → story.premises ≡ P.premises premises.now → IsAdmitted story run → IsTrueSweep (memory_of run) sweep.old → IsTrueSweep (memory_of run) sweep.new) }
-{
-    for k in 0..4u32 {
-        note_first(sweep, premises, named(table, row.0, row.1, k))?;
-    }
-    Ok(())
-}
-
-/// Holds the bytes that rows name at the first point, as far as they are told there.
-fn start_on<P: PathPremises>(
-    sweep: &mut Sweep,
-    premises: &P,
-    table: &Table,
-    rows: &[StepRow],
-) -> Result<(), OutOfMemory>
-    requires here { sweep.old.point ≡ 0 }
-    requires points { table.now.points ≡ length rows.now + 1 }
-    ensures point { sweep.new.point ≡ sweep.old.point }
-    ensures holds { OnOk result ((story : Story) (run : ℕ → State) → story.premises ≡ P.premises premises.now → IsAdmitted story run → IsTrueSweep (memory_of run) sweep.old → IsTrueSweep (memory_of run) sweep.new) }
-{
-    for index in 0..table.points() - 1 {
-        note_row_first(sweep, premises, table, (index, &rows[index as usize]))?;
-    }
-    Ok(())
 }
 
 /// Holds the bytes that rows name at the point of the sweep, as far as they are told.
@@ -102,6 +48,70 @@ fn start_back<K: KnownPath>(
     for index in 0..table.points() - 1 {
         note_named(sweep, &around, index, &rows[index as usize])?;
     }
+    Ok(())
+}
+
+/// Holds the bytes around those that a row names at the point of the sweep, as far as they are
+/// told, unless they are held.
+fn near_back<K: KnownPath>(
+    sweep: &mut Sweep,
+    bytes: &BytesAround<'_, K>,
+    index: u32,
+    row: &StepRow,
+) -> Result<(), OutOfMemory>
+    requires inside { index + 1 < bytes.now.table.now.points }
+    ensures point { sweep.new.point ≡ sweep.old.point }
+    ensures holds { OnOk result ((story : Story) (run : ℕ → State) → sweep.old.point ≤ length story.rows → IsAround story run (K.byte bytes.now.known.now) bytes.now.lanes.now bytes.now.image_end → IsTrueSweep (memory_of run) sweep.old → IsTrueSweep (memory_of run) sweep.new) }
+{
+    match window_of(bytes.table, index, row) {
+        None => Ok(()),
+        Some(first) => {
+            if is_window_held(sweep, first) {
+                Ok(())
+            } else {
+                note_around(sweep, bytes, first)
+            }
+        }
+    }
+}
+
+/// Holds the bytes around those that rows name at the point of the sweep, as far as they are told.
+fn start_around<K: KnownPath>(
+    earlier: &Earlier<'_, K>,
+    sweep: &mut Sweep,
+    table: &Table,
+) -> Result<(), OutOfMemory>
+    requires points { table.now.points ≡ length earlier.now.rows.now + 1 }
+    ensures point { sweep.new.point ≡ sweep.old.point }
+    ensures holds { OnOk result ((story : Story) (run : ℕ → State) → sweep.old.point ≤ length story.rows → IsAround story run (K.byte earlier.now.known.now) earlier.now.lanes.now earlier.now.image_end → IsTrueSweep (memory_of run) sweep.old → IsTrueSweep (memory_of run) sweep.new) }
+{
+    let bytes = BytesAround {
+        known: earlier.known,
+        lanes: earlier.lanes,
+        table,
+        image_end: earlier.image_end,
+        most: earlier.most,
+    };
+    let rows = earlier.rows;
+    for index in 0..table.points() - 1 {
+        near_back(sweep, &bytes, index, &rows[index as usize])?;
+    }
+    Ok(())
+}
+
+/// Holds the bytes that rows name at the point of the sweep, and those around them, as far as they
+/// are told.
+fn begin_back<K: KnownPath>(
+    earlier: &Earlier<'_, K>,
+    sweep: &mut Sweep,
+    table: &Table,
+) -> Result<(), OutOfMemory>
+    requires points { table.now.points ≡ length earlier.now.rows.now + 1 }
+    ensures point { sweep.new.point ≡ sweep.old.point }
+    ensures holds { OnOk result ((story : Story) (run : ℕ → State) → sweep.old.point ≤ length story.rows → IsAround story run (K.byte earlier.now.known.now) earlier.now.lanes.now earlier.now.image_end → IsTrueSweep (memory_of run) sweep.old → IsTrueSweep (memory_of run) sweep.new) }
+{
+    start_back(earlier, sweep, table)?;
+    start_around(earlier, sweep, table)?;
     Ok(())
 }
 
@@ -150,7 +160,7 @@ pub fn sweep_back<K: KnownPath>(
     ensures refuses { (empty : Empty) → result ≡ Err (InferStop.Contradiction empty) → (story : Story) (run : ℕ → State) → story.rows ≡ earlier.now.rows.now → IsAround story run (K.byte earlier.now.known.now) earlier.now.lanes.now earlier.now.image_end → HasSets story table.old run → ⊥ }
 {
     let mut sweep = Sweep::new(earlier.alloc, table.points() - 1);
-    match start_back(earlier, &mut sweep, table) {
+    match begin_back(earlier, &mut sweep, table) {
         Err(_) => return Err(InferStop::OutOfMemory),
         Ok(()) => {}
     }

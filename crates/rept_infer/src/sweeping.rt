@@ -86,6 +86,21 @@ pub fn note_named<K: KnownPath>(
     Ok(())
 }
 
+/// Holds 32 bytes from an address on at the point of the sweep, as far as they are told.
+pub fn note_around<K: KnownPath>(
+    sweep: &mut Sweep,
+    around: &BytesAround<'_, K>,
+    first: u32,
+) -> Result<(), OutOfMemory>
+    ensures point { sweep.new.point ≡ sweep.old.point }
+    ensures holds { OnOk result ((story : Story) (run : ℕ → State) → sweep.old.point ≤ length story.rows → IsAround story run (K.byte around.now.known.now) around.now.lanes.now around.now.image_end → IsTrueSweep (memory_of run) sweep.old → IsTrueSweep (memory_of run) sweep.new) }
+{
+    for k in 0..32u32 {
+        note_at(sweep, around, first.wrapping_add(k))?;
+    }
+    Ok(())
+}
+
 /// Holds byte `k` of those that a load reads, before it, as far as its register tells it.
 fn note_loaded_at(
     sweep: &mut Sweep,

@@ -44,9 +44,9 @@ use Rattle.rept_dump.specs.Dump.{core_of, exe_of, registers_of}
 use Rattle.rept_dump.specs.declared.dump.Dump.{Dump}
 use Rattle.rept_dump.specs.Memory.{crash_byte}
 use Rattle.rept_dump.specs.Program.{contents}
-use Rattle.rept_dump.specs.Registers.{pid_of}
+use Rattle.rept_opening.specs.declared.areas.ProcessTold.{ProcessTold}
 use Rattle.rept_opening.specs.Reading.{AreNotesOf}
-use Rattle.rept_opening.specs.Beyond.{begun_file, executable_of, has_page, loaded_at, loaded_byte, premises_by, premises_of, story_of}
+use Rattle.rept_opening.specs.Beyond.{begun_file, executable_of, has_page, loaded_at, loaded_byte, premises_by, premises_of, process_told, story_of}
 use Rattle.rept_opening.specs.Opened.{CrashRun, IsBeyond, RunAccount, crash_run, route_of, told_by, told_in}
 use Rattle.rept_opening.specs.Report.{HasNoReport, IsAsked}
 use Rattle.rept_opening.specs.True.{IsTrue, IsTrueAlone, IsTrueBeyond, path_by}
@@ -145,14 +145,19 @@ loaded-only a ss i s h hit more is = loaded-from a ss i s h ∙ ap (λ (b : Bool
 pub loaded-past : (a : ℕ) (ss : List ElfSegment) (i : ℕ) → length ss ≤ i → loaded_at (drop i ss) a ≡ None
 loaded-past a ss i h = at_drop_all (λ (rest : List ElfSegment). loaded_at rest a) ss i h
 
+-- what is told of the process, by where the program ends
+pub told_here : (dump : Dump) (core : List ElfSegment) (end : ℕ) (process : ProcessTold) → end ≡ (contents (exe_of dump)).end → process ≡ process_told core end (registers_of dump) → process ≡ process_told core (contents (exe_of dump)).end (registers_of dump)
+told_here dump core end process same is = is ∙ ap (λ (n : ℕ). process_told core n (registers_of dump)) same
+
 -- the premises of a dump are those of its crash
-pub premises_are : (dump : Dump) (notes : List (List ℕ)) → AreNotesOf dump notes → (core : List ElfSegment) (pid : ℕ) (begun : Option (List ℕ)) (skipped : ℕ) (rows : List StepRow) → core ≡ core_of dump → pid ≡ pid_of (registers_of dump) → begun ≡ begun_file (executable_of (exe_of dump)) skipped rows
-    → premises_of (crash_of dump notes) skipped rows ≡ premises_by core (crash_byte (contents (exe_of dump)) (core_of dump)) pid begun
-premises_are dump notes are core pid begun skipped rows same is begins =
+pub premises_are : (dump : Dump) (notes : List (List ℕ)) → AreNotesOf dump notes → (core : List ElfSegment) (process : ProcessTold) (begun : Option (List ℕ)) (skipped : ℕ) (rows : List StepRow) → core ≡ core_of dump → process ≡ process_told core (contents (exe_of dump)).end (registers_of dump) → begun ≡ begun_file (executable_of (exe_of dump)) skipped rows
+    → premises_of (crash_of dump notes) skipped rows ≡ premises_by core (crash_byte (contents (exe_of dump)) (core_of dump)) process begun
+premises_are dump notes are core process begun skipped rows same is begins =
     let byte = crash_byte (contents (exe_of dump)) (core_of dump) in
-    let noted : pid_of (note_at (crash_of dump notes) 0) ≡ pid = ap (λ (o : Option (List ℕ)). pid_of (unwrap_or o [])) are.first ∙ sym is in
+    let end = (contents (exe_of dump)).end in
+    let noted : note_at (crash_of dump notes) 0 ≡ registers_of dump = ap (λ (o : Option (List ℕ)). unwrap_or o []) are.first in
     let here = begun_file (executable_of (exe_of dump)) skipped rows in
-    ap (λ (n : ℕ). premises_by (core_of dump) byte n here) noted ∙ ap (λ (ss : List ElfSegment). premises_by ss byte pid here) (sym same) ∙ ap (premises_by core byte pid) (sym begins)
+    ap (λ (n : List ℕ). premises_by (core_of dump) byte (process_told (core_of dump) end n) here) noted ∙ ap (λ (ss : List ElfSegment). premises_by ss byte (process_told ss end (registers_of dump)) here) (sym same) ∙ ap (λ (p : ProcessTold). premises_by core byte p here) (sym is) ∙ ap (premises_by core byte process) (sym begins)
 
 -- what is told beyond the report of a run is true, too
 module _ {W : Type 0} (p : CrashRun W) (a : RunAccount) (true_of : IsTrue p a.known) where

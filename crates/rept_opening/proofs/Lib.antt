@@ -1,3 +1,4 @@
+pub mod AreaLemmas
 pub mod BeyondLemmas
 pub mod DeliveredLemmas
 pub mod LoadLemmas

@@ -211,8 +211,8 @@ abbrev crash_with : Program → List ElfSegment → List (List ℕ) → Crash
 crash_with exe core notes = record { exe = exe; core = core; notes = notes }
 
 saves_first : (exe : Program) (core : List ElfSegment) (note : List ℕ) → SavesOne (ending_of (crash_with exe core (note ∷ [])))
-saves_first exe core note zero some = absurd (omega (arith, some))
-saves_first exe core note (suc t) some = refl
+saves_first exe core note zero s some = absurd (omega (arith, some))
+saves_first exe core note (suc t) s some = refl
 
 pub lone_run : {W : Type 0} (m : Means W) (exe : Program) (core : List ElfSegment) (notes : List (List ℕ)) (C : Course) (rows : List StepRow) (states : ℕ → State) → IsSoundCourse C → lone_by C.threads C.untraced ≡ Some rows → length notes ≡ 1
     → ExecutesPath (path_of m (crash_with exe core notes) rows) states → IsShared C (ending_of (crash_with exe core notes)) states

@@ -6,10 +6,11 @@ use Rattle.rept_elf.specs.Segments.{ElfSegment, is_load, is_writable, segments}
 use Rattle.rept_dump.specs.Memory.{crash_byte, may_be_written}
 use Rattle.rept_dump.specs.Program.{Program, contents}
 use Rattle.rept_dump.specs.Program.Program.{OneFile, MappedFiles}
-use Rattle.rept_dump.specs.Registers.{pid_of}
+use Rattle.rept_dump.specs.Registers.{pid_of, saved_register}
 use Rattle.rept_isa.specs.declared.row.StepRow.{StepRow}
 use Rattle.rept_found.specs.Crash.{Crash, left_of, note_at}
 use Rattle.rept_infer.specs.Admitted.{Premises, Story}
+use Rattle.rept_opening.specs.declared.areas.ProcessTold.{ProcessTold}
 
 -- the segment is part of memory, and has the address there
 abbrev pub lies_in : ℕ → ElfSegment → Bool
@@ -79,14 +80,56 @@ abbrev pub first_byte : Option (List ℕ) → ℕ → Option ℕ
 first_byte None a = None
 first_byte (Some file) a = loaded_at (segments file) a
 
+-- The area that has the stack: the segment of the core file that has the stack pointer of the
+-- crash, where no other one lies above it, and it doesn't begin within the program. Linux puts the
+-- stack above all else (mm/util.c, arch_pick_mmap_layout), so a stack pointer that went astray into
+-- the heap isn't taken. qemu's user mode puts it above the heap, and what is mapped later above it
+-- (linux-user/elfload.c, setup_arg_pages). In both the heap never reaches it.
+
+-- the segment is part of memory, and begins above the address
+abbrev pub lies_above : ℕ → ElfSegment → Bool
+lies_above a s = is_load s && nat_lt a s.vaddr
+
+-- where the first segment begins that has the address
+abbrev pub area_from : List ElfSegment → ℕ → Option ℕ
+area_from [] a = None
+area_from (s ∷ ss) a = if lies_in a s then Some s.vaddr else area_from ss a
+
+abbrev pub at_least : ℕ → Option ℕ → Option ℕ
+at_least low None = None
+at_least low (Some a) = if nat_le low a then Some a else None
+
+-- the lowest address of the stack's area
+abbrev pub stack_from : List ElfSegment → (image_end stack_pointer : ℕ) → Option ℕ
+stack_from core image_end stack_pointer = if list_any (lies_above stack_pointer) core then None else at_least image_end (area_from core stack_pointer)
+
+-- what a core file tells of the process, by its segments, by where the program ends, and by the
+-- descriptor of its note
+abbrev pub process_told : List ElfSegment → ℕ → List ℕ → ProcessTold
+process_told core image_end desc = record {
+  pid = pid_of desc;
+  stack_from = stack_from core image_end (saved_register desc 2);
+}
+
+-- where the stack's area begins, if the path begins with an executable
+abbrev pub clear_from : Option (List ℕ) → Option ℕ → Option ℕ
+clear_from None from = None
+clear_from (Some file) from = from
+
 -- the premises by these, by the process, and by the executable with which the path begins
-abbrev pub premises_by : List ElfSegment → (ℕ → Option ℕ) → ℕ → Option (List ℕ) → Premises
-premises_by core byte pid begun = record { is_read_only = is_read_only core byte; first_byte = first_byte begun; process = Some pid; stack_from = None }
+abbrev pub premises_by : List ElfSegment → (ℕ → Option ℕ) → ProcessTold → Option (List ℕ) → Premises
+premises_by core byte process begun = record {
+  is_read_only = is_read_only core byte;
+  first_byte = first_byte begun;
+  process = Some process.pid;
+  stack_from = process.stack_from;
+  clear_from = clear_from begun process.stack_from;
+}
 
 -- the premises that are taken of a crash of one thread, by how many packets were left out and by
 -- the steps of its path
 abbrev pub premises_of : Crash → ℕ → List StepRow → Premises
-premises_of crash skipped rows = premises_by crash.core (crash_byte (contents crash.exe) crash.core) (pid_of (note_at crash 0)) (begun_file (executable_of crash.exe) skipped rows)
+premises_of crash skipped rows = premises_by crash.core (crash_byte (contents crash.exe) crash.core) (process_told crash.core (contents crash.exe).end (note_at crash 0)) (begun_file (executable_of crash.exe) skipped rows)
 
 -- the path of these steps, read without so many packets, and what its executions have to keep to be
 -- admitted: those that end in the crash and keep the premises

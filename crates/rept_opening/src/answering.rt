@@ -40,21 +40,24 @@ pub struct Circumstances {
     pub signal: u16,
 }
 
-/// How the questions ended that arrived on an input and were answered on an output: a session, or a
-/// debugger's dialog. `asks` relates what a session tells of a report, the signal, and what was
-/// done to both ports, to such an end.
-pub trait Asking: Copy {
-    ghost asks: { SessionTold → ℕ → PortMove Port → PortMove Port → Self → Type 0 };
+/// What is asked of a report: the lines of a session, or the packets of a debugger. `asks` relates
+/// what a session tells of a report, the signal, and what was done to both ports, to an end.
+pub trait Asking {
+    /// How the questions ended that arrived on an input and were answered on an output.
+    type End;
+
+    ghost asks: { Self → SessionTold → ℕ → PortMove Port → PortMove Port → Self.End → Type 0 };
 
     /// Answers what arrives on the input, by what was found.
     fn ask<F: Findings, S: Source, K: Sink>(
+        &mut self,
         alloc: Global,
         findings: &mut F,
         circumstances: Circumstances,
         input: &mut S,
         out: &mut K,
-    ) -> Self
-        ensures { asks (session_told (F.shown findings.old) circumstances.skipped (F.reasons findings.old)) circumstances.signal (move (S.port input.old) (S.port input.new)) (move (K.port out.old) (K.port out.new)) result };
+    ) -> Self::End
+        ensures { asks self.old (session_told (F.shown findings.old) circumstances.skipped (F.reasons findings.old)) circumstances.signal (move (S.port input.old) (S.port input.new)) (move (K.port out.old) (K.port out.new)) result };
 }
 
 /// Analyses a run that ends in a dump, with values followed in a domain, and answers what is asked
@@ -68,20 +71,21 @@ pub fn open_report<A: Asking, S: Source, K: Sink>(
     run: &Run,
     dump: &Dump<'_>,
     images: CrashImages<'_>,
+    asking: &mut A,
     input: &mut S,
     out: &mut K,
-) -> Result<A, Refusal>
+) -> Result<A::End, Refusal>
     requires fits { FitsDump dump.now run.now }
     requires core { segments_of images.core ≡ core_of dump.now }
     requires exe { option_map file_of images.executable ≡ executable_of (exe_of dump.now) }
-    ensures asked { (notes : List (List ℕ)) → AreNotesOf dump.now notes → IfOk result (IsAsked A.asks (crash_run (means_of domain) (crash_of dump.now notes) run.now) (move (S.port input.old) (S.port input.new)) (move (K.port out.old) (K.port out.new))) }
+    ensures asked { (notes : List (List ℕ)) → AreNotesOf dump.now notes → IfOk result (IsAsked (A.asks asking.old) (crash_run (means_of domain) (crash_of dump.now notes) run.now) (move (S.port input.old) (S.port input.new)) (move (K.port out.old) (K.port out.new))) }
     ensures refused { (notes : List (List ℕ)) → AreNotesOf dump.now notes → IfErr result (HasNoReport (crash_run (means_of domain) (crash_of dump.now notes) run.now)) }
     ensures unread { IfErr result (λ _. (input.new ≡ input.old) × (out.new ≡ out.old)) }
 {
     match domain {
-        Domain::Ranges => open_by::<Range, A, S, K>(alloc, run, dump, input, out),
-        Domain::KnownBits => open_by::<Both, A, S, K>(alloc, run, dump, input, out),
-        Domain::Inferred => open_beyond::<A, S, K>(alloc, run, dump, images, input, out),
+        Domain::Ranges => open_by::<Range, A, S, K>(alloc, run, dump, asking, input, out),
+        Domain::KnownBits => open_by::<Both, A, S, K>(alloc, run, dump, asking, input, out),
+        Domain::Inferred => open_beyond::<A, S, K>(alloc, run, dump, images, asking, input, out),
     }
 }
 
@@ -90,16 +94,17 @@ pub fn open_by<W: Transfer, A: Asking, S: Source, K: Sink>(
     alloc: Global,
     run: &Run,
     dump: &Dump<'_>,
+    asking: &mut A,
     input: &mut S,
     out: &mut K,
-) -> Result<A, Refusal>
+) -> Result<A::End, Refusal>
     requires fits { FitsDump dump.now run.now }
-    ensures asked { (notes : List (List ℕ)) → AreNotesOf dump.now notes → IfOk result (IsAsked A.asks (crash_run (means W.sets W.moves atomic_rules) (crash_of dump.now notes) run.now) (move (S.port input.old) (S.port input.new)) (move (K.port out.old) (K.port out.new))) }
+    ensures asked { (notes : List (List ℕ)) → AreNotesOf dump.now notes → IfOk result (IsAsked (A.asks asking.old) (crash_run (means W.sets W.moves atomic_rules) (crash_of dump.now notes) run.now) (move (S.port input.old) (S.port input.new)) (move (K.port out.old) (K.port out.new))) }
     ensures refused { (notes : List (List ℕ)) → AreNotesOf dump.now notes → IfErr result (HasNoReport (crash_run (means W.sets W.moves atomic_rules) (crash_of dump.now notes) run.now)) }
     ensures unread { IfErr result (λ _. (input.new ≡ input.old) × (out.new ≡ out.old)) }
 {
     match basis_of(alloc, run, dump) {
-        Ok(basis) => open_over::<W, A, S, K>(alloc, run, &basis, dump, input, out),
+        Ok(basis) => open_over::<W, A, S, K>(alloc, run, &basis, dump, asking, input, out),
         Err(_) => Err(Refusal::OutOfMemory),
     }
 }
@@ -110,13 +115,14 @@ fn open_over<W: Transfer, A: Asking, S: Source, K: Sink>(
     run: &Run,
     basis: &Basis<'_>,
     dump: &Dump<'_>,
+    asking: &mut A,
     input: &mut S,
     out: &mut K,
-) -> Result<A, Refusal>
+) -> Result<A::End, Refusal>
     requires fits { FitsDump dump.now run.now }
     requires course { IsCourseOf (course_of run.now) basis.now.paths.ways }
     requires ended { AreEndsOf dump.now run.now basis.now.ends }
-    ensures asked { (notes : List (List ℕ)) → AreNotesOf dump.now notes → IfOk result (IsAsked A.asks (crash_run (means W.sets W.moves atomic_rules) (crash_of dump.now notes) run.now) (move (S.port input.old) (S.port input.new)) (move (K.port out.old) (K.port out.new))) }
+    ensures asked { (notes : List (List ℕ)) → AreNotesOf dump.now notes → IfOk result (IsAsked (A.asks asking.old) (crash_run (means W.sets W.moves atomic_rules) (crash_of dump.now notes) run.now) (move (S.port input.old) (S.port input.new)) (move (K.port out.old) (K.port out.new))) }
     ensures refused { (notes : List (List ℕ)) → AreNotesOf dump.now notes → IfErr result (HasNoReport (crash_run (means W.sets W.moves atomic_rules) (crash_of dump.now notes) run.now)) }
     ensures unread { IfErr result (λ _. (input.new ≡ input.old) × (out.new ≡ out.old)) }
 {
@@ -126,7 +132,7 @@ fn open_over<W: Transfer, A: Asking, S: Source, K: Sink>(
                 skipped: run.skipped,
                 signal: dump.status().signal,
             };
-            Ok(ask_found(alloc, found, circumstances, input, out))
+            Ok(ask_found(alloc, found, circumstances, asking, input, out))
         }
         Err(refusal) => Err(refusal),
     }
@@ -137,11 +143,12 @@ fn ask_found<A: Asking, F: Findings + Drop, S: Source, K: Sink>(
     alloc: Global,
     findings: F,
     circumstances: Circumstances,
+    asking: &mut A,
     input: &mut S,
     out: &mut K,
-) -> A
-    ensures { A.asks (session_told (F.shown findings) circumstances.skipped (F.reasons findings)) circumstances.signal (move (S.port input.old) (S.port input.new)) (move (K.port out.old) (K.port out.new)) result }
+) -> A::End
+    ensures { A.asks asking.old (session_told (F.shown findings) circumstances.skipped (F.reasons findings)) circumstances.signal (move (S.port input.old) (S.port input.new)) (move (K.port out.old) (K.port out.new)) result }
 {
     let mut findings = findings;
-    A::ask(alloc, &mut findings, circumstances, input, out)
+    asking.ask(alloc, &mut findings, circumstances, input, out)
 }

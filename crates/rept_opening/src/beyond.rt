@@ -26,6 +26,7 @@ ghost use Rattle.rept_opening.specs.TraceRun.{FitsDump};
 
 use crate::analysis::{Basis, analyse, basis_of};
 use crate::answering::{Asking, Circumstances, open_by};
+use crate::areas::process_told;
 use crate::dumping::CrashImages;
 use crate::premises::{CrashPremises, begun_program};
 use crate::refusal::Refusal;
@@ -48,18 +49,19 @@ pub fn open_beyond<A: Asking, S: Source, K: Sink>(
     run: &Run,
     dump: &Dump<'_>,
     images: CrashImages<'_>,
+    asking: &mut A,
     input: &mut S,
     out: &mut K,
-) -> Result<A, Refusal>
+) -> Result<A::End, Refusal>
     requires fits { FitsDump dump.now run.now }
     requires core { segments_of images.core ≡ core_of dump.now }
     requires exe { option_map file_of images.executable ≡ executable_of (exe_of dump.now) }
-    ensures asked { (notes : List (List ℕ)) → AreNotesOf dump.now notes → IfOk result (IsAsked A.asks (crash_run (means_beyond (means both_sets both_moves atomic_rules)) (crash_of dump.now notes) run.now) (move (S.port input.old) (S.port input.new)) (move (K.port out.old) (K.port out.new))) }
+    ensures asked { (notes : List (List ℕ)) → AreNotesOf dump.now notes → IfOk result (IsAsked (A.asks asking.old) (crash_run (means_beyond (means both_sets both_moves atomic_rules)) (crash_of dump.now notes) run.now) (move (S.port input.old) (S.port input.new)) (move (K.port out.old) (K.port out.new))) }
     ensures refused { (notes : List (List ℕ)) → AreNotesOf dump.now notes → IfErr result (HasNoReport (crash_run (means_beyond (means both_sets both_moves atomic_rules)) (crash_of dump.now notes) run.now)) }
     ensures unread { IfErr result (λ _. (input.new ≡ input.old) × (out.new ≡ out.old)) }
 {
     let Some(steps) = one_path(run) else {
-        return open_by::<Both, A, S, K>(alloc, run, dump, input, out);
+        return open_by::<Both, A, S, K>(alloc, run, dump, asking, input, out);
     };
     match basis_of(alloc, run, dump) {
         Ok(basis) => {
@@ -70,7 +72,7 @@ pub fn open_beyond<A: Asking, S: Source, K: Sink>(
                 dump,
                 images,
             };
-            open_path::<A, S, K>(alloc, path, input, out)
+            open_path::<A, S, K>(alloc, path, asking, input, out)
         }
         Err(_) => Err(Refusal::OutOfMemory),
     }
@@ -91,21 +93,22 @@ struct PathCrash<'a> {
 fn open_path<A: Asking, S: Source, K: Sink>(
     alloc: Global,
     path: PathCrash<'_>,
+    asking: &mut A,
     input: &mut S,
     out: &mut K,
-) -> Result<A, Refusal>
+) -> Result<A::End, Refusal>
     requires fits { FitsDump path.dump.now path.run.now }
     requires course { IsCourseOf (course_of path.run.now) path.basis.now.paths.ways }
     requires ended { AreEndsOf path.dump.now path.run.now path.basis.now.ends }
     requires one { path_rows path.run.now ≡ Some path.steps.now }
     requires core { segments_of path.images.core ≡ core_of path.dump.now }
     requires exe { option_map file_of path.images.executable ≡ executable_of (exe_of path.dump.now) }
-    ensures asked { (notes : List (List ℕ)) → AreNotesOf path.entry.dump.now notes → IfOk result (IsAsked A.asks (crash_run (means_beyond (means both_sets both_moves atomic_rules)) (crash_of path.entry.dump.now notes) path.entry.run.now) (move (S.port input.old) (S.port input.new)) (move (K.port out.old) (K.port out.new))) }
+    ensures asked { (notes : List (List ℕ)) → AreNotesOf path.entry.dump.now notes → IfOk result (IsAsked (A.asks asking.old) (crash_run (means_beyond (means both_sets both_moves atomic_rules)) (crash_of path.entry.dump.now notes) path.entry.run.now) (move (S.port input.old) (S.port input.new)) (move (K.port out.old) (K.port out.new))) }
     ensures refused { (notes : List (List ℕ)) → AreNotesOf path.entry.dump.now notes → IfErr result (HasNoReport (crash_run (means_beyond (means both_sets both_moves atomic_rules)) (crash_of path.entry.dump.now notes) path.entry.run.now)) }
     ensures unread { IfErr result (λ _. (input.new ≡ input.old) × (out.new ≡ out.old)) }
 {
     match analyse::<Both>(alloc, path.run, path.basis, path.dump) {
-        Ok(known) => open_known::<A, S, K>(alloc, path, &known, input, out),
+        Ok(known) => open_known::<A, S, K>(alloc, path, &known, asking, input, out),
         Err(refusal) => Err(refusal),
     }
 }
@@ -115,9 +118,10 @@ fn open_known<A: Asking, S: Source, K: Sink>(
     alloc: Global,
     path: PathCrash<'_>,
     known: &AnalysedCrash<'_, Both, Atomic>,
+    asking: &mut A,
     input: &mut S,
     out: &mut K,
-) -> Result<A, Refusal>
+) -> Result<A::End, Refusal>
     requires fits { FitsDump path.dump.now path.run.now }
     requires course { IsCourseOf (course_of path.run.now) path.basis.now.paths.ways }
     requires ended { AreEndsOf path.dump.now path.run.now path.basis.now.ends }
@@ -125,25 +129,29 @@ fn open_known<A: Asking, S: Source, K: Sink>(
     requires core { segments_of path.images.core ≡ core_of path.dump.now }
     requires exe { option_map file_of path.images.executable ≡ executable_of (exe_of path.dump.now) }
     requires found { (notes : List (List ℕ)) → AreNotesOf path.dump.now notes → IsFoundOf (crash_run (means both_sets both_moves atomic_rules) (crash_of path.dump.now notes) path.run.now) known.now }
-    ensures asked { (notes : List (List ℕ)) → AreNotesOf path.entry.dump.now notes → IfOk result (IsAsked A.asks (crash_run (means_beyond (means both_sets both_moves atomic_rules)) (crash_of path.entry.dump.now notes) path.entry.run.now) (move (S.port input.old) (S.port input.new)) (move (K.port out.old) (K.port out.new))) }
+    ensures asked { (notes : List (List ℕ)) → AreNotesOf path.entry.dump.now notes → IfOk result (IsAsked (A.asks asking.old) (crash_run (means_beyond (means both_sets both_moves atomic_rules)) (crash_of path.entry.dump.now notes) path.entry.run.now) (move (S.port input.old) (S.port input.new)) (move (K.port out.old) (K.port out.new))) }
     ensures refused { (notes : List (List ℕ)) → AreNotesOf path.entry.dump.now notes → IfErr result (HasNoReport (crash_run (means_beyond (means both_sets both_moves atomic_rules)) (crash_of path.entry.dump.now notes) path.entry.run.now)) }
     ensures unread { IfErr result (λ _. (input.new ≡ input.old) × (out.new ≡ out.old)) }
 {
     reports_are_true::<Both, Atomic>();
     let reported = Reported { found: known };
     let steps = path.steps.rows();
+    let image_end = path.dump.image_end();
+    let status = path.dump.status();
     let premises = CrashPremises {
         dump: path.dump,
         core: path.images.core,
-        pid: path.dump.status().pid,
+        process: process_told(&path.images.core, image_end, (status.pid, status.regs[2])),
         begun: begun_program(path.images.executable, path.run.skipped, steps),
     };
     let rows = InferPath {
         rows: steps,
-        image_end: path.dump.image_end(),
+        image_end,
     };
     match infer(alloc, rows, &reported, &premises) {
-        Ok(inferred) => ask_beyond::<Both, A, _, _, S, K>(alloc, path, inferred, input, out),
+        Ok(inferred) => ask_beyond::<Both, A, _, _, S, K>(
+            alloc, path, inferred, asking, input, out,
+        ),
         Err(InferStop::Contradiction(empty)) => Err(Refusal::Refuted {
             point: empty.point,
             reg: empty.reg,
@@ -159,15 +167,16 @@ fn ask_beyond<W: Transfer, A: Asking, P: KnownPath, Q: PathPremises, S: Source, 
     alloc: Global,
     path: PathCrash<'_>,
     inferred: InferredPath<'_, P, Q>,
+    asking: &mut A,
     input: &mut S,
     out: &mut K,
-) -> Result<A, Refusal>
+) -> Result<A::End, Refusal>
     requires fits { FitsDump path.dump.now path.run.now }
     requires course { IsCourseOf (course_of path.run.now) path.basis.now.paths.ways }
     requires ended { AreEndsOf path.dump.now path.run.now path.basis.now.ends }
     requires one { path_rows path.run.now ≡ Some path.steps.now }
     requires holds { (notes : List (List ℕ)) → AreNotesOf path.dump.now notes → (states : ℕ → State) → IsAdmitted (story_of (crash_of path.dump.now notes) path.run.now.skipped path.steps.now) states → Holds (story_of (crash_of path.dump.now notes) path.run.now.skipped path.steps.now) (told_in (path_reader P.set P.byte Q.premises) inferred) states }
-    ensures asked { (notes : List (List ℕ)) → AreNotesOf path.entry.dump.now notes → IfOk result (IsAsked A.asks (crash_run (means_beyond (means W.sets W.moves atomic_rules)) (crash_of path.entry.dump.now notes) path.entry.run.now) (move (S.port input.old) (S.port input.new)) (move (K.port out.old) (K.port out.new))) }
+    ensures asked { (notes : List (List ℕ)) → AreNotesOf path.entry.dump.now notes → IfOk result (IsAsked (A.asks asking.old) (crash_run (means_beyond (means W.sets W.moves atomic_rules)) (crash_of path.entry.dump.now notes) path.entry.run.now) (move (S.port input.old) (S.port input.new)) (move (K.port out.old) (K.port out.new))) }
     ensures refused { (notes : List (List ℕ)) → AreNotesOf path.entry.dump.now notes → IfErr result (HasNoReport (crash_run (means_beyond (means W.sets W.moves atomic_rules)) (crash_of path.entry.dump.now notes) path.entry.run.now)) }
     ensures unread { IfErr result (λ _. (input.new ≡ input.old) × (out.new ≡ out.old)) }
 {
@@ -177,7 +186,7 @@ fn ask_beyond<W: Transfer, A: Asking, P: KnownPath, Q: PathPremises, S: Source, 
                 skipped: path.run.skipped,
                 signal: path.dump.status().signal,
             };
-            Ok(ask_narrowed(alloc, found, inferred, circumstances, input, out))
+            Ok(ask_narrowed(alloc, found, inferred, circumstances, asking, input, out))
         }
         Err(refusal) => Err(refusal),
     }
@@ -189,11 +198,12 @@ fn ask_narrowed<A: Asking, F: Findings + Drop, P: KnownPath, Q: PathPremises, S:
     found: F,
     inferred: InferredPath<'_, P, Q>,
     circumstances: Circumstances,
+    asking: &mut A,
     input: &mut S,
     out: &mut K,
-) -> A
-    ensures { A.asks (session_told (narrowed (told_in (path_reader P.set P.byte Q.premises) inferred.entry) (F.shown found)) circumstances.skipped (F.reasons found)) circumstances.signal (move (S.port input.old) (S.port input.new)) (move (K.port out.old) (K.port out.new)) result }
+) -> A::End
+    ensures { A.asks asking.old (session_told (narrowed (told_in (path_reader P.set P.byte Q.premises) inferred.entry) (F.shown found)) circumstances.skipped (F.reasons found)) circumstances.signal (move (S.port input.old) (S.port input.new)) (move (K.port out.old) (K.port out.new)) result }
 {
     let mut findings = InferredCrash { found, inferred };
-    A::ask(alloc, &mut findings, circumstances, input, out)
+    asking.ask(alloc, &mut findings, circumstances, input, out)
 }

@@ -4,6 +4,7 @@
 
 mod analysis;
 mod answering;
+mod areas;
 mod beyond;
 mod dumping;
 mod listed;

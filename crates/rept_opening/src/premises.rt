@@ -9,6 +9,7 @@ ghost use Rattle.rept_dump.specs.Memory.{crash_byte, may_be_written};
 ghost use Rattle.rept_dump.specs.Program.{contents};
 ghost use Rattle.rept_opening.specs.Beyond.{begun_file, e_entry, has_page, is_at, is_begin, is_interpreter, is_read_only, lies_in, loaded_at, loaded_byte};
 
+use crate::areas::ProcessTold;
 use rept_dump::Dump;
 use rept_elf::{Image, PF_W, PT_LOAD, Segment, word};
 use rept_infer::PathPremises;
@@ -23,7 +24,7 @@ const PT_INTERP: u32 = 3;
 pub struct CrashPremises<'a> {
     pub dump: &'a Dump<'a>,
     pub core: Image<'a>,
-    pub pid: u32,
+    pub process: ProcessTold,
     pub begun: Option<Image<'a>>,
 }
 
@@ -35,7 +36,7 @@ impl<'a> PathPremises for CrashPremises<'a> {
     ghost use Rattle.rept_dump.specs.Program.{contents};
     ghost use Rattle.rept_opening.specs.Beyond.{premises_by};
 
-    ghost premises = { λ p. premises_by (segments_of p.core) (crash_byte (contents (exe_of p.dump.now)) (core_of p.dump.now)) p.pid (option_map file_of p.begun) };
+    ghost premises = { λ p. premises_by (segments_of p.core) (crash_byte (contents (exe_of p.dump.now)) (core_of p.dump.now)) p.process (option_map file_of p.begun) };
 
     fn is_read_only(&self, address: u32) -> bool {
         is_read_only(&self.core, self.dump, address)
@@ -49,11 +50,18 @@ impl<'a> PathPremises for CrashPremises<'a> {
     }
 
     fn process(&self) -> Option<u32> {
-        Some(self.pid)
+        Some(self.process.pid)
     }
 
     fn stack_from(&self) -> Option<u32> {
-        None
+        self.process.stack_from
+    }
+
+    fn clear_from(&self) -> Option<u32> {
+        match &self.begun {
+            Some(_) => self.process.stack_from,
+            None => None,
+        }
     }
 }
 
@@ -65,7 +73,7 @@ fn is_read_only(core: &Image<'_>, dump: &Dump<'_>, a: u32) -> bool
 }
 
 /// Whether a segment is part of memory and has this address.
-fn lies_in(segment: &Segment<'_>, a: u32) -> bool
+pub(crate) fn lies_in(segment: &Segment<'_>, a: u32) -> bool
     ensures { result ≡ lies_in a (segment_of segment.now) }
 {
     let end = u64::from(segment.vaddr) + u64::from(segment.memsz);

@@ -16,7 +16,7 @@ use Rattle.rept_relate.specs.declared.numbering.OperandNodes.{OperandNodes}
 use Rattle.rept_relate.specs.declared.words.WordPlace.{WordPlace}
 use Rattle.rept_relate.specs.declared.words.WordSlot.{WordSlot}
 use Rattle.rept_relate.specs.Relations.{IsRowOf}
-use Rattle.rept_relate.specs.Holding.{IsPlaceOf, AreHeld, IsOutside, IsLeft, AreLeft, IsCallWithin, AreCallsWithin}
+use Rattle.rept_relate.specs.Holding.{IsPlaceOf, AreHeld, IsOutside, IsSlotLeft, AreLeft, IsCallWithin, AreCallsWithin}
 use Rattle.rept_relate.proofs.Counting.{same_some, pushed_cases}
 use Rattle.rept_relate.proofs.Remembering.{word_same}
 
@@ -37,14 +37,14 @@ pub outside_both : (place : WordPlace) (access : CallAccess) → ((a k : ℕ) �
 outside_both place access f g value a k at less = neither (hits_part access.first (beside a k)) (hits_part access.second (beside a k)) (f a k at.low at.high less) (g a k at.low at.high less)
 
 -- ---- the words that are left
-pub left_more : (before old new : List WordSlot) (access : CallAccess) (i : ℕ) → ((m : ℕ) (slot : WordSlot) → m < i → slice_get old m ≡ Some slot → slot.live ≡ true → IsLeft before m slot access) → ((m : ℕ) → i ≤ m → slice_get old m ≡ slice_get before m) → ((slot : WordSlot) → slice_get new i ≡ Some slot → slot.live ≡ true → IsLeft old i slot access) → ((m : ℕ) → (m ≡ i → ⊥) → slice_get new m ≡ slice_get old m) → (m : ℕ) (slot : WordSlot) → m < i + 1 → slice_get new m ≡ Some slot → slot.live ≡ true → IsLeft before m slot access
+pub left_more : (before old new : List WordSlot) (access : CallAccess) (i : ℕ) → ((m : ℕ) (slot : WordSlot) → m < i → slice_get old m ≡ Some slot → slot.live ≡ true → IsSlotLeft before m slot access) → ((m : ℕ) → i ≤ m → slice_get old m ≡ slice_get before m) → ((slot : WordSlot) → slice_get new i ≡ Some slot → slot.live ≡ true → IsSlotLeft old i slot access) → ((m : ℕ) → (m ≡ i → ⊥) → slice_get new m ≡ slice_get old m) → (m : ℕ) (slot : WordSlot) → m < i + 1 → slice_get new m ≡ Some slot → slot.live ≡ true → IsSlotLeft before m slot access
 left_more before old new access i done rest here others m slot less at live = elim (cases_lt m i) [
   | inl lt ↦ done m slot lt (sym (others m (λ e. let f = e in omega (arith, lt, f))) ∙ at) live
   | inr le ↦
       let same : m ≡ i = omega (arith, le, less) in
       let there : slice_get new i ≡ Some slot = ap (λ (j : ℕ). slice_get new j) (sym same) ∙ at in
       let c = here slot there live in
-      subst (λ (j : ℕ). IsLeft before j slot access) (sym same) (record { kept = sym (rest i (omega arith)) ∙ c.kept; outside = c.outside })
+      subst (λ (j : ℕ). IsSlotLeft before j slot access) (sym same) (record { kept = sym (rest i (omega arith)) ∙ c.kept; outside = c.outside })
 ]
 
 pub left_held : (old new : List WordSlot) (access : CallAccess) (value : ℕ → ℕ) (s t : State) → AreLeft old new access → ((a : ℕ) → call_hits access a ≡ false → t.memory a ≡ s.memory a) → AreHeld old value s → AreHeld new value t

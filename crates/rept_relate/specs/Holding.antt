@@ -58,12 +58,12 @@ abbrev pub IsOutside : WordPlace → CallAccess → Type 0
 IsOutside place access = (value : ℕ → ℕ) (a k : ℕ) → IsPlaceOf value place a → k < 4 → call_hits access (beside a k) ≡ false
 
 -- a live slot of the new list is one of the old list, outside of an access
-pub record IsLeft (old : List WordSlot) (k : ℕ) (slot : WordSlot) (access : CallAccess) : Type 0 where
+pub record IsSlotLeft (old : List WordSlot) (k : ℕ) (slot : WordSlot) (access : CallAccess) : Type 0 where
   pub kept : slice_get old k ≡ Some slot
   pub outside : IsOutside slot.place access
 
 abbrev pub AreLeft : List WordSlot → List WordSlot → CallAccess → Type 0
-AreLeft old new access = (k : ℕ) (slot : WordSlot) → slice_get new k ≡ Some slot → slot.live ≡ true → IsLeft old k slot access
+AreLeft old new access = (k : ℕ) (slot : WordSlot) → slice_get new k ≡ Some slot → slot.live ≡ true → IsSlotLeft old k slot access
 
 -- a call writes bytes of an access alone
 abbrev pub IsCallWithin : StepRow → CallAccess → ℕ → State → State → Type 0

@@ -7,7 +7,7 @@ ghost use Rattle.rept_machine.specs.State.{State};
 ghost use Rattle.rept_relate.specs.Classes.Valuations.{IsValued};
 ghost use Rattle.rept_relate.specs.Relations.{IsRowOf};
 ghost use Rattle.rept_relate.specs.declared.words.WordSlot.{WordSlot};
-ghost use Rattle.rept_relate.specs.Holding.{AreHeld, AreNodesBelow, IsOutside, IsLeft, AreLeft, IsCallWithin};
+ghost use Rattle.rept_relate.specs.Holding.{AreHeld, AreNodesBelow, IsOutside, IsSlotLeft, AreLeft, IsCallWithin};
 
 use crate::classes::{Classes, Impossible};
 use crate::numbering::OperandNodes;
@@ -18,7 +18,7 @@ use rept_isa::{Instr, StepRow};
 
 /// A row, the nodes of its values, and the bytes that it may write if it is a call.
 #[derive(Clone, Copy)]
-pub struct WordStep {
+pub struct CallWords {
     /// the row
     pub row: StepRow,
     /// the node of its result
@@ -60,7 +60,7 @@ fn is_outside(place: &WordPlace, access: &CallAccess) -> bool
 fn leave_slot(slots: &mut Vec<WordSlot>, k: usize, access: &CallAccess)
     requires inside { k < length slots.old.items }
     ensures len { length slots.new.items ≡ length slots.old.items }
-    ensures here { (slot : WordSlot) → slice_get slots.new.items k ≡ Some slot → slot.live ≡ true → IsLeft slots.old.items k slot access.now }
+    ensures here { (slot : WordSlot) → slice_get slots.new.items k ≡ Some slot → slot.live ≡ true → IsSlotLeft slots.old.items k slot access.now }
     ensures others { (m : ℕ) → (m ≡ k → ⊥) → slice_get slots.new.items m ≡ slice_get slots.old.items m }
     ensures below { (limit : ℕ) → AreNodesBelow slots.old.items limit → AreNodesBelow slots.new.items limit }
 {
@@ -88,7 +88,7 @@ fn leave(slots: &mut Vec<WordSlot>, access: &CallAccess)
 pub fn relate_words(
     classes: &mut Classes,
     words: &mut WordTable,
-    step: &WordStep,
+    step: &CallWords,
 ) -> Result<(), Impossible>
     requires node { step.now.node < length classes.old }
     requires first { step.now.nodes.first < length classes.old }

@@ -6,7 +6,7 @@ ghost use Rattle.rept_relate.specs.Classes.Valuations.{IsValued};
 ghost use Rattle.rept_relate.specs.Numbering.{value_in, IsWalk, AreNumbered};
 ghost use Rattle.rept_relate.specs.Holding.{AreCallsWithin};
 
-use crate::called::{WordStep, relate_words};
+use crate::called::{CallWords, relate_words};
 use crate::classes::Classes;
 use crate::numbering::{OperandNodes, number};
 use crate::operations::Operations;
@@ -79,7 +79,7 @@ fn relate_rows(
             Err(_) => return Err(i as u32),
             Ok(()) => {}
         }
-        let step = WordStep {
+        let step = CallWords {
             row,
             node: 32 + i as u32,
             nodes,

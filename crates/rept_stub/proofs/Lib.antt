@@ -1,6 +1,3 @@
 pub mod Bytes
-mod Forward
 pub mod Listed
-mod Named
-pub mod Ranges
 pub mod Stands

@@ -1,10 +1,9 @@
 pub mod Answers
 pub mod Consoles
 pub mod Description
-pub mod Halts
 pub mod Monitoring
 pub mod Replies
 pub mod Signals
-pub mod Spots
 pub mod Standing
 pub mod Threads
+pub mod Early

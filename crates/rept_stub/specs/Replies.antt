@@ -2,15 +2,15 @@
 -- StopReason Reply Packets and General Query Packets).
 use Rattle.std.specs.Prelude.{ℕ, ◌+◌, ◌/◌, ◌%◌, ◌^◌, min, List, [], ◌∷◌, ◌++◌, map, length, drop, take, ◌==◌, nat_lt, nat_le, Option, None, Some, codes, if◌then◌else◌}
 use Rattle.std.specs.List.{flat_map, range_with_len}
-use Rattle.std.specs.Option.{option_or}
 use Rattle.rept_word.specs.Hex.{hex_byte}
 use Rattle.rept_remote.specs.Escapes.{digits_value}
 use Rattle.rept_findings.specs.Shown.{Shown, moment_at, number}
 use Rattle.rept_findings.specs.declared.place.ThreadPoint.{ThreadPoint}
 use Rattle.rept_findings.specs.Texts.{pc_at, wrapped}
-use Rattle.rept_stub.specs.declared.halt.StopReason.{StopReason}
+use Rattle.rept_moves.specs.declared.halt.StopReason.{StopReason}
+use Rattle.rept_moves.specs.Told.{byte_told}
 use Rattle.rept_stub.specs.Signals.{debugger_signal}
-use Rattle.rept_stub.specs.declared.halt.StopReason.TheVariants as stop
+use Rattle.rept_moves.specs.declared.halt.StopReason.TheVariants as stop
 
 -- bytes as pairs of digits
 abbrev pub digits_of : List ℕ → List ℕ
@@ -45,11 +45,6 @@ abbrev pub known_run : List (Option ℕ) → List ℕ
 known_run [] = []
 known_run (None ∷ more) = []
 known_run (Some byte ∷ more) = byte ∷ known_run more
-
--- the byte at an address that is told at a moment: the one that is known there; else that of the
--- code, which is assumed not to change
-abbrev pub byte_told : Shown → ℕ → ℕ → Option ℕ
-byte_told s moment address = option_or (s.byte moment address) (s.code address)
 
 -- at most so many bytes from an address on at a moment, up to the first one that isn't told, and
 -- at most 2000

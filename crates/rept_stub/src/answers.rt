@@ -6,27 +6,28 @@ ghost use Rattle.rept_findings.specs.Shown.{IsThreadPoint, SameReasons, session_
 ghost use Rattle.rept_stub.specs.Answers.{IsLineAnswered, IsMonitored, IsStubAnswer, changed, changed_reply, fixed_reply, halt_by, is_far, line_before, monitored, move_line, move_reply, moved, selected_by, spots_after, stale_after, stand_after, still_reply, threads_still, watch_in};
 ghost use Rattle.rept_stub.specs.Monitoring.{asked_of, line_point};
 ghost use Rattle.rept_stub.specs.Replies.{bytes_told, decoded, memory_bytes, memory_digits};
-ghost use Rattle.rept_stub.specs.Spots.{region};
+ghost use Rattle.rept_moves.specs.Spots.{region};
 ghost use Rattle.rept_stub.specs.Standing.{AreCursors, IsStandLawful, cursor_of, here, led, moving_thread, start_of};
 
 use crate::console::console_line;
 use crate::cursors::Cursors;
 use crate::description::description;
-use crate::halt::{MoveEnd, StopReason};
 use crate::monitoring::{
     MonitorRequest, asked_of, help_text, point_in, push_moved, signal_text, writers_text,
 };
-use crate::moves::{continued, continued_back, is_unseen, stepped, stepped_back, stepped_within};
 use crate::pieces::{
     decoded, known_bytes, memory_bytes, memory_digits, part, register, registers, text_reply, whole,
 };
-use crate::spots::{Region, Spots, Watch};
 use crate::threads::{
     about_text, cursor_words, moving_thread, named_thread, reason, stop_text, there_text,
     thread_text, threads_text,
 };
 use rept_findings::findings::moment_of;
 use rept_findings::{Findings, ThreadPoint};
+use rept_moves::{
+    MoveEnd, Region, Spots, StopReason, Watch, continued, continued_back, is_unseen, stepped,
+    stepped_back, stepped_within,
+};
 use rept_remote::{GdbRequest, Movement, ThreadName, WatchKind, parse};
 use rept_session::answer_line;
 use rept_word::{OutOfMemory, Text};
@@ -464,7 +465,7 @@ fn region_of(kind: WatchKind, address: u32, length: u32) -> Region
 }
 
 /// Answers that are always the same.
-fn fixed(request: GdbRequest) -> &'static [u8]
+pub fn fixed(request: GdbRequest) -> &'static [u8]
     ensures { result.now ≡ fixed_reply request }
 {
     match request {

@@ -7,11 +7,10 @@ ghost use Rattle.rept_findings.specs.Shown.{IsThreadPoint};
 ghost use Rattle.rept_findings.specs.Texts.{step_text};
 ghost use Rattle.rept_stub.specs.Consoles.{base_at, base_text, console_line, is_back, past, row_told, told_address, unless_known, writer_told};
 
-use crate::halt::{MoveEnd, StopReason};
-use crate::moves::{is_stepped_over, last_point, point_at, writer_at};
 use rept_findings::findings::number_of;
 use rept_findings::{Findings, ThreadPoint, push_thread_named};
 use rept_isa::{Reg, reads};
+use rept_moves::{MoveEnd, StopReason, is_stepped_over, last_point, point_at, writer_at};
 use rept_remote::Movement;
 use rept_report::Writer;
 use rept_word::{OutOfMemory, Text};

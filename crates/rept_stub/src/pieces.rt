@@ -4,14 +4,13 @@ ghost use Rattle.std.specs.Prelude.{◌≡◌, ◌++◌, ◌<◌, ◌+◌, min, 
 ghost use Rattle.std.specs.List.{flat_map, range_with_len};
 ghost use Rattle.rept_findings.specs.Shown.{IsThreadPoint};
 ghost use Rattle.rept_findings.specs.Texts.{wrapped};
-ghost use Rattle.rept_stub.specs.Replies.{big_word, byte_told, decoded, digits_of, known_bytes, known_run, little_word, memory_bytes, memory_digits, part_reply, register_reply, registers_reply, signal_reply, stop_part, text_reply, value_digits};
+ghost use Rattle.rept_stub.specs.Replies.{big_word, decoded, digits_of, known_bytes, known_run, little_word, memory_bytes, memory_digits, part_reply, register_reply, registers_reply, signal_reply, stop_part, text_reply, value_digits};
 
-use crate::halt::StopReason;
-use crate::moves::last_point;
 use crate::signal::debugger_signal;
 use rept_findings::findings::{address_at, number_of};
 use rept_findings::{Findings, ThreadPoint};
 use rept_isa::Reg;
+use rept_moves::{StopReason, byte_told, last_point};
 use rept_remote::digits_value;
 use rept_word::{OutOfMemory, Text};
 use std::alloc::Global;
@@ -105,18 +104,6 @@ pub fn register<F: Findings>(
         text.push(b"E01")?;
     }
     Ok(text)
-}
-
-/// The byte at an address that is told at a moment: the one that is known there, else that of the
-/// code.
-pub fn byte_told<F: Findings>(findings: &F, moment: u32, address: u32) -> Option<u8>
-    requires { moment < (F.shown findings.now).moments }
-    ensures { result ≡ byte_told (F.shown findings.now) moment address }
-{
-    match findings.byte(moment, address) {
-        Some(byte) => Some(byte),
-        None => findings.code(address),
-    }
 }
 
 /// The bytes that are told from an address on at a moment, up to the first one that isn't.

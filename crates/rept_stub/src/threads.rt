@@ -10,10 +10,10 @@ ghost use Rattle.rept_stub.specs.Standing.{IsStandLawful, is_alone, moving_threa
 ghost use Rattle.rept_stub.specs.Threads.{about, about_reply, cursor_words, is_crash, number_text, reason_reply, stop_reply, there_reply, thread_part, thread_reply, threads_reply};
 
 use crate::answers::Stand;
-use crate::halt::StopReason;
 use crate::pieces::{push_big, push_digits, push_named, push_signal, push_stop, whole};
 use crate::signal::debugger_signal;
 use rept_findings::{Findings, ThreadPoint};
+use rept_moves::StopReason;
 use rept_remote::ThreadName;
 use rept_word::{OutOfMemory, Text};
 use std::alloc::Global;

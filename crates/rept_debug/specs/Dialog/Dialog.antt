@@ -11,12 +11,22 @@ use Rattle.rept_findings.specs.Shown.{SessionTold, Shown}
 use Rattle.rept_stub.specs.Answers.{IsStubAnswer, line_before, stand_after}
 use Rattle.rept_stub.specs.Replies.{digits_of, error}
 use Rattle.rept_stub.specs.Standing.{start_of}
+use Rattle.rept_debug.specs.declared.dialog.early.EarlyDialog.{EarlyDialog}
 use Rattle.rept_debug.specs.declared.dialog.turn.Dialog.{Dialog}
 
--- a dialog as it begins, with each thread's cursor at its last point, thread 0 selected, and no
--- breakpoints
+-- what is kept of a dialog of which no report was needed yet: packets are acknowledged, and there
+-- was no reply
+abbrev pub early_start : EarlyDialog
+early_start = record { acknowledges = true; last = [] }
+
+-- such a dialog over what is told, with each thread's cursor at its last point, thread 0 selected,
+-- and no breakpoints
+abbrev pub early_at : Shown → EarlyDialog → Dialog
+early_at s early = record { stand = start_of s (record { breaks = []; regions = [] }); acknowledges = early.acknowledges; last = early.last; is_over = false }
+
+-- a dialog as it begins
 abbrev pub start_at : Shown → Dialog
-start_at s = record { stand = start_of s (record { breaks = []; regions = [] }); acknowledges = true; last = []; is_over = false }
+start_at s = early_at s early_start
 
 -- packets are acknowledged until the debugger asks for none
 abbrev pub acknowledges_after : Bool → GdbRequest → Bool
@@ -52,13 +62,14 @@ after_packet t d bytes reply = record {
 }
 
 -- What is written at an arrival, and the dialog after it. A packet is acknowledged and, but for
--- `k`, answered; one that is broken is refused; the last reply is written again where it is wished
--- for.
+-- `k`, answered; one that is broken is refused. The last reply is written again where it is wished
+-- for and packets are acknowledged: without that gdb wishes for it at each time limit, and takes
+-- two replies for those to two packets.
 abbrev pub IsTurn : SessionTold → ℕ → Dialog → Arrived → List ℕ → Dialog → Type 0
 IsTurn t signal d (packet bytes) text new = (reply : List ℕ) × IsStubAnswer t signal d.stand bytes reply × (text ≡ sign d (codes "+") ++ written_to (request_of bytes) (line_before t.shown d.stand bytes) reply) × (new ≡ after_packet t d bytes reply)
 IsTurn t signal d broken text new = (text ≡ sign d (codes "-")) × (new ≡ d)
 IsTurn t signal d large text new = (text ≡ sign d (codes "+") ++ packet_of error) × (new ≡ record d { last = packet_of error })
-IsTurn t signal d again text new = (text ≡ d.last) × (new ≡ d)
+IsTurn t signal d again text new = (text ≡ sign d d.last) × (new ≡ d)
 IsTurn t signal d interrupt text new = (text ≡ []) × (new ≡ d)
 
 -- what was read and written since a dialog began, and where it is then

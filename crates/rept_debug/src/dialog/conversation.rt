@@ -5,12 +5,13 @@ ghost use Rattle.rept_ports.specs.Port.{move};
 ghost use Rattle.rept_findings.specs.Shown.{SameReasons, session_told};
 ghost use Rattle.rept_stub.specs.Standing.{IsStandLawful};
 ghost use Rattle.rept_debug.specs.Dialog.Converse.{Converses, parties_over};
-ghost use Rattle.rept_debug.specs.Dialog.Dialog.{start_at};
+ghost use Rattle.rept_debug.specs.Dialog.Onward.{AnswersOn, GoesOn};
 
+use crate::dialog::greeting::{Greeting, greet};
 use crate::dialog::turn::{Dialog, begin, take_turn};
 use rept_findings::Findings;
 use rept_ports::{Sink, Source, write_all};
-use rept_remote::{Ending, GdbPackets};
+use rept_remote::{Arrival, Ending, GdbPackets};
 use rept_stub::Setting;
 use std::alloc::Global;
 
@@ -40,34 +41,68 @@ pub fn converse<F: Findings, S: Source, K: Sink>(
     ensures same { F.shown findings.new ≡ F.shown findings.old }
     ensures same_reasons { SameReasons (F.reasons findings.old) (F.reasons findings.new) }
 {
-    match begin(alloc, findings) {
-        Ok(dialog) => converse_on(alloc, findings, setting, dialog, input, out),
-        Err(_) => SessionEnd::OutOfMemory,
-    }
+    let mut greeting = greet(alloc, input, out);
+    go_on(alloc, findings, setting, &mut greeting, input, out)
 }
 
-/// Answers what arrives in a dialog that begins.
-fn converse_on<F: Findings, S: Source, K: Sink>(
+/// Goes on with a dialog that began before anything was found: answers the packet that waits, and
+/// what arrives after it. The dialog is then one over what was found, from its begin. In each case
+/// the findings stay as they were.
+pub fn go_on<F: Findings, S: Source, K: Sink>(
     alloc: Global,
     findings: &mut F,
     setting: Setting,
-    start: Dialog,
+    greeting: &mut Greeting,
     input: &mut S,
     out: &mut K,
 ) -> SessionEnd
-    requires start { start ≡ start_at (F.shown findings.old) }
-    requires within { IsStandLawful (F.shown findings.old) start.stand }
-    ensures talk { Converses (parties_over (session_told (F.shown findings.old) setting.skipped (F.reasons findings.old)) setting.signal) (move (S.port input.old) (S.port input.new)) (move (K.port out.old) (K.port out.new)) result }
+    ensures talk { GoesOn (parties_over (session_told (F.shown findings.old) setting.skipped (F.reasons findings.old)) setting.signal) greeting.old (move (S.port input.old) (S.port input.new)) (move (K.port out.old) (K.port out.new)) result }
     ensures same { F.shown findings.new ≡ F.shown findings.old }
     ensures same_reasons { SameReasons (F.reasons findings.old) (F.reasons findings.new) }
 {
-    let mut dialog = start;
-    let mut packets = GdbPackets::new();
+    let arrival = match greeting.next {
+        Ok(arrival) => arrival,
+        Err(end) => return end,
+    };
+    let dialog = match begin(alloc, findings, &greeting.dialog) {
+        Ok(dialog) => dialog,
+        Err(_) => return SessionEnd::OutOfMemory,
+    };
+    let packets = std::mem::replace(&mut greeting.packets, GdbPackets::new());
+    let waiting = WaitingDialog {
+        packets,
+        dialog,
+        arrival,
+    };
+    answer_on(alloc, findings, setting, waiting, input, out)
+}
+
+/// A dialog in which an arrival waits for its answer.
+#[derive(Drop)]
+struct WaitingDialog {
+    packets: GdbPackets,
+    dialog: Dialog,
+    arrival: Arrival,
+}
+
+/// Answers the arrival that waits, and what comes after it.
+fn answer_on<F: Findings, S: Source, K: Sink>(
+    alloc: Global,
+    findings: &mut F,
+    setting: Setting,
+    waiting: WaitingDialog,
+    input: &mut S,
+    out: &mut K,
+) -> SessionEnd
+    requires within { IsStandLawful (F.shown findings.old) waiting.dialog.stand }
+    ensures talk { AnswersOn (parties_over (session_told (F.shown findings.old) setting.skipped (F.reasons findings.old)) setting.signal) waiting (move (S.port input.old) (S.port input.new)) (move (K.port out.old) (K.port out.new)) result }
+    ensures same { F.shown findings.new ≡ F.shown findings.old }
+    ensures same_reasons { SameReasons (F.reasons findings.old) (F.reasons findings.new) }
+{
+    let mut packets = waiting.packets;
+    let mut dialog = waiting.dialog;
+    let mut arrival = waiting.arrival;
     'dialog: loop {
-        let arrival = match packets.next(input) {
-            Ok(arrival) => arrival,
-            Err(why) => return SessionEnd::Ended(why),
-        };
         let text = match take_turn(
             alloc,
             findings,
@@ -86,5 +121,9 @@ fn converse_on<F: Findings, S: Source, K: Sink>(
         if dialog.is_over {
             return SessionEnd::Left;
         }
+        arrival = match packets.next(input) {
+            Ok(arrival) => arrival,
+            Err(why) => return SessionEnd::Ended(why),
+        };
     }
 }

@@ -6,8 +6,9 @@ ghost use Rattle.rept_remote.specs.Frames.{arrived};
 ghost use Rattle.rept_remote.specs.Frames.Arrived.{packet};
 ghost use Rattle.rept_findings.specs.Shown.{SameReasons, session_told};
 ghost use Rattle.rept_stub.specs.Standing.{IsStandLawful};
-ghost use Rattle.rept_debug.specs.Dialog.Dialog.{IsTurn, acknowledges_after, console_packet, is_last, sign, start_at, written_to};
+ghost use Rattle.rept_debug.specs.Dialog.Dialog.{IsTurn, acknowledges_after, console_packet, early_at, is_last, sign, written_to};
 
+use crate::dialog::early::EarlyDialog;
 use rept_findings::Findings;
 use rept_remote::{Arrival, GdbRequest, parse, push_packet};
 use rept_stub::{PacketReply, Setting, Stand, answer_packet, push_digits, start};
@@ -27,17 +28,22 @@ pub struct Dialog {
     pub is_over: bool,
 }
 
-/// A dialog that begins, with each thread's cursor at its last point and without breakpoints. The
-/// only refusal is out of memory.
-pub fn begin<F: Findings>(alloc: Global, findings: &F) -> Result<Dialog, OutOfMemory>
-    ensures dialog { IfOk result (λ dialog. dialog ≡ start_at (F.shown findings.now)) }
+/// A dialog of which no report was needed yet over what was found, with each thread's cursor at its
+/// last point and without breakpoints. The only refusal is out of memory.
+pub fn begin<F: Findings>(
+    alloc: Global,
+    findings: &F,
+    early: &EarlyDialog,
+) -> Result<Dialog, OutOfMemory>
+    ensures dialog { IfOk result (λ dialog. dialog ≡ early_at (F.shown findings.now) early.now) }
     ensures within { IfOk result (λ dialog. IsStandLawful (F.shown findings.now) dialog.stand) }
 {
     let stand = start(alloc, findings)?;
+    let last = copy_of(alloc, early.last.bytes())?;
     Ok(Dialog {
         stand,
-        acknowledges: true,
-        last: Text::new(alloc),
+        acknowledges: early.acknowledges,
+        last,
         is_over: false,
     })
 }
@@ -62,7 +68,7 @@ pub fn take_turn<F: Findings>(
         Arrival::Packet => answer(alloc, findings, setting, dialog, carried),
         Arrival::Broken => signed(alloc, dialog.acknowledges, b"-"),
         Arrival::Large => refuse(alloc, dialog),
-        Arrival::Again => copy_of(alloc, dialog.last.bytes()),
+        Arrival::Again => signed(alloc, dialog.acknowledges, dialog.last.bytes()),
         Arrival::Interrupt => Ok(Text::new(alloc)),
     }
 }
@@ -136,7 +142,7 @@ fn refuse(alloc: Global, dialog: &mut Dialog) -> Result<Text, OutOfMemory>
 }
 
 /// A packet that carries these bytes.
-fn packed(alloc: Global, reply: &[u8]) -> Result<Text, OutOfMemory>
+pub fn packed(alloc: Global, reply: &[u8]) -> Result<Text, OutOfMemory>
     ensures { IfOk result (λ text. text ≡ packet_of reply.now) }
 {
     let mut text = Text::new(alloc);
@@ -144,7 +150,7 @@ fn packed(alloc: Global, reply: &[u8]) -> Result<Text, OutOfMemory>
     Ok(text)
 }
 
-fn copy_of(alloc: Global, words: &[u8]) -> Result<Text, OutOfMemory>
+pub fn copy_of(alloc: Global, words: &[u8]) -> Result<Text, OutOfMemory>
     ensures { IfOk result (λ text. text ≡ words.now) }
 {
     let mut text = Text::new(alloc);
@@ -152,19 +158,19 @@ fn copy_of(alloc: Global, words: &[u8]) -> Result<Text, OutOfMemory>
     Ok(text)
 }
 
-/// A sign, where packets are acknowledged.
-fn signed(alloc: Global, acknowledges: bool, sign: &[u8]) -> Result<Text, OutOfMemory>
-    ensures { IfOk result (λ text. text ≡ (if acknowledges then sign.now else [])) }
+/// These words, where packets are acknowledged.
+pub fn signed(alloc: Global, acknowledges: bool, words: &[u8]) -> Result<Text, OutOfMemory>
+    ensures { IfOk result (λ text. text ≡ (if acknowledges then words.now else [])) }
 {
     if acknowledges {
-        copy_of(alloc, sign)
+        copy_of(alloc, words)
     } else {
         Ok(Text::new(alloc))
     }
 }
 
 /// `+`, where packets are acknowledged, and a packet.
-fn replied(alloc: Global, acknowledges: bool, written: &[u8]) -> Result<Text, OutOfMemory>
+pub fn replied(alloc: Global, acknowledges: bool, written: &[u8]) -> Result<Text, OutOfMemory>
     ensures { IfOk result (λ text. text ≡ (if acknowledges then codes "+" else []) ++ written.now) }
 {
     let mut text = signed(alloc, acknowledges, b"+")?;
@@ -172,7 +178,7 @@ fn replied(alloc: Global, acknowledges: bool, written: &[u8]) -> Result<Text, Ou
     Ok(text)
 }
 
-fn acknowledges_after(acknowledges: bool, request: GdbRequest) -> bool
+pub fn acknowledges_after(acknowledges: bool, request: GdbRequest) -> bool
     ensures { result ≡ acknowledges_after acknowledges request }
 {
     match request {

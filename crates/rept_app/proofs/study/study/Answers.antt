@@ -21,13 +21,13 @@ returns-in-Ok-clause-text g c = λ notes are.
 pub returns-in-Ok-clause-causes : goal.returns-in-Ok-clause-causes
 returns-in-Ok-clause-causes g c = λ notes are.
     let h = c.in-Ok.ensures.asked notes are in
-    held_causes (means_of c.args.domain) (crash_of c.args.dump.now notes) c.args.run.now _ _ c.in-Ok.held.status h.report.report.consistent h.asked.1
+    held_causes (means_of c.args.domain) (crash_of c.args.dump.now notes) c.args.run.now _ _ c.in-Ok.status h.report.report.consistent h.asked.1
 
 pub returns-in-Ok-clause-stays : goal.returns-in-Ok-clause-stays
 returns-in-Ok-clause-stays g c = λ notes are. let h = c.in-Ok.ensures.asked notes are in inr (h.report.report.consistent, h.asked.1.answered)
 
 pub returns-in-Ok-clause-impossible : goal.returns-in-Ok-clause-impossible
-returns-in-Ok-clause-impossible g c = λ notes are e. absurd (not_inconsistent c.in-Ok.held.status (c.in-Ok.ensures.asked notes are).asked.1.answered e)
+returns-in-Ok-clause-impossible g c = λ notes are e. absurd (not_inconsistent c.in-Ok.status (c.in-Ok.ensures.asked notes are).asked.1.answered e)
 
 pub returns-in-Err-clause-text : goal.returns-in-Err-clause-text
 returns-in-Err-clause-text g c = λ notes are.

@@ -1,5 +1,4 @@
 use Rattle.std.proofs.Common.{map, string_bytes, ap, ◌∙◌}
-use Rattle.std.proofs.lemmas.Result.{IfErr-weaker}
 use Rattle.std.specs.Result.{result_map_both}
 use Rattle.rept_ports.specs.Port.{move}
 use Rattle.rept_debug.specs.Process.{process}
@@ -11,4 +10,4 @@ returns-in-Ok-session_words g c =
     opened (process (result_map_both (λ v. map string_bytes v.items) (λ e. e) c.args.words) (move (g.H.FileStore.port c.args.file_store.now) (g.H.FileStore.port c.debug.new.file_store)) (move (g.S.Source.port c.args.input.now) (g.S.Source.port c.debug.new.input)) (move (g.K.Sink.port c.args.out.now) (g.K.Sink.port c.debug.new.out)) (move (g.E.Sink.port c.args.errors.now) (g.E.Sink.port c.debug.new.errors)))
     (map string_bytes c.in-Ok.words.items) (map string_bytes c.as_slice.result.now) c.debug.result (ap (result_map_both (λ v. map string_bytes v.items) (λ e. e)) c.in-Ok.is)
     (ap (map string_bytes) c.as_slice.ensures.value ∙ c.in-Ok-session_words.ensures) c.debug.ensures.debugged c.debug.ensures.refused
-    (IfErr-weaker c.debug.result _ _ (λ _ same. (ap g.S.Source.port same.0, ap g.K.Sink.port same.1)) c.debug.ensures.unread) c.debug.ensures.noticed
+    c.debug.ensures.greeted c.debug.ensures.noticed

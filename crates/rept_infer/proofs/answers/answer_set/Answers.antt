@@ -1,4 +1,5 @@
-use Rattle.std.proofs.Common.{sym, ◌∙◌}
+use Rattle.std.proofs.Common.{◌≡◌, ℕ, ◌&&◌, Option, nat_le, true, sym, subst, ◌∙◌}
+use Rattle.rept_infer.specs.Admitted.{is_below}
 use Rattle.rept_known.specs.Laws.BothLaws.{both_lawful}
 use Rattle.rept_infer.proofs.Answering.{all_has_of, bits_all_has, fits_heap, fits_count, fits_process}
 use Rattle.rept_infer.proofs.answers.answer_set.Goals as goal
@@ -6,7 +7,8 @@ use Rattle.rept_infer.proofs.answers.answer_set.Goals as goal
 pub returns-then-number-eq214 : goal.returns-then-number-eq214
 returns-then-number-eq214 g c = λ v most asked has fits.
     let small = both_lawful.words c.args.sets.1 v has in
-    c.heap_words.ensures v small (bits_all_has c.unknown.result v c.unknown.ensures small) (fits_heap (g.P.PathPremises.premises c.args.premises.now) c.args.image_end c.args.number most v fits c.if-number-eq214.true)
+    let heap = fits_heap (g.P.PathPremises.premises c.args.premises.now) c.args.image_end c.args.number most v fits c.if-number-eq214.true in
+    c.heap_words.ensures v small (bits_all_has c.unknown.result v c.unknown.ensures small) (subst (λ (o : Option ℕ). (nat_le c.args.image_end v && is_below o v) ≡ true) (sym c.stack_from.ensures) heap)
 
 pub returns-then-counts_bytes : goal.returns-then-counts_bytes
 returns-then-counts_bytes g c = λ v most asked has fits.

@@ -8,7 +8,7 @@ use Rattle.rept_opening.proofs.answering.open_report.Goals as goal
 
 pub returns-in-Ranges-clause-asked : goal.returns-in-Ranges-clause-asked
 returns-in-Ranges-clause-asked g c = λ notes are.
-    in_domain (λ d p. IfOk c.open_by.result (IsAsked g.A.Asking.asks p (move (g.S.Source.port c.args.input.now) (g.S.Source.port c.open_by.new.input)) (move (g.K.Sink.port c.args.out.now) (g.K.Sink.port c.open_by.new.out))))
+    in_domain (λ d p. IfOk c.open_by.result (IsAsked (g.A.Asking.asks c.args.asking.now) p (move (g.S.Source.port c.args.input.now) (g.S.Source.port c.open_by.new.input)) (move (g.K.Sink.port c.args.out.now) (g.K.Sink.port c.open_by.new.out))))
     c.args.domain domain.Ranges (crash_of c.args.dump.now notes) c.args.run.now c.in-Ranges.is (c.open_by.ensures.asked notes are)
 
 pub returns-in-Ranges-clause-refused : goal.returns-in-Ranges-clause-refused
@@ -16,7 +16,7 @@ returns-in-Ranges-clause-refused g c = λ notes are. in_domain (λ d p. IfErr c.
 
 pub returns-in-KnownBits-clause-asked : goal.returns-in-KnownBits-clause-asked
 returns-in-KnownBits-clause-asked g c = λ notes are.
-    in_domain (λ d p. IfOk c.open_by-in-KnownBits.result (IsAsked g.A.Asking.asks p (move (g.S.Source.port c.args.input.now) (g.S.Source.port c.open_by-in-KnownBits.new.input)) (move (g.K.Sink.port c.args.out.now) (g.K.Sink.port c.open_by-in-KnownBits.new.out))))
+    in_domain (λ d p. IfOk c.open_by-in-KnownBits.result (IsAsked (g.A.Asking.asks c.args.asking.now) p (move (g.S.Source.port c.args.input.now) (g.S.Source.port c.open_by-in-KnownBits.new.input)) (move (g.K.Sink.port c.args.out.now) (g.K.Sink.port c.open_by-in-KnownBits.new.out))))
     c.args.domain domain.KnownBits (crash_of c.args.dump.now notes) c.args.run.now c.in-KnownBits.is (c.open_by-in-KnownBits.ensures.asked notes are)
 
 pub returns-in-KnownBits-clause-refused : goal.returns-in-KnownBits-clause-refused
@@ -24,7 +24,7 @@ returns-in-KnownBits-clause-refused g c = λ notes are. in_domain (λ d p. IfErr
 
 pub returns-in-Inferred-clause-asked : goal.returns-in-Inferred-clause-asked
 returns-in-Inferred-clause-asked g c = λ notes are.
-    in_domain (λ d p. IfOk c.open_beyond.result (IsAsked g.A.Asking.asks p (move (g.S.Source.port c.args.input.now) (g.S.Source.port c.open_beyond.new.input)) (move (g.K.Sink.port c.args.out.now) (g.K.Sink.port c.open_beyond.new.out))))
+    in_domain (λ d p. IfOk c.open_beyond.result (IsAsked (g.A.Asking.asks c.args.asking.now) p (move (g.S.Source.port c.args.input.now) (g.S.Source.port c.open_beyond.new.input)) (move (g.K.Sink.port c.args.out.now) (g.K.Sink.port c.open_beyond.new.out))))
     c.args.domain domain.Inferred (crash_of c.args.dump.now notes) c.args.run.now c.in-Inferred.is (c.open_beyond.ensures.asked notes are)
 
 pub returns-in-Inferred-clause-refused : goal.returns-in-Inferred-clause-refused

@@ -10,7 +10,7 @@ use Rattle.rept_opening.proofs.beyond.ask_beyond.Goals as goal
 pub returns-in-Ok-clause-asked : goal.returns-in-Ok-clause-asked
 returns-in-Ok-clause-asked g c = λ notes are.
     asked_inferred (means g.W.Partial.sets g.W.Transfer.moves atomic_rules) c.in-Ok.found (crash_of c.args.path.dump.now notes) c.args.path.run.now c.args.path.steps.now
-    (told_in (path_reader g.P.KnownPath.set g.P.KnownPath.byte g.Q.PathPremises.premises) c.args.inferred) (c.in-Ok.ensures.found notes are) c.requires.one (c.requires.holds notes are) g.A.Asking.asks c.status.result.signal
+    (told_in (path_reader g.P.KnownPath.set g.P.KnownPath.byte g.Q.PathPremises.premises) c.args.inferred) (c.in-Ok.ensures.found notes are) c.requires.one (c.requires.holds notes are) (g.A.Asking.asks c.args.asking.now) c.status.result.signal
     (move (g.S.Source.port c.args.input.now) (g.S.Source.port c.ask_narrowed.new.input)) (move (g.K.Sink.port c.args.out.now) (g.K.Sink.port c.ask_narrowed.new.out)) c.ask_narrowed.result
     (first_signal c.args.path.dump.now notes are c.status.result.signal c.status.ensures.signal) c.ask_narrowed.ensures
 

@@ -1,7 +1,8 @@
 use Rattle.std.proofs.Common.{◌≡◌, ◌+◌, ◌-◌, ◌++◌, map, List, ℕ, sym, subst}
 use Rattle.std.specs.List.{range_with_len}
 use Rattle.rept_findings.specs.Texts.{wrapped}
-use Rattle.rept_stub.specs.Replies.{byte_told, known_bytes, known_run}
+use Rattle.rept_moves.specs.Told.{byte_told}
+use Rattle.rept_stub.specs.Replies.{known_bytes, known_run}
 use Rattle.rept_stub.proofs.Bytes.{known_more}
 use Rattle.rept_stub.proofs.pieces.known_bytes.Goals as goal
 

@@ -1,5 +1,4 @@
-use Rattle.std.proofs.Common.{inr, refl}
 use Rattle.rept_debug.proofs.dialog.conversation.converse.Goals as goal
 
-pub returns-in-Err-clause-talk : goal.returns-in-Err-clause-talk
-returns-in-Err-clause-talk g c = inr (refl, refl)
+pub returns-clause-talk : goal.returns-clause-talk
+returns-clause-talk g c = c.go_on.ensures.talk (g.S.Source.port c.args.input.now) (g.K.Sink.port c.args.out.now) c.greet-greeting.ensures

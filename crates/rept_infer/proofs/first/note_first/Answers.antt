@@ -1,0 +1,7 @@
+use Rattle.std.proofs.Common.{◌≡◌, ℕ, sym, subst}
+use Rattle.std.proofs.lemmas.Result.{on_ok_weaker}
+use Rattle.rept_infer.specs.Sweeps.{memory_of}
+use Rattle.rept_infer.proofs.first.note_first.Goals as goal
+
+pub returns-in-Some-clause-holds : goal.returns-in-Some-clause-holds
+returns-in-Some-clause-holds g c = on_ok_weaker c.note.result (λ holds story run e h t. holds (memory_of run) (subst (λ (n : ℕ). (run n).memory c.args.address ≡ c.in-Some.value) (sym c.requires.here) (c.in-Some.ensures story run e h)) t) c.note.ensures.holds

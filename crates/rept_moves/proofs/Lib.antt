@@ -1,0 +1,3 @@
+mod Forward
+mod Named
+pub mod Ranges
