@@ -11,7 +11,7 @@ use Rattle.rept_report.specs.Reasons.{StandsIn, IsStanding}
 use Rattle.rept_report.specs.Implied.{with_implied, IsClosed, HasEnded, known_at_end}
 use Rattle.rept_report.specs.Why.{fact_of}
 use Rattle.rept_report.specs.Reasons.StandsIn.{listed}
-use Rattle.rept_report.proofs.Search.{standing}
+use Rattle.rept_report.specs.Search.{standing}
 use Rattle.rept_report.proofs.Told.{told_in}
 use Rattle.rept_report.proofs.Standing.{stands_up, stands_single, front_early, front_standing}
 use Rattle.rept_log.specs.Fronts.{FrontView, stands}

@@ -37,7 +37,8 @@ use Rattle.rept_report.specs.Log.{oldest, OnceEach}
 use Rattle.rept_report.proofs.Told.{same_some, none_some}
 use Rattle.rept_report.proofs.Places.{oldest_less}
 use Rattle.rept_report.proofs.OnlyValue.{known_only}
-use Rattle.rept_report.proofs.ViewLaws.{LiesIn, known_fact, known_more, known_word, seen_at_lawful, registers_at_lawful, seen_more, ranges_lie}
+use Rattle.rept_report.specs.Laws.SeenLaws.{known_fact, known_word, seen_at_lawful, registers_at_lawful}
+use Rattle.rept_report.proofs.ViewLaws.{LiesIn, known_more, seen_more, ranges_lie}
 use Rattle.rept_report.proofs.Monotony.{quiet_less, single_value_more, Concludes_more}
 use Rattle.rept_analysis.specs.Cells.{bytes_from, bytes_known, base_known}
 use Rattle.rept_log.specs.Compared.{IsSameAfter, IsNextDiffering}

@@ -1,6 +1,6 @@
 -- Whether all that may write a byte lies wholly before a moment, found by the list of the rows that
 -- may write.
-use Rattle.std.proofs.Common.{◌≡◌, ℕ, zero, suc, ◌+◌, ◌-◌, ◌<◌, ◌≤◌, ◌^◌, ◌⊎◌, Bool, true, false, not, ◌&&◌, ◌||◌, length, Option, Some, None, inl, inr, refl, sym, subst, ◌∙◌, arith, slice_get}
+use Rattle.std.proofs.Common.{◌≡◌, ℕ, zero, suc, ◌+◌, ◌-◌, ◌<◌, ◌≤◌, ◌^◌, ◌⊎◌, Bool, true, false, not, ◌&&◌, ◌||◌, length, Option, Some, None, inl, inr, refl, sym, subst, ◌∙◌, arith, slice_get, cond}
 use Rattle.std.specs.Option.{IsSome}
 use Rattle.std.proofs.lemmas.Bool.{cases_Bool, cases_eq, cases_lt, and_parts, and_from, false_from_ne_true, false≢true}
 use Rattle.std.proofs.lemmas.Option.{slice_get_within}
@@ -11,7 +11,7 @@ use Rattle.rept_span.specs.Ranges.{Legs}
 use Rattle.rept_reason.specs.View.Seen.{Seen}
 use Rattle.rept_report.specs.Reach.Reaching.{IsExtent}
 use Rattle.rept_report.specs.declared.reach.reaches.NumberWindow.{NumberWindow}
-use Rattle.rept_writing.specs.Hits.{IsSplitAt, IsFreeSince}
+use Rattle.rept_writing.specs.Hits.{IsSplitAt, IsFreeSince, hits_at}
 use Rattle.rept_writing.specs.declared.list.Writing.{Writing}
 use Rattle.rept_report.specs.declared.paths.NumberChain.{NumberChain}
 use Rattle.rept_report.specs.Moments.{Moments, AreMoments}
@@ -21,6 +21,8 @@ use Rattle.rept_report.specs.Spots.{spot}
 use Rattle.rept_report.specs.Views.{may_write, registers_at, touched_by}
 use Rattle.rept_report.specs.Implied.{all_past, is_settled}
 use Rattle.rept_report.specs.Log.{oldest}
+use Rattle.rept_report.specs.Writers.{IsWriter}
+use Rattle.rept_report.specs.declared.writer.Writer as writers
 use Rattle.rept_report.proofs.Registers.{may_write_same}
 use Rattle.rept_analysis.specs.State.{AnalysisState, all_known, along, timeline_of}
 use Rattle.rept_analysis.specs.Inferring.{IsSpared, IsSettled, IsHitBy, AreWritings, AreHitsPast, AreFormerPast, AreLaterPast, IsLateHit}
@@ -156,3 +158,16 @@ module _ {W : Type 0} (s : AnalysisState W) (settled : IsSettled s) (a : ℕ) (s
       let there = (settled.writings.barriers.each h.index h.writing h.found).there in
       let inside = there_inside (timeline_of s) settled.writings.laws.legs h.writing.row there in
       unsettled S K m a h.writing.row inside (settled.exact h.index h.writing a h.found small h.hits) h.late
+
+  -- none of them may write the byte, so no row may
+  pub no_row : (count : ℕ) → count ≡ length s.work.writing → ((j : ℕ) → 0 ≤ j → j < count → hits_at s.work.writing j a ≡ false) → (i : ℕ) → may_write S K i a ≡ true → ⊥
+  no_row count all none i may =
+      let h = listed_hit i may in
+      let within = slice_get_within s.work.writing h.index h.writing h.found in
+      let hits : hits_at s.work.writing h.index a ≡ true = rw h.found h.hits in
+      false≢true (sym (none h.index (omega arith) (omega (arith, within, all))) ∙ hits)
+
+  -- then this is said of the writer
+  pub no_writer : (m : ℕ) (b : Bool) → b ≡ s.path.given.moments.is_untraced → ((i : ℕ) → may_write S K i a ≡ true → ⊥) → IsWriter S K (spot m a) (cond b writers.TheVariants.Several writers.TheVariants.None)
+  no_writer m true is none = (λ j last. none j last.one.may, λ h. false≢true (sym h.light ∙ sym is))
+  no_writer m false is none = record { rows = λ k c. none k c.may; light = sym is }

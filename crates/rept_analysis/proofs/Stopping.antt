@@ -1,5 +1,6 @@
 -- What stands when an analysis stops.
 use Rattle.std.proofs.Common.{◌≡◌, ◌⊎◌, ℕ, ◌<◌, ◌≤◌, ◌^◌, Bool, true, false, List, [], ◌∷◌, length, Option, Some, None, inl, inr, refl, sym, subst, ◌∙◌, arith, ltb, eqb, cond}
+use Rattle.std.specs.Prelude.{◌==◌, ◌&&◌, is_some}
 use Rattle.std.proofs.lemmas.Bool.{cases_eq, cases_lt, false≢true, cond-true, cond-false, lt-ltb, le-ltb, eq-eqb, ne_eqb}
 use Rattle.rept_isa.specs.declared.row.StepRow.{StepRow}
 use Rattle.rept_reason.specs.declared.fact.Fact.{Fact}
@@ -16,9 +17,10 @@ use Rattle.rept_report.specs.Why.{fact_of}
 use Rattle.rept_report.specs.Conflicts.{IsQuiet, Shows}
 use Rattle.rept_report.specs.Closure.{InClosure, ClosureHas}
 use Rattle.rept_report.specs.Log.{oldest, Entry, facts_of, add_if, logged_of}
+use Rattle.rept_report.specs.Origin.Logs.{source}
 use Rattle.rept_report.proofs.Told.{told_in, none_some}
 use Rattle.rept_report.proofs.Places.{oldest_more, oldest_less, oldest_new}
-use Rattle.rept_report.proofs.ViewLaws.{known_fact}
+use Rattle.rept_report.specs.Laws.SeenLaws.{known_fact}
 use Rattle.rept_report.proofs.Monotony.{quiet_less}
 use Rattle.rept_report.proofs.Traces.{derived_below, least_conflict, clash_closure, front_closure, next_derivation}
 use Rattle.rept_analysis.specs.State.{AnalysisState, all_known, along}
@@ -43,6 +45,15 @@ logged_in (e ∷ es) f h = either (λ k. logged_in es f k) e.logged h
     either older true (inl is) = inl is
     either older true (inr k) = inr (older k)
     either older false k = inr (older k)
+
+-- what is answered unless a test holds
+unless_some : (b : Bool) (x : Option ℕ) (v : ℕ) → cond b None x ≡ Some v → (b ≡ false) × (x ≡ Some v)
+unless_some true x v e = absurd (none_some e)
+unless_some false x v e = (refl, e)
+
+no_conflict : {A : Type 0} (x : Option A) (b : Bool) → b ≡ true → (is_some x && b) ≡ false → x ≡ None
+no_conflict None b t e = refl
+no_conflict (Some k) b t e = absurd (false≢true (sym e ∙ t))
 
 module _ {W : Type 0} (s : AnalysisState W) (laws : HasLaws (along s.path)) (kept : IsKept s) where
   -- what is quiet was quiet at each place before
@@ -89,17 +100,17 @@ module _ {W : Type 0} (s : AnalysisState W) (laws : HasLaws (along s.path)) (kep
       let f = fact_of s.path.given.moments.end (Byte a) v in
       (f ∷ [], next_derivation (along s.path) laws [] tt quiet f (record { early = omega arith; cell = small; word = tt; by = carried (last_byte a refl refl e) }), inl refl)
 
-  -- none does where a fact is answered
-  quiet_first : s.complete ≡ false → HasClosure s → IsQuiet (along s.path) (told [])
-  quiet_first open_ has =
+  -- none does where a fact is answered, or no conflict is found
+  quiet_first : s.complete ≡ false → HasClosure s → (is_some s.conflict && s.shown == 0) ≡ false → IsQuiet (along s.path) (told [])
+  quiet_first open_ has shows =
       elim (cases_eq s.shown 0) [
-        | inl z ↦ has open_ z
+        | inl z ↦ has open_ z (no_conflict s.conflict (eqb s.shown 0) (eq-eqb s.shown 0 z) shows)
         | inr ne ↦ subst (λ (fs : List Fact). IsQuiet (along s.path) (told fs)) (oldest_zero s.known.log) (kept.calm 0 (omega (arith, ne)))
       ]
 
   -- what is answered of bytes is that of a fact, or the dump's
   pub byte_from : (p a v : ℕ) → byte_answer s p a ≡ Some v → (told (oldest s.shown s.known.log) p (Byte a) ≡ Some v) ⊎ ((p ≡ s.path.given.moments.end) × (s.path.given.dump a ≡ Some v))
-  byte_from p a v e = of (told (oldest s.shown s.known.log) p (Byte a)) refl e
+  byte_from p a v answer = of (told (oldest s.shown s.known.log) p (Byte a)) refl (unless_some (is_some s.conflict && s.shown == 0) (source (along s.path) (oldest s.shown s.known.log) a p) v answer).1
     where
       at_end : cond (eqb p s.path.given.moments.end) (s.path.given.dump a) None ≡ Some v → (p ≡ s.path.given.moments.end) × (s.path.given.dump a ≡ Some v)
       at_end h =
@@ -108,7 +119,7 @@ module _ {W : Type 0} (s : AnalysisState W) (laws : HasLaws (along s.path)) (kep
             | inr ne ↦ absurd (none_some (sym (cond-false (eqb p s.path.given.moments.end) (s.path.given.dump a) None (ne_eqb p s.path.given.moments.end ne)) ∙ h))
           ]
 
-      of : (x : Option ℕ) → told (oldest s.shown s.known.log) p (Byte a) ≡ x → byte_answer s p a ≡ Some v → (told (oldest s.shown s.known.log) p (Byte a) ≡ Some v) ⊎ ((p ≡ s.path.given.moments.end) × (s.path.given.dump a ≡ Some v))
+      of : (x : Option ℕ) → told (oldest s.shown s.known.log) p (Byte a) ≡ x → source (along s.path) (oldest s.shown s.known.log) a p ≡ Some v → (told (oldest s.shown s.known.log) p (Byte a) ≡ Some v) ⊎ ((p ≡ s.path.given.moments.end) × (s.path.given.dump a ≡ Some v))
       of (Some w) is h =
           let value : Some w ≡ Some v = rw is at h in
           inl (is ∙ value)
@@ -119,7 +130,7 @@ module _ {W : Type 0} (s : AnalysisState W) (laws : HasLaws (along s.path)) (kep
   byte_answered open_ has p a v small e =
       elim (byte_from p a v e) [
         | inl h ↦ logged_derived p a v h
-        | inr h ↦ rw h.0 (dump_derived (quiet_first open_ has) a v small h.1)
+        | inr h ↦ rw h.0 (dump_derived (quiet_first open_ has (unless_some (is_some s.conflict && s.shown == 0) (source (along s.path) (oldest s.shown s.known.log) a p) v e).0) a v small h.1)
       ]
 
   abbrev pub stopped_at : ℕ → ConflictKind → AnalysisState W

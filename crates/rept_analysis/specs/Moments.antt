@@ -9,7 +9,7 @@ use Rattle.rept_reason.specs.View.Seen.{Seen, IsLawful}
 use Rattle.rept_report.specs.Moments.{points_of}
 use Rattle.rept_report.specs.Views.{all_words, bounds, seen_of}
 use Rattle.rept_report.specs.Conclusions.{HasWords}
-use Rattle.rept_report.proofs.ViewLaws.{seen_lawful, zero_known, known_word}
+use Rattle.rept_report.specs.Laws.SeenLaws.{seen_lawful, zero_known, known_word}
 
 -- the range of a register at a point, by sets that were filled
 abbrev pub filled_range : {W : Type 0} → Sets W → View W → ℕ → ℕ → Range

@@ -35,6 +35,7 @@ mod cells;
 mod counting;
 mod following;
 mod fronts;
+mod guessing;
 mod inferring;
 mod leaping;
 mod learning;

@@ -3,6 +3,7 @@
 
 pub mod analysis;
 mod fresh;
+mod front_sets;
 mod halt;
 mod leap;
 mod link;

@@ -31,17 +31,18 @@ use std::alloc::Global;
 /// Opens the crash that the words name, and answers the commands of the input; or sums up a made
 /// run.
 ///
-/// The words are `open EXE CORE TRACE`, or `bits` in the place of `open`, and maybe the number of
-/// the packet to begin from. The executable, the core file and the instruction trace are loaded
-/// from the file store; the run of the threads that the trace tells is rebuilt; what registers and
-/// memory held along it is inferred from what the core file has of them, with values followed as
-/// ranges by `open`, and as ranges with known bits by `bits`; and each command is answered on the
-/// output. Where the files contradict each other, or something is refused, one line is written
-/// before the status.
+/// The words are `open EXE CORE TRACE`, or `bits` or `infer` in the place of `open`, and maybe the
+/// number of the packet to begin from. The executable, the core file and the instruction trace are
+/// loaded from the file store. The run of the threads that the trace tells is rebuilt. What
+/// registers and memory held along it is inferred from what the core file has of them: values are
+/// followed as ranges by `open`, as ranges with known bits by `bits`, and by `infer` more is
+/// inferred of a run that is one path. Each command is answered on the output. Where the files
+/// contradict each other, or something is refused, one line is written before the status.
 ///
 /// Or they are `maps CORE TRACE`: the files of the program are those that the core file lists as
-/// mapped, which are loaded by their names. The first 64 that differ are, one after the other; one
-/// that is missing, too large or no image is passed over.
+/// mapped, which are loaded by their names. The first 64 that differ are, one after the other. One
+/// is passed over that is missing, over 64 MiB or over what is left of 512 MiB for all of them, or
+/// no image.
 ///
 /// Or they are `self SEED STEPS`: the three files of a made crash take the place of files, and the
 /// command `summary` that of the input.

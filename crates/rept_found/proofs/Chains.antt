@@ -34,7 +34,7 @@ use Rattle.rept_report.proofs.Reasons.{entry_within, stands_cell}
 use Rattle.rept_report.proofs.Explained.{entry_in}
 use Rattle.rept_report.proofs.Standing.{front_cells, front_words, logged_once, oldest_in}
 use Rattle.rept_report.proofs.Traces.{trace_once}
-use Rattle.rept_report.proofs.ViewLaws.{known_fact, seen_at_lawful}
+use Rattle.rept_report.specs.Laws.SeenLaws.{known_fact, seen_at_lawful}
 use Rattle.rept_report.proofs.Why.{in_some}
 use Rattle.rept_found.specs.Chains.{RestsOn}
 use Rattle.rept_found.specs.Chains.RestsOn.{at_once, in_turn}

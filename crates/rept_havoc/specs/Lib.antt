@@ -1,1 +1,2 @@
 pub mod Havoc
+pub mod Laws

@@ -12,7 +12,7 @@ use Rattle.rept_report.specs.Reasons.{StandsIn}
 use Rattle.rept_report.specs.Reasons.StandsIn.{listed, last_byte, onward, back}
 use Rattle.rept_report.specs.Why.{fact_of}
 use Rattle.rept_report.specs.Origin.Logs.{or_else, source}
-use Rattle.rept_report.proofs.Search.{byte_at}
+use Rattle.rept_report.specs.Search.{byte_at}
 use Rattle.rept_report.proofs.Told.{told_in, none_some}
 use Rattle.rept_report.proofs.Why.{or_some, links_is, found_reached, found_stands, stands_found}
 use Rattle.rept_report.specs.Origin.Logs.{links_in}

@@ -26,7 +26,8 @@ use Rattle.rept_report.specs.Closure.{Derivation, InClosure, IsReport}
 use Rattle.rept_report.specs.Log.{Entry, facts_of}
 use Rattle.rept_report.specs.Implied.{HasEnded, known_at_end}
 use Rattle.rept_report.proofs.Told.{none_some, told_in}
-use Rattle.rept_report.proofs.ViewLaws.{LiesIn, TablesMore, exact_cases, only_in, exact_bounds, wide_bounds, seen_more, known_word, seen_at_lawful, registers_at_lawful, point_early, register_range_is, register_range_past}
+use Rattle.rept_report.specs.Laws.SeenLaws.{known_word, seen_at_lawful, registers_at_lawful}
+use Rattle.rept_report.proofs.ViewLaws.{LiesIn, TablesMore, exact_cases, only_in, exact_bounds, wide_bounds, seen_more, point_early, register_range_is, register_range_past}
 use Rattle.rept_report.proofs.Monotony.{inferred_more, Concludes_more}
 use Rattle.rept_report.proofs.Registers.{quiet_same}
 use Rattle.rept_report.proofs.Traces.{words_of, trace_words}

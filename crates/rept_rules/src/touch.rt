@@ -114,7 +114,7 @@ fn is_failure(answer: Flat) -> bool
 }
 
 /// The bytes of a call, over the ranges of its number, its arguments and its answer.
-#[tactic(auto, using(rept_havoc::proofs::HavocLemmas::changed_of_six))]
+#[tactic(auto, using(rept_havoc::specs::Laws::HavocLemmas::changed_of_six))]
 fn called<V: RowView>(view: &V, image_end: u64) -> CallAccess
     ensures { result ≡ changed (only_value ((V.seen view.now).range When.Before 17)) ((V.seen view.now).range When.Before) ((V.seen view.now).range When.After 10) image_end }
 {

@@ -11,7 +11,7 @@ use Rattle.rept_isa.specs.Numbers.{plus, beside}
 use Rattle.rept_machine.specs.State.{State}
 use Rattle.rept_machine.specs.Writes.{WritesBy, WritesAtomic, IsOneOfBytes}
 use Rattle.rept_alias.specs.Accesses.{hits, access_of}
-use Rattle.rept_alias.proofs.AccessLemmas as access
+use Rattle.rept_alias.specs.Laws.AccessLemmas as access
 use Rattle.rept_rules.specs.MayWrite.{is_register, range_of, writes_word, instr_may_write}
 use Rattle.rept_rules.specs.Laws.ValueLemmas.{true≢false, equal}
 use Rattle.rept_rules.specs.Laws.WriteLemmas.{beside_plain, both, is_there, two_true, known_base, still_sure}

@@ -1,6 +1,6 @@
 //! What an analysis answers of ranges, bytes, writers and numbers.
 
-ghost use Rattle.std.specs.Prelude.{◌≡◌, ◌+◌, ◌<◌, ◌≤◌, ◌==◌, if◌then◌else◌, ℕ, length, true, false, Some, None, IfSome, IsSome, slice_get, is_some};
+ghost use Rattle.std.specs.Prelude.{◌≡◌, ◌+◌, ◌<◌, ◌≤◌, ◌==◌, ◌&&◌, if◌then◌else◌, ℕ, length, true, false, Some, None, IfSome, IsSome, slice_get, is_some};
 ghost use Rattle.rept_dump.specs.Memory.{crash_byte};
 ghost use Rattle.rept_dump.specs.Program.{contents};
 ghost use Rattle.rept_reason.specs.declared.fact.Cell.TheVariants.{Byte};
@@ -15,6 +15,7 @@ ghost use Rattle.rept_report.specs.Spots.{spot};
 ghost use Rattle.rept_report.specs.Timeline.{IsLine, IsBegun};
 ghost use Rattle.rept_report.specs.Writers.{IsWriter};
 ghost use Rattle.rept_report.specs.Log.{oldest};
+ghost use Rattle.rept_report.specs.Origin.Logs.{source};
 ghost use Rattle.rept_analysis.specs.State.{setting_of, state_of, reader};
 ghost use Rattle.rept_report.specs.Why.{fact_of};
 ghost use Rattle.rept_analysis.specs.Inferring.{IsFitted, IsSettled, AreWritings, AreHitsPast, AreFormerPast, AreLaterPast, IsLateHit};
@@ -180,6 +181,30 @@ impl<'a, P: Reaches + Drop, L: LastValues + Drop, B: ByteFacts, W: Transfer, R: 
         last_writer(&self.paths, self, moment, a)
     }
 
+    /// What is said of the row that last wrote a byte that no row may write.
+    fn no_writer(&self) -> Writer
+        ensures { result ≡ (if (P.timeline self.now.paths).moments.is_untraced then Writer.Several else Writer.None) }
+    {
+        if self.paths.is_untraced() {
+            Writer::Several
+        } else {
+            Writer::None
+        }
+    }
+
+    /// What is said of the row that last wrote a byte before a moment, where all is learnt. The
+    /// rows are gone through only where one of the list may write the byte.
+    fn settled_writer(&self, moment: u32, a: u32) -> Writer
+        requires settled { IsSettled (state_of (reader P.timeline L.values) W.sets W.moves R.rules B.store self.now) }
+        ensures { IsWriter (setting_of (reader P.timeline L.values) W.sets W.moves R.rules self.now) (told (oldest self.now.filled self.now.known.log)) (spot moment a) result }
+    {
+        let count = self.writing_count();
+        match self.next_hit(0, count, a) {
+            Some(_) => self.last_writer(moment, a),
+            None => self.no_writer(),
+        }
+    }
+
     /// The set of values of a register at a point: all words, unless all is learnt.
     pub fn range(&self, point: u32, r: Reg) -> W
         requires { point ≤ (P.timeline self.now.paths).legs.count }
@@ -217,9 +242,9 @@ impl<'a, P: Reaches + Drop, L: LastValues + Drop, B: ByteFacts, W: Transfer, R: 
         }
     }
 
-    /// The byte that is answered while not all is learnt.
-    fn shown_byte(&self, point: u32, a: u32) -> Option<u8>
-        ensures { result ≡ byte_answer (state_of (reader P.timeline L.values) W.sets W.moves R.rules B.store self.now) point a }
+    /// The byte that a fact tells, of those that are answered, or the one of the dump at the end.
+    fn source_byte(&self, point: u32, a: u32) -> Option<u8>
+        ensures { result ≡ source (setting_of (reader P.timeline L.values) W.sets W.moves R.rules self.now) (oldest self.now.shown self.now.known.log) a point }
     {
         match self.logged_byte(point, a) {
             Some(byte) => Some(byte),
@@ -227,10 +252,27 @@ impl<'a, P: Reaches + Drop, L: LastValues + Drop, B: ByteFacts, W: Transfer, R: 
         }
     }
 
+    /// Whether a conflict was found that needs no fact.
+    fn is_bare_conflict(&self) -> bool
+        ensures { result ≡ (is_some self.now.conflict && self.now.shown == 0) }
+    {
+        self.conflict.is_some() && self.shown == 0
+    }
+
+    /// The byte that is answered while not all is learnt.
+    fn shown_byte(&self, point: u32, a: u32) -> Option<u8>
+        ensures { result ≡ byte_answer (state_of (reader P.timeline L.values) W.sets W.moves R.rules B.store self.now) point a }
+    {
+        if self.is_bare_conflict() {
+            return None;
+        }
+        self.source_byte(point, a)
+    }
+
     /// The value of the byte at an address, at a point, where it follows. While not all is learnt,
     /// as after a stop, it is that of the facts that are answered, and at the last point the dump's
-    /// too. It stands in the closure, which has no fact where the rows alone show a conflict: then
-    /// the dump's byte alone is answered.
+    /// too. It stands in the closure. Where the rows alone show a conflict the closure has no fact,
+    /// and no byte is answered.
     pub fn byte(&self, point: u32, a: u32) -> Option<u8>
         requires { point ≤ (P.timeline self.now.paths).moments.end }
         ensures ended { self.now.complete ≡ true → result ≡ answers (state_of (reader P.timeline L.values) W.sets W.moves R.rules B.store self.now) point (Byte a) }
@@ -255,7 +297,7 @@ impl<'a, P: Reaches + Drop, L: LastValues + Drop, B: ByteFacts, W: Transfer, R: 
         ensures open { self.now.complete ≡ false → IsPossibleWriter (P.timeline self.now.paths).moments (IsBegun (P.timeline self.now.paths) moment) result }
     {
         if self.ended() {
-            return self.last_writer(moment, a);
+            return self.settled_writer(moment, a);
         }
         let address = None;
         possible_writer(&self.paths, self, SoughtRows { moment, address })

@@ -41,7 +41,7 @@ impl<'a, P: Reaches + Drop, L: LastValues + Drop, B: ByteFacts, W: Transfer, R: 
         ensures { result ≡ is_some (register_fact (told (oldest self.now.shown self.now.known.log)) point r) }
     {
         let _paths = &self.paths;
-        self.known.fact_below(self.shown, point, r).is_some()
+        r.number() != 0 && self.known.is_known_below(self.shown, point, r)
     }
 
     /// How many registers other than x0 are answered at a point.

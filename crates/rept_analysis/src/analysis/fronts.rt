@@ -9,6 +9,7 @@ ghost use Rattle.rept_analysis.specs.State.{setting_of, state_of, reader};
 ghost use Rattle.rept_analysis.specs.Reasoned.{front_below, AreSetsOf, KeepsAll};
 
 use super::Analysis;
+use crate::front_sets::FrontSets;
 use crate::trail::PathTrail;
 use rept_isa::Reg;
 use rept_log::{Below, Front, LastValues};
@@ -27,7 +28,7 @@ impl<'a, P: Reaches + Drop, L: LastValues + Drop, B: ByteFacts, W: Transfer, R: 
     R,
 > {
     /// Fills sets from the facts at places below a limit.
-    pub(super) fn fill_sets(&self, spans: &mut Spans<W>, limit: u32)
+    fn fill_sets(&self, spans: &mut Spans<W>, limit: u32)
         requires sized { spans.old.points ≡ (P.timeline self.now.paths).legs.count + 1 }
         requires complete { self.now.complete ≡ true }
         ensures sets { AreSetsOf (setting_of (reader P.timeline L.values) W.sets W.moves R.rules self.now) (oldest limit self.now.known.log) spans.new }
@@ -51,6 +52,28 @@ impl<'a, P: Reaches + Drop, L: LastValues + Drop, B: ByteFacts, W: Transfer, R: 
         let mut spans = Spans::new(self.alloc, self.count() + 1)?;
         self.fill_sets(&mut spans, limit);
         Ok(spans)
+    }
+
+    /// Sets that are filled from the facts at places below a limit, which they name.
+    pub(super) fn front_sets(&self, limit: u32) -> Result<FrontSets<W>, OutOfMemory>
+        requires complete { self.now.complete ≡ true }
+        ensures sets { IfOk result (λ sets. AreSetsOf (setting_of (reader P.timeline L.values) W.sets W.moves R.rules self.now) (oldest sets.limit self.now.known.log) sets.spans) }
+    {
+        let spans = self.sets_below(limit)?;
+        Ok(FrontSets { spans, limit })
+    }
+
+    /// Fills sets from the facts at places below another limit. Where it is theirs, they stay.
+    pub(super) fn fill_to(&self, sets: &mut FrontSets<W>, limit: u32)
+        requires complete { self.now.complete ≡ true }
+        requires sets { AreSetsOf (setting_of (reader P.timeline L.values) W.sets W.moves R.rules self.now) (oldest sets.old.limit self.now.known.log) sets.old.spans }
+        ensures sets { AreSetsOf (setting_of (reader P.timeline L.values) W.sets W.moves R.rules self.now) (oldest sets.new.limit self.now.known.log) sets.new.spans }
+        ensures limit { sets.new.limit ≡ limit }
+    {
+        if sets.limit != limit {
+            self.fill_sets(&mut sets.spans, limit);
+            sets.limit = limit;
+        }
     }
 
     /// What stands in the prefix of the log below a limit, with the sets that are filled from it.

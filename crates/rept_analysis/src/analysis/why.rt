@@ -11,6 +11,8 @@ ghost use Rattle.rept_analysis.specs.Kept.{answers};
 ghost use Rattle.rept_analysis.specs.Reasoned.{AreSetsOf, KeepsAll, IsNotLast};
 
 use super::Analysis;
+use super::guessing::probe;
+use crate::front_sets::FrontSets;
 use rept_isa::Reg;
 use rept_log::LastValues;
 use rept_reason::{Cell, Fact, Reason, RowRules};
@@ -28,7 +30,7 @@ impl<'a, P: Reaches + Drop, L: LastValues + Drop, B: ByteFacts, W: Transfer, R: 
     R,
 > {
     /// The place in the log of the fact on a register at a point.
-    fn place_at(&self, point: u32, r: Reg) -> Option<u32>
+    pub(super) fn place_at(&self, point: u32, r: Reg) -> Option<u32>
         requires point { point ≤ (P.timeline self.now.paths).legs.count }
         requires named { 0 < r }
         ensures place { result ≡ place_of self.now.known.log point (Register r) }
@@ -117,28 +119,34 @@ impl<'a, P: Reaches + Drop, L: LastValues + Drop, B: ByteFacts, W: Transfer, R: 
     }
 
     /// How many facts in the log, from the oldest on, are enough for a byte's fact to stand in
-    /// them. `OutOfMemory` says that the room for a search can't be had.
-    fn least_front(&self, spans: &mut Spans<W>, fact: &Fact, a: u32) -> Result<u32, OutOfMemory>
-        requires sized { spans.old.points ≡ (P.timeline self.now.paths).legs.count + 1 }
+    /// them. The search begins at a guess. `OutOfMemory` says that the room for it can't be had.
+    fn least_front(
+        &self,
+        sets: &mut FrontSets<W>,
+        guess: u32,
+        fact: &Fact,
+        a: u32,
+    ) -> Result<u32, OutOfMemory>
+        requires sets { AreSetsOf (setting_of (reader P.timeline L.values) W.sets W.moves R.rules self.now) (oldest sets.old.limit self.now.known.log) sets.old.spans }
         requires moment { fact.now.point ≤ (P.timeline self.now.paths).moments.end }
         requires cell { fact.now.cell ≡ Byte a }
         requires complete { self.now.complete ≡ true }
         requires known { answers (state_of (reader P.timeline L.values) W.sets W.moves R.rules B.store self.now) fact.now.point fact.now.cell ≡ Some fact.now.value }
         ensures least { IfOk result (λ t. IsLeastFront (setting_of (reader P.timeline L.values) W.sets W.moves R.rules self.now) self.now.known.log fact.now t) }
         ensures within { IfOk result (λ t. t ≤ length self.now.known.log) }
-        ensures sized { spans.new.points ≡ (P.timeline self.now.paths).legs.count + 1 }
+        ensures sets { AreSetsOf (setting_of (reader P.timeline L.values) W.sets W.moves R.rules self.now) (oldest sets.new.limit self.now.known.log) sets.new.spans }
     {
         self.held();
         let mut low = 0;
         let mut high = self.len();
         while low < high {
-            let middle = low + (high - low) / 2;
-            self.fill_sets(spans, middle);
-            let stands = self.stands_below(spans, middle, fact, a)?;
+            let limit = probe(low, high, guess);
+            self.fill_to(sets, limit);
+            let stands = self.stands_below(&sets.spans, limit, fact, a)?;
             if stands {
-                high = middle;
+                high = limit;
             } else {
-                low = middle + 1;
+                low = limit + 1;
             }
         }
         Ok(low)
@@ -148,12 +156,12 @@ impl<'a, P: Reaches + Drop, L: LastValues + Drop, B: ByteFacts, W: Transfer, R: 
     fn why_inferred(
         &mut self,
         alloc: Global,
-        spans: &mut Spans<W>,
+        sets: &mut FrontSets<W>,
         place: u32,
         fact: &Fact,
         a: u32,
     ) -> Result<Option<Reason>, OutOfMemory>
-        requires sized { spans.old.points ≡ (P.timeline self.old.paths).legs.count + 1 }
+        requires sets { AreSetsOf (setting_of (reader P.timeline L.values) W.sets W.moves R.rules self.old) (oldest sets.old.limit self.old.known.log) sets.old.spans }
         requires moment { fact.now.point ≤ (P.timeline self.old.paths).moments.end }
         requires cell { fact.now.cell ≡ Byte a }
         requires complete { self.old.complete ≡ true }
@@ -165,20 +173,20 @@ impl<'a, P: Reaches + Drop, L: LastValues + Drop, B: ByteFacts, W: Transfer, R: 
         ensures same { KeepsAll (state_of (reader P.timeline L.values) W.sets W.moves R.rules B.store self.old) (state_of (reader P.timeline L.values) W.sets W.moves R.rules B.store self.new) }
     {
         self.held();
-        self.fill_sets(spans, place);
-        self.inferred_below(alloc, spans, place, fact, a)
+        self.fill_to(sets, place);
+        self.inferred_below(alloc, &sets.spans, place, fact, a)
     }
 
     /// The reason of any other byte's fact.
     fn why_carried(
         &self,
         alloc: Global,
-        spans: &mut Spans<W>,
+        sets: &mut FrontSets<W>,
         limit: u32,
         fact: &Fact,
         a: u32,
     ) -> Result<Option<Reason>, OutOfMemory>
-        requires sized { spans.old.points ≡ (P.timeline self.now.paths).legs.count + 1 }
+        requires sets { AreSetsOf (setting_of (reader P.timeline L.values) W.sets W.moves R.rules self.now) (oldest sets.old.limit self.now.known.log) sets.old.spans }
         requires within { limit ≤ length self.now.known.log }
         requires moment { fact.now.point ≤ (P.timeline self.now.paths).moments.end }
         requires cell { fact.now.cell ≡ Byte a }
@@ -190,8 +198,8 @@ impl<'a, P: Reaches + Drop, L: LastValues + Drop, B: ByteFacts, W: Transfer, R: 
         ensures room { IfOk result (λ found. IfSome found IsInPlace) }
     {
         self.held();
-        self.fill_sets(spans, limit);
-        self.carried_below(alloc, spans, limit, fact, a)
+        self.fill_to(sets, limit);
+        self.carried_below(alloc, &sets.spans, limit, fact, a)
     }
 
     /// Whether a byte's fact is answered.
@@ -234,12 +242,13 @@ impl<'a, P: Reaches + Drop, L: LastValues + Drop, B: ByteFacts, W: Transfer, R: 
         if !self.is_answered(fact, a) {
             return Ok(None);
         }
-        let mut spans = self.sets_below(0)?;
-        let limit = self.least_front(&mut spans, fact, a)?;
+        let guess = self.guess(fact.point, a)?;
+        let mut sets = self.front_sets(guess.saturating_sub(1))?;
+        let limit = self.least_front(&mut sets, guess, fact, a)?;
         if self.is_last(limit, fact) {
-            return self.why_inferred(alloc, &mut spans, limit - 1, fact, a);
+            return self.why_inferred(alloc, &mut sets, limit - 1, fact, a);
         }
-        self.why_carried(alloc, &mut spans, limit, fact, a)
+        self.why_carried(alloc, &mut sets, limit, fact, a)
     }
 
     /// A reason of a fact: the rule that gives it, the facts that the rule rests on, which were

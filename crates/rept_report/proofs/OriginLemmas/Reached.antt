@@ -14,7 +14,7 @@ use Rattle.rept_report.specs.Reasons.{IsSource, IsReached}
 use Rattle.rept_report.specs.Reasons.IsReached.{here as reached_here, onward as reached_onward, back as reached_back}
 use Rattle.rept_report.specs.Why.{IsNearer}
 use Rattle.rept_report.specs.Origin.Logs.{source}
-use Rattle.rept_report.proofs.Search.{carries}
+use Rattle.rept_report.specs.Search.{carries}
 use Rattle.rept_report.proofs.Told.{none_some}
 use Rattle.rept_report.proofs.Why.{or_some, is_carried, links_is}
 use Rattle.rept_report.specs.Origin.Bridges.{IsLinkBeside}

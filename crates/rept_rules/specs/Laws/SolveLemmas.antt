@@ -13,7 +13,6 @@ use Rattle.rept_isa.specs.declared.instr.ImmOp.TheVariants.{Ori, Andi, Slli, Srl
 use Rattle.rept_isa.specs.declared.instr.RegOp.{RegOp}
 use Rattle.rept_isa.specs.declared.instr.RegOp.TheVariants.{Add, Sub, Xor, Or, And, Mul}
 use Rattle.rept_isa.specs.Numbers.{word}
-use Rattle.rept_isa.proofs.NumberLemmas.{word-fits}
 use Rattle.rept_isa.specs.Operands.{written_by}
 use Rattle.rept_isa.specs.Rows.{Addresses}
 use Rattle.rept_partial.specs.declared.flat.Flat.{Flat}
@@ -27,7 +26,7 @@ use Rattle.rept_rules.specs.Inverse.{inverse}
 use Rattle.rept_rules.specs.Results.{operand, Admits, HoldsIn}
 use Rattle.rept_rules.specs.Operands.{solved, solved_by, is_neutral, copied_register, on, opposite, if_copied, first_known, immediate_solved, registers_solved, solve_of, operand_of}
 use Rattle.rept_rules.specs.Laws.InverseLemmas.{inverse-is, undone}
-use Rattle.rept_rules.specs.Laws.ValueLemmas.{true≢false, either_way, equal, no_some, same_some, destination, operand_holds}
+use Rattle.rept_rules.specs.Laws.ValueLemmas.{word_fits, true≢false, either_way, equal, no_some, same_some, destination, operand_holds}
 
 pub known : {x y : ℕ} → Known x ≡ Known y → x ≡ y
 known e = cc
@@ -128,7 +127,7 @@ registers_solved_is op side rs1 rs2 v w other s is result h e = elim (first_is _
 pub immediate_solved_is : (op : ImmOp) (imm : ℤ) (v w a : ℕ) → a < 2 ^ 32 → v ≡ computed (register_form op) a (word imm) → immediate_solved op imm v ≡ Known w → a ≡ w
 immediate_solved_is op imm v w a small result e = elim (either_way (is_neutral op imm)) [
   | inl t ↦ sym (neutral_is op imm a small t) ∙ sym result ∙ known (rw t at e)
-  | inr f ↦ solved_is (register_form op) First a (word imm) w small (word-fits imm) (subst (λ (x : ℕ). solved (register_form op) First x (word imm) ≡ Known w) result (rw f at e))
+  | inr f ↦ solved_is (register_form op) First a (word imm) w small (word_fits imm) (subst (λ (x : ℕ). solved (register_form op) First x (word imm) ≡ Known w) result (rw f at e))
 ]
 
 pub solve_sound : (instr : Instr) (side : Side) (image_end : ℕ) (place : Addresses) (rd r v w : ℕ) (other : Flat) (s t : State) → IsState s → HasEffect instr image_end place s t → written_by instr ≡ Some rd → t.register rd ≡ v → operand_of instr side ≡ Some r → HoldsIn s (operand_of instr (opposite side)) other → solve_of instr side v other ≡ Known w → s.register r ≡ w

@@ -1,5 +1,5 @@
 -- The result of an instruction is among the values that follow from its operands.
-use Rattle.std.proofs.Common.{◌≡◌, ◌≢◌, ℕ, zero, suc, ◌-◌, ◌^◌, ◌<◌, ◌⊎◌, true, false, inl, inr, refl, sym, ap, ◌∙◌, Bool, ◌==◌, if◌then◌else◌, arith, Some, None, bit_or}
+use Rattle.std.proofs.Common.{◌≡◌, ◌≢◌, ℕ, zero, suc, ◌-◌, ◌^◌, ◌<◌, ◌⊎◌, true, false, inl, inr, refl, sym, ap, ◌∙◌, Bool, ◌==◌, if◌then◌else◌, arith, Some, None, bit_or, ℤ, pos, negsuc}
 use Rattle.std.specs.Int.Bits.{and_zero_l, and_zero_r, xor_self}
 use Rattle.std.proofs.lemmas.Bool.Decides.{nat_tests}
 use Rattle.std.proofs.lemmas.Nat.{or_comm, and_or_self, and_mask, or_of_32}
@@ -9,7 +9,6 @@ use Rattle.rept_isa.specs.declared.instr.Instr.TheVariants.{Lui, Auipc, Jal, Jal
 use Rattle.rept_isa.specs.declared.instr.RegOp.{RegOp}
 use Rattle.rept_isa.specs.declared.instr.RegOp.TheVariants.{Sub, Xor, Or, And, Mul}
 use Rattle.rept_isa.specs.Numbers.{word}
-use Rattle.rept_isa.proofs.NumberLemmas.{word-fits}
 use Rattle.rept_isa.specs.Operands.{written_by, first_read, second_read, unless_zero}
 use Rattle.rept_isa.specs.Rows.{Addresses}
 use Rattle.rept_partial.specs.declared.flat.Flat.{Flat}
@@ -18,6 +17,11 @@ use Rattle.rept_machine.specs.Arithmetic.{computed, register_form}
 use Rattle.rept_machine.specs.State.{State, IsState}
 use Rattle.rept_machine.specs.Step.{HasEffect}
 use Rattle.rept_rules.specs.Results.{operand, absorbs, cancels, result_of, registers_result, forward_of, Admits, HoldsIn}
+
+pub word_fits : (z : ℤ) → word z < 2 ^ 32
+unfolding word
+word_fits (pos n) = omega arith
+word_fits (negsuc n) = omega arith
 
 pub true≢false : true ≡ false → ⊥
 true≢false e = cc
@@ -103,7 +107,7 @@ forward_sound (Store op rs1 rs2 imm) image_end rd place s t a b is h f g w = tt
 forward_sound (Imm op n rs1 imm) image_end rd place s t a b is h f g w =
     let d = destination n rd w in
     let e : t.register rd ≡ computed (register_form op) (s.register rs1) (word imm) = ap t.register (sym d.0) ∙ h.result.written d.1 in
-    rw e (result_sound (register_form op) (operand rs1 a) (Known (word imm)) (s.register rs1) (word imm) (is.words rs1) (word-fits imm) (operand_holds s rs1 a is f) refl)
+    rw e (result_sound (register_form op) (operand rs1 a) (Known (word imm)) (s.register rs1) (word imm) (is.words rs1) (word_fits imm) (operand_holds s rs1 a is f) refl)
 forward_sound (Op op n rs1 rs2) image_end rd place s t a b is h f g w =
     let d = destination n rd w in
     let e : t.register rd ≡ computed op (s.register rs1) (s.register rs2) = ap t.register (sym d.0) ∙ h.result.written d.1 in

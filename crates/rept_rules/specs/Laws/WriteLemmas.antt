@@ -18,9 +18,9 @@ use Rattle.rept_machine.specs.Arithmetic.{store_width}
 use Rattle.rept_machine.specs.State.{State, IsState}
 use Rattle.rept_machine.specs.Calls.{may_change}
 use Rattle.rept_alias.specs.Accesses.{hits, call_hits, access_of}
-use Rattle.rept_alias.proofs.AccessLemmas as access
+use Rattle.rept_alias.specs.Laws.AccessLemmas as access
 use Rattle.rept_havoc.specs.Havoc.{changed, Lies, IsExact, NumberWithin, RangeWithin}
-use Rattle.rept_havoc.proofs.HavocLemmas.{changed_covers, changed_exact, changed_within}
+use Rattle.rept_havoc.specs.Laws.HavocLemmas.{changed_covers, changed_exact, changed_within}
 use Rattle.rept_reason.specs.declared.view.inferred.When.{When}
 use Rattle.rept_reason.specs.declared.view.inferred.When.TheVariants.{Before, After}
 use Rattle.rept_reason.specs.declared.view.inferred.RegisterAt.{RegisterAt}

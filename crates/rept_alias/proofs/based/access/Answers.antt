@@ -1,7 +1,7 @@
 use Rattle.std.proofs.Common.{rules, ◌≡◌, true, subst, ◌+◌, ◌-◌, ◌%◌}
 use Rattle.rept_alias.specs.declared.addresses.Access.{Access}
 use Rattle.rept_alias.specs.Accesses.{hits, between, access_of}
-use Rattle.rept_alias.proofs.AccessLemmas.{exact, narrower, some_width, few_width}
+use Rattle.rept_alias.specs.Laws.AccessLemmas.{exact, narrower, some_width, few_width}
 use Rattle.rept_alias.proofs.based.access.Goals as goal
 
 pub returns-then-stays_inside-clause-exact : goal.returns-then-stays_inside-clause-exact

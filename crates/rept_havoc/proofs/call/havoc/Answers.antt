@@ -3,7 +3,7 @@ use Rattle.rept_partial.specs.declared.flat.Flat.TheVariants.{Known}
 use Rattle.rept_alias.specs.declared.addresses.CallAccess.{CallAccess}
 use Rattle.rept_alias.specs.Accesses.{call_hits}
 use Rattle.rept_havoc.specs.Havoc.{argument}
-use Rattle.rept_havoc.proofs.HavocLemmas.{changed_covers, changed_exact, changed_within, is_number, same_number}
+use Rattle.rept_havoc.specs.Laws.HavocLemmas.{changed_covers, changed_exact, changed_within, is_number, same_number}
 use Rattle.rept_havoc.proofs.call.havoc.Goals as goal
 
 pub returns-in-Known-clause-covers : goal.returns-in-Known-clause-covers

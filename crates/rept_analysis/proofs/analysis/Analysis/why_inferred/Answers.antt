@@ -1,18 +1,22 @@
-use Rattle.std.proofs.Common.{IfNone, arith}
+use Rattle.std.proofs.Common.{ℕ, IfNone, subst, arith}
 use Rattle.std.proofs.lemmas.Result.{IfOk-weaker}
 use Rattle.rept_report.specs.Why.{Because, IsInferredBecause}
 use Rattle.rept_report.specs.Why.IsReason.{of_inferred_byte}
 use Rattle.rept_report.proofs.Reasons.{entry_within}
 use Rattle.rept_log.specs.Fronts.{setting_in, stands}
 use Rattle.rept_log.proofs.Reasoning.{none_after}
-use Rattle.rept_analysis.specs.Reasoned.{front_below}
-use Rattle.rept_analysis.specs.State.{state_of, reader}
+use Rattle.rept_report.specs.Log.{oldest}
+use Rattle.rept_analysis.specs.Reasoned.{AreSetsOf, front_below}
+use Rattle.rept_analysis.specs.State.{setting_of, state_of, reader}
 use Rattle.rept_analysis.proofs.Explaining.{front_finds}
 use Rattle.rept_analysis.proofs.Fronts.{no_inferred, some_after}
 use Rattle.rept_analysis.proofs.analysis.Analysis.why_inferred.Goals as goal
 
 pub inferred_below-requires-clause-within : goal.inferred_below-requires-clause-within
 inferred_below-requires-clause-within g c = let below = entry_within c.args.self.now.known.log c.args.place c.args.fact.now c.requires.entry in omega (arith, below)
+
+pub inferred_below-requires-clause-sets : goal.inferred_below-requires-clause-sets
+inferred_below-requires-clause-sets g c = subst (λ (t : ℕ). AreSetsOf (setting_of (reader g.P.Paths.timeline g.L.LastValues.values) g.W.Partial.sets g.W.Transfer.moves g.R.RowRules.rules c.args.self.now) (oldest t c.args.self.now.known.log) c.fill_to.new.sets.spans) c.fill_to.ensures.limit c.fill_to.ensures.sets
 
 pub returns-clause-none : goal.returns-clause-none
 returns-clause-none g c =

@@ -8,7 +8,7 @@ use Rattle.rept_analysis.proofs.analysis.Analysis.writer.Goals as goal
 pub returns-then-ended-clause-ended : goal.returns-then-ended-clause-ended
 returns-then-ended-clause-ended g c = λ complete.
     let s : AnalysisState g.row.W.Denot = state_of (reader g.P.Paths.timeline g.L.LastValues.values) g.W.Partial.sets g.W.Transfer.moves g.R.RowRules.rules g.B.ByteFacts.store c.args.self.now in
-    writer_answers s ((c.ended.ensures.kept).finished complete).settled c.args.moment c.args.a c.last_writer.result c.last_writer.ensures
+    writer_answers s ((c.ended.ensures.kept).finished complete).settled c.args.moment c.args.a c.settled_writer.result c.settled_writer.ensures
 
 pub returns-clause-open : goal.returns-clause-open
 returns-clause-open g c = λ unfinished.
