@@ -3,13 +3,13 @@ use Rattle.std.proofs.Common.{◌≡◌, ◌⊎◌, ℕ, ◌+◌, ◌-◌, ◌<�
 use Rattle.std.specs.Prelude.{min, max}
 use Rattle.rept_isa.specs.declared.row.StepRow.{StepRow}
 use Rattle.rept_machine.specs.State.{State}
-use Rattle.rept_lanes.specs.declared.held.Held.{Held}
-use Rattle.rept_lanes.specs.declared.span.ByteSpan.{ByteSpan}
-use Rattle.rept_lanes.specs.Lanes.{held_at, lane_byte, IsLaneTrue, IsTrueSweep, StaysAt, SweepView, LetsGo, IsListed}
-use Rattle.rept_lanes.proofs.Truth.{lane_true}
-use Rattle.rept_infer.specs.Admitted.{Story, IsAdmitted}
-use Rattle.rept_infer.specs.Rules.{AreBytes, WritesNot}
-use Rattle.rept_infer.specs.Sweeps.{memory_of, tells_in, IsHeldByte, IsAround, AreKept, ListsWritten}
+use Rattle.rept_narrow.specs.declared.lanes.held.Held.{Held}
+use Rattle.rept_narrow.specs.declared.lanes.span.ByteSpan.{ByteSpan}
+use Rattle.rept_narrow.specs.Lanes.{held_at, lane_byte, IsLaneTrue, IsTrueSweep, StaysAt, SweepView, LetsGo, IsListed}
+use Rattle.rept_narrow.proofs.Truth.{lane_true}
+use Rattle.rept_narrow.specs.Admitted.{Story, IsAdmitted}
+use Rattle.rept_narrow.specs.Rules.{AreBytes, WritesNot}
+use Rattle.rept_narrow.specs.Sweeps.{memory_of, tells_in, IsHeldByte, IsAround, AreKept, ListsWritten}
 use Rattle.rept_infer.proofs.Frame.{same_byte}
 
 module _ (story : Story) (run : ℕ → State) (known : ℕ → ℕ → Option ℕ) (lanes : List ByteSpan) (sweep : SweepView) (image_end : ℕ) (around : IsAround story run known lanes image_end) (held : IsTrueSweep (memory_of run) sweep) where

@@ -13,8 +13,8 @@ use Rattle.rept_relate.specs.Numbering.{value_in, IsWalk}
 use Rattle.rept_relate.proofs.Counting.{value_first, value_of_row}
 use Rattle.rept_relate.proofs.Summing.{own, plain}
 use Rattle.rept_relate.proofs.Rowing.{inside_small}
-use Rattle.rept_infer.specs.Admitted.{Story}
-use Rattle.rept_infer.specs.Rules.{set_at, HasSets, IsSoundIn}
+use Rattle.rept_narrow.specs.Admitted.{Story}
+use Rattle.rept_narrow.specs.Rules.{set_at, HasSets, IsSoundIn}
 
 pub walk_of : (story : Story) (table : View Both) (run : ℕ → State) → HasSets story table run → IsWalk story.image_end story.rows run
 walk_of story table run h = record { states = h.admitted.execution.states; steps = h.admitted.execution.steps }

@@ -11,15 +11,15 @@ use Rattle.rept_known.specs.declared.both.Both.{Both}
 use Rattle.rept_known.specs.Both.{both_has, both_meet}
 use Rattle.rept_known.specs.Laws.BothLaws.{both_lawful}
 use Rattle.rept_span.specs.Filled.{View}
-use Rattle.rept_infer.specs.Admitted.{Premises, Story, IsAdmitted, IsSettled}
+use Rattle.rept_narrow.specs.Admitted.{Premises, Story, IsAdmitted, IsSettled}
 use Rattle.rept_infer.specs.Holding.{Has, holding_of, IsFinerHolding}
-use Rattle.rept_infer.specs.Rules.{set_at, HasSets, WritesNot}
+use Rattle.rept_narrow.specs.Rules.{set_at, HasSets, WritesNot}
 use Rattle.rept_infer.specs.Path.{Fixed, IsStoryOf, met, or_else, first_some, path_set, path_byte, fixed_byte}
-use Rattle.rept_lanes.specs.declared.span.ByteSpan.{ByteSpan}
-use Rattle.rept_lanes.specs.Lanes.{lane_byte, AreTrueSpans}
-use Rattle.rept_lanes.proofs.Truth.{lane_true}
-use Rattle.rept_infer.specs.Sweeps.{memory_of}
-use Rattle.rept_infer.proofs.Sentences.{some_none, same_some, lt_true, le_false, row_at}
+use Rattle.rept_narrow.specs.declared.lanes.span.ByteSpan.{ByteSpan}
+use Rattle.rept_narrow.specs.Lanes.{lane_byte, AreTrueSpans}
+use Rattle.rept_narrow.proofs.Truth.{lane_true}
+use Rattle.rept_narrow.specs.Sweeps.{memory_of}
+use Rattle.rept_narrow.proofs.Sentences.{some_none, same_some, lt_true, le_false, row_at}
 
 -- ---- sets
 no_set : (table : View Both) (p r : ℕ) → 32 ≤ r → set_at table p r ≡ None

@@ -8,8 +8,8 @@ use Rattle.rept_known.specs.declared.both.Both.{Both}
 use Rattle.rept_known.specs.Both.{both_sets}
 use Rattle.rept_known.specs.Laws.BothLaws.{both_lawful}
 use Rattle.rept_span.specs.Filled.{View}
-use Rattle.rept_infer.specs.Rules.{set_at, HasSets}
-use Rattle.rept_infer.specs.Admitted.{Story, IsAdmitted, IsCallAt, HasNoCall, page_from}
+use Rattle.rept_narrow.specs.Rules.{set_at, HasSets}
+use Rattle.rept_narrow.specs.Admitted.{Story, IsAdmitted, IsCallAt, HasNoCall, page_from}
 use Rattle.rept_infer.specs.Fresh.{AreHandedOut, AreZero, IsHeapEnd}
 
 -- ---- rows

@@ -12,12 +12,12 @@ use Rattle.rept_isa.specs.Numbers.{plus, beside}
 use Rattle.rept_machine.specs.Arithmetic.{store_width}
 use Rattle.rept_machine.specs.State.{State}
 use Rattle.rept_machine.specs.Writes.{IsOneOfBytes, WritesBy}
-use Rattle.rept_lanes.specs.declared.held.Held.{Held}
-use Rattle.rept_lanes.specs.Lanes.{held_at, IsListed}
-use Rattle.rept_infer.specs.Admitted.{Story}
-use Rattle.rept_infer.specs.Rules.{WritesNot}
-use Rattle.rept_infer.specs.Sweeps.{ListsWritten}
-use Rattle.rept_infer.proofs.Sentences.{some_none, same_some}
+use Rattle.rept_narrow.specs.declared.lanes.held.Held.{Held}
+use Rattle.rept_narrow.specs.Lanes.{held_at, IsListed}
+use Rattle.rept_narrow.specs.Admitted.{Story}
+use Rattle.rept_narrow.specs.Rules.{WritesNot}
+use Rattle.rept_narrow.specs.Sweeps.{ListsWritten}
+use Rattle.rept_narrow.proofs.Sentences.{some_none, same_some}
 
 still_at : (xs : List ℕ) (x k a : ℕ) → slice_get xs k ≡ Some a → slice_get (xs ++ x ∷ []) k ≡ Some a
 still_at [] x k a at = absurd (some_none (sym at ∙ slice_get_past [] k (omega arith)))

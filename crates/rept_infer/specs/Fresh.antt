@@ -2,7 +2,7 @@
 use Rattle.std.specs.Prelude.{◌≡◌, ℕ, ◌<◌, ◌≤◌, ◌+◌, true, false}
 use Rattle.rept_machine.specs.Calls.{is_error}
 use Rattle.rept_machine.specs.State.{State}
-use Rattle.rept_infer.specs.Admitted.{Story, IsCallAt, HasNoCall, is_anonymous}
+use Rattle.rept_narrow.specs.Admitted.{Story, IsCallAt, HasNoCall, is_anonymous}
 
 -- what the last call of brk before a row answered
 pub record IsHeapEnd (story : Story) (run : ℕ → State) (j v : ℕ) : Type 0 where

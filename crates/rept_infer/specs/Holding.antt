@@ -4,7 +4,7 @@ use Rattle.std.specs.Prelude.{◌≡◌, ℕ, ◌≤◌, true, length, Option, S
 use Rattle.rept_machine.specs.State.{State}
 use Rattle.rept_known.specs.declared.both.Both.{Both}
 use Rattle.rept_known.specs.Both.{both_has}
-use Rattle.rept_infer.specs.Admitted.{Story, IsAdmitted}
+use Rattle.rept_narrow.specs.Admitted.{Story, IsAdmitted}
 
 pub record Holding : Type 0 where
   -- the set of a register at a point; where there is none, nothing is told

@@ -5,11 +5,11 @@ use Rattle.rept_isa.specs.declared.row.StepRow.{StepRow}
 use Rattle.rept_known.specs.declared.both.Both.{Both}
 use Rattle.rept_known.specs.Both.{both_meet}
 use Rattle.rept_span.specs.Filled.{View}
-use Rattle.rept_lanes.specs.declared.span.ByteSpan.{ByteSpan}
-use Rattle.rept_lanes.specs.Lanes.{lane_byte}
-use Rattle.rept_infer.specs.Admitted.{Premises, Story}
+use Rattle.rept_narrow.specs.declared.lanes.span.ByteSpan.{ByteSpan}
+use Rattle.rept_narrow.specs.Lanes.{lane_byte}
+use Rattle.rept_narrow.specs.Admitted.{Premises, Story}
 use Rattle.rept_infer.specs.Holding.{Holding, holding_of}
-use Rattle.rept_infer.specs.Rules.{set_at}
+use Rattle.rept_narrow.specs.Rules.{set_at}
 
 -- a story of these rows, whatever dump they end in
 pub record IsStoryOf (story : Story) (rows : List StepRow) (image_end : ℕ) (premises : Premises) : Type 0 where

@@ -3,12 +3,12 @@
 ghost use Rattle.std.specs.Prelude.{◌≡◌, ◌+◌, ◌<◌, ℕ, length, true, Some, slice_get};
 ghost use Rattle.rept_isa.specs.declared.instr.Instr.TheVariants.{Ecall};
 ghost use Rattle.rept_machine.specs.State.{State};
-ghost use Rattle.rept_infer.specs.Admitted.{Story, IsSettled, changes_pages, leaves_pages};
-ghost use Rattle.rept_infer.specs.Rules.{HasSets};
+ghost use Rattle.rept_narrow.specs.Admitted.{Story, IsSettled, changes_pages, leaves_pages};
+ghost use Rattle.rept_narrow.specs.Rules.{HasSets};
 
-use crate::table::Table;
 use rept_isa::{Instr, StepRow, register};
 use rept_machine::call_of;
+use rept_narrow::Table;
 use rept_partial::Partial;
 
 /// The number of mmap2, whose flags are in x13.

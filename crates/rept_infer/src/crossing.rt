@@ -3,23 +3,21 @@
 ghost use Rattle.std.specs.Prelude.{◌≡◌, ◌+◌, ◌<◌, ◌≤◌, ℕ, true, Some, IfOk, OnOk, slice_get};
 ghost use Rattle.rept_isa.specs.Numbers.{beside};
 ghost use Rattle.rept_machine.specs.State.{State};
-ghost use Rattle.rept_lanes.specs.declared.held.Held.{Held};
+ghost use Rattle.rept_narrow.specs.declared.lanes.held.Held.{Held};
 ghost use Rattle.rept_alias.specs.Accesses.{call_hits};
-ghost use Rattle.rept_lanes.specs.Lanes.{held_at, IsListed};
-ghost use Rattle.rept_infer.specs.Admitted.{Story};
-ghost use Rattle.rept_infer.specs.Rules.{HasSets, AreBytes, WritesNot};
-ghost use Rattle.rept_infer.specs.Sweeps.{ListsWritten, tells_in};
+ghost use Rattle.rept_narrow.specs.Lanes.{held_at, IsListed};
+ghost use Rattle.rept_narrow.specs.Admitted.{Story};
+ghost use Rattle.rept_narrow.specs.Rules.{HasSets, AreBytes, WritesNot};
+ghost use Rattle.rept_narrow.specs.Sweeps.{ListsWritten, tells_in};
 
-use crate::known::KnownPath;
-use crate::memory::place_of;
-use crate::store::may_hit;
-use crate::table::Table;
-use crate::told::SweptBytes;
-use crate::touched::{atomic_access, call_access};
 use rept_alias::CallAccess;
 use rept_isa::{Instr, StepRow};
-use rept_lanes::HeldBytes;
 use rept_machine::store_width;
+use rept_narrow::memory::place_of;
+use rept_narrow::store::may_hit;
+use rept_narrow::told::SweptBytes;
+use rept_narrow::touched::{atomic_access, call_access};
+use rept_narrow::{HeldBytes, KnownPath, Table};
 use std::alloc::{AllocError as OutOfMemory, Global};
 
 /// A row, and what is told before and after it.

@@ -2,20 +2,18 @@
 
 ghost use Rattle.std.specs.Prelude.{◌≡◌, ◌+◌, ◌<◌, ◌^◌, ℕ, length, Err, IfOk, OnOk};
 ghost use Rattle.rept_machine.specs.State.{State};
-ghost use Rattle.rept_infer.specs.Admitted.{Story};
-ghost use Rattle.rept_infer.specs.Rules.{HasSets};
-ghost use Rattle.rept_infer.specs.Sweeps.{AreKnown, IsFound};
+ghost use Rattle.rept_narrow.specs.Admitted.{Story};
+ghost use Rattle.rept_narrow.specs.Rules.{HasSets};
+ghost use Rattle.rept_narrow.specs.Sweeps.{AreKnown, IsFound};
 
-use crate::answers::tell_answers;
-use crate::known::{InferPath, KnownPath, PathPremises};
-use crate::memory::place_of;
 use crate::passing::Earlier;
 use crate::relating::relate_few;
 use crate::round::{sweep_back, sweep_on};
 use crate::stop::InferStop;
-use crate::table::{Empty, Table};
 use rept_isa::{Instr, StepRow};
-use rept_lanes::Lanes;
+use rept_narrow::answers::tell_answers;
+use rept_narrow::memory::place_of;
+use rept_narrow::{Empty, InferPath, KnownPath, Lanes, PathPremises, Table};
 use std::alloc::Global;
 
 /// What was found so far: sets, and spans of the last sweeps on and back.

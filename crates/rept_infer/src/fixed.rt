@@ -1,8 +1,8 @@
 //! Bytes that can't be written, beside what was known before.
 
-use crate::known::{KnownPath, PathPremises};
 use rept_isa::Reg;
 use rept_known::Both;
+use rept_narrow::{KnownPath, PathPremises};
 
 /// What was known before, and the bytes that can't be written: from a row on they have their last
 /// value.

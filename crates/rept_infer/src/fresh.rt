@@ -2,16 +2,15 @@
 
 ghost use Rattle.std.specs.Prelude.{◌≡◌, ◌+◌, ◌<◌, ◌≤◌, ◌^◌, ℕ, length, true, Some, IfSome, OnOk, slice_get};
 ghost use Rattle.rept_machine.specs.State.{State};
-ghost use Rattle.rept_lanes.specs.Lanes.{IsTrueSweep};
-ghost use Rattle.rept_infer.specs.Admitted.{Story, IsCallAt, is_anonymous, page_from};
+ghost use Rattle.rept_narrow.specs.Lanes.{IsTrueSweep};
+ghost use Rattle.rept_narrow.specs.Admitted.{Story, IsCallAt, is_anonymous, page_from};
 ghost use Rattle.rept_infer.specs.Fresh.{AreHandedOut, AreZero, IsHeapEnd};
-ghost use Rattle.rept_infer.specs.Rules.{HasSets};
-ghost use Rattle.rept_infer.specs.Sweeps.{memory_of};
+ghost use Rattle.rept_narrow.specs.Rules.{HasSets};
+ghost use Rattle.rept_narrow.specs.Sweeps.{memory_of};
 
-use crate::naming::{is_window_held, window_of};
-use crate::table::Table;
 use rept_isa::{Instr, StepRow, register};
-use rept_lanes::Sweep;
+use rept_narrow::naming::{is_window_held, window_of};
+use rept_narrow::{Sweep, Table};
 use rept_partial::Partial;
 use std::alloc::AllocError as OutOfMemory;
 

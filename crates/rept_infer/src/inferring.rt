@@ -1,18 +1,16 @@
 //! From what is known of a path to what follows besides.
 
 ghost use Rattle.std.specs.Prelude.{◌≡◌, ◌+◌, ◌<◌, ◌^◌, ℕ, length, IfOk, Err, OnOk, OnErr};
-ghost use Rattle.rept_infer.specs.Admitted.{Story};
+ghost use Rattle.rept_narrow.specs.Admitted.{Story};
 ghost use Rattle.rept_infer.specs.Holding.{Keeps, Refuses, IsFinerHolding};
 ghost use Rattle.rept_infer.specs.Path.{IsStoryOf, known_in, path_reader, told_in};
 
 use crate::calls::settled_from;
 use crate::finding::{Found, rounds};
 use crate::fixed::FixedPath;
-use crate::known::{InferPath, KnownPath, PathPremises};
 use crate::path::InferredPath;
 use crate::stop::InferStop;
-use crate::table::{Empty, Table};
-use rept_lanes::Lanes;
+use rept_narrow::{Empty, InferPath, KnownPath, Lanes, PathPremises, Table};
 use std::alloc::Global;
 
 /// What follows of a path, over what is known of it before. In each admitted execution in which that

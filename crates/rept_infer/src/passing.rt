@@ -2,22 +2,19 @@
 
 ghost use Rattle.std.specs.Prelude.{◌≡◌, ◌+◌, ◌<◌, ◌^◌, ℕ, length, Some, Err, OnOk, OnErr, slice_get};
 ghost use Rattle.rept_machine.specs.State.{State};
-ghost use Rattle.rept_lanes.specs.Lanes.{IsTrueSweep};
-ghost use Rattle.rept_infer.specs.Admitted.{Story};
-ghost use Rattle.rept_infer.specs.Rules.{AreBytes, HasSets};
-ghost use Rattle.rept_infer.specs.Sweeps.{IsAround, IsFollowed, memory_of};
+ghost use Rattle.rept_narrow.specs.Lanes.{IsTrueSweep};
+ghost use Rattle.rept_narrow.specs.Admitted.{Story};
+ghost use Rattle.rept_narrow.specs.Rules.{AreBytes, HasSets};
+ghost use Rattle.rept_narrow.specs.Sweeps.{IsAround, IsFollowed, memory_of};
 
-use crate::bytes::ToldBytes;
 use crate::fresh::{most_later, note_fresh};
-use crate::known::KnownPath;
-use crate::memory::{load_row, store_row};
-use crate::rounds::visit;
 use crate::stop::InferStop;
 use crate::sweeping::{BytesAround, cross_back, cross_on, note_loaded, note_named, note_stored};
-use crate::table::{Empty, Table};
-use crate::told::SweptBytes;
 use rept_isa::StepRow;
-use rept_lanes::{Lanes, Sweep};
+use rept_narrow::memory::{load_row, store_row};
+use rept_narrow::told::SweptBytes;
+use rept_narrow::visiting::visit;
+use rept_narrow::{Empty, KnownPath, Lanes, Sweep, Table, ToldBytes};
 use std::alloc::{AllocError as OutOfMemory, Global};
 
 /// The rows, what was known before all, and the spans that were found before.

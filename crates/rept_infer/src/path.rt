@@ -3,11 +3,9 @@
 ghost use Rattle.std.specs.Prelude.{◌≡◌, ℕ, Some, Option};
 ghost use Rattle.rept_infer.specs.Path.{met, path_reader, told_in};
 
-use crate::known::{KnownPath, PathPremises};
-use crate::table::Table;
 use rept_isa::Reg;
 use rept_known::Both;
-use rept_lanes::Lanes;
+use rept_narrow::{KnownPath, Lanes, PathPremises, Table};
 use rept_partial::Partial;
 use std::marker::Model;
 

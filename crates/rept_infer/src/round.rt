@@ -2,20 +2,18 @@
 
 ghost use Rattle.std.specs.Prelude.{◌≡◌, ◌+◌, ◌<◌, ◌≤◌, ◌^◌, ℕ, length, Some, Err, IfOk, OnOk};
 ghost use Rattle.rept_machine.specs.State.{State};
-ghost use Rattle.rept_lanes.specs.Lanes.{AreTrueSpans, IsTrueSweep};
-ghost use Rattle.rept_infer.specs.Admitted.{Story};
-ghost use Rattle.rept_infer.specs.Rules.{HasSets};
-ghost use Rattle.rept_infer.specs.Sweeps.{IsAround, memory_of};
+ghost use Rattle.rept_narrow.specs.Lanes.{AreTrueSpans, IsTrueSweep};
+ghost use Rattle.rept_narrow.specs.Admitted.{Story};
+ghost use Rattle.rept_narrow.specs.Rules.{HasSets};
+ghost use Rattle.rept_narrow.specs.Sweeps.{IsAround, memory_of};
 
 use crate::first::start_on;
-use crate::known::{KnownPath, PathPremises};
-use crate::naming::{is_window_held, window_of};
 use crate::passing::{Earlier, all_back, all_on};
 use crate::stop::InferStop;
 use crate::sweeping::{BytesAround, note_around, note_named};
-use crate::table::{Empty, Table};
 use rept_isa::StepRow;
-use rept_lanes::{Lanes, Sweep};
+use rept_narrow::naming::{is_window_held, window_of};
+use rept_narrow::{Empty, KnownPath, Lanes, PathPremises, Sweep, Table};
 use std::alloc::AllocError as OutOfMemory;
 
 /// What a sweep found: spans, and whether a set changed.

@@ -1,6 +1,6 @@
 //! Why nothing is told.
 
-use crate::table::Empty;
+use rept_narrow::Empty;
 
 /// Why nothing is told.
 #[derive(Clone, Copy, Debug)]

@@ -2,19 +2,16 @@
 
 ghost use Rattle.std.specs.Prelude.{◌≡◌, ◌+◌, ◌<◌, ◌≤◌, ◌^◌, ℕ, length, Some, OnOk, slice_get};
 ghost use Rattle.rept_machine.specs.State.{State};
-ghost use Rattle.rept_lanes.specs.Lanes.{IsTrueSweep};
-ghost use Rattle.rept_infer.specs.Admitted.{Story};
-ghost use Rattle.rept_infer.specs.Rules.{HasSets};
-ghost use Rattle.rept_infer.specs.Sweeps.{AreKept, IsAround, memory_of};
+ghost use Rattle.rept_narrow.specs.Lanes.{IsTrueSweep};
+ghost use Rattle.rept_narrow.specs.Admitted.{Story};
+ghost use Rattle.rept_narrow.specs.Rules.{HasSets};
+ghost use Rattle.rept_narrow.specs.Sweeps.{AreKept, IsAround, memory_of};
 
-use crate::bytes::ToldBytes;
 use crate::crossing::ByteCrossing;
-use crate::known::KnownPath;
-use crate::naming::{loaded_byte, named, stored_byte};
-use crate::table::Table;
-use crate::told::SweptBytes;
 use rept_isa::StepRow;
-use rept_lanes::{Lanes, Sweep};
+use rept_narrow::naming::{loaded_byte, named, stored_byte};
+use rept_narrow::told::SweptBytes;
+use rept_narrow::{KnownPath, Lanes, Sweep, Table, ToldBytes};
 use std::alloc::{AllocError as OutOfMemory, Global};
 
 /// What was known before all, the spans that were found before, and the sets.

@@ -18,7 +18,7 @@ use Rattle.rept_report.specs.OneThread.{ThreadPath}
 use Rattle.rept_findings.specs.LastWriters.{AreLastWriters}
 use Rattle.rept_findings.specs.Shown.{Shown, known_value, places_of}
 use Rattle.rept_found.specs.Truth.{IsTrueOf}
-use Rattle.rept_infer.specs.Admitted.{Story}
+use Rattle.rept_narrow.specs.Admitted.{Story}
 use Rattle.rept_infer.specs.Holding.{Holding, Holds}
 use Rattle.rept_inferred.specs.Narrowed.{TellsAll, joined, narrowed, note_by, range_by, shown_beyond, value_by}
 

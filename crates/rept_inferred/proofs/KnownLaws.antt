@@ -9,7 +9,7 @@ use Rattle.rept_report.specs.OneThread.{ThreadPath}
 use Rattle.rept_found.specs.Crash.{Means}
 use Rattle.rept_found.specs.Truth.{IsTrueOf}
 use Rattle.rept_found.specs.View.{CrashView, set_in}
-use Rattle.rept_infer.specs.Admitted.{Story}
+use Rattle.rept_narrow.specs.Admitted.{Story}
 use Rattle.rept_infer.specs.Holding.{Holds, holding_of}
 use Rattle.rept_inferred.specs.Known.{byte_known, or_all, set_known, shown_in}
 

@@ -3,8 +3,9 @@
 use crate::narrowing::{note_by, range_by, value_by};
 use rept_elf::Symbol;
 use rept_findings::{Findings, ThreadPlace, ThreadPoint};
-use rept_infer::{InferredPath, KnownPath, PathPremises};
+use rept_infer::InferredPath;
 use rept_isa::{Reg, StepRow};
+use rept_narrow::{KnownPath, PathPremises};
 use rept_partial::Range;
 use rept_reason::{Cell, Fact, Reason};
 use rept_report::{Counts, Writer};

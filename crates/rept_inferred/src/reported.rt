@@ -4,9 +4,9 @@ ghost use Rattle.std.specs.Prelude.{◌≡◌};
 
 use rept_findings::Findings;
 use rept_found::AnalysedCrash;
-use rept_infer::KnownPath;
 use rept_isa::Reg;
 use rept_known::Both;
+use rept_narrow::KnownPath;
 use rept_partial::Partial;
 use rept_reason::RowRules;
 

@@ -33,7 +33,7 @@ use Rattle.rept_found.specs.Truth.{IsTrueOf, IsTrueReport}
 use Rattle.rept_found.specs.View.{CrashView, IsFoundIn, scene_in, set_in, state_in, trip_in}
 use Rattle.rept_found.proofs.Alone.{alone_setting, alone_shown}
 use Rattle.rept_found.proofs.Single.{one_thread_shown}
-use Rattle.rept_infer.specs.Admitted.{IsAdmitted}
+use Rattle.rept_narrow.specs.Admitted.{IsAdmitted}
 use Rattle.rept_infer.specs.Holding.{Has, Holding, Holds, Keeps, Refuses, holding_of}
 use Rattle.rept_inferred.specs.Narrowed.{narrowed, shown_beyond}
 use Rattle.rept_inferred.specs.Known.{byte_known, set_known, shown_in}

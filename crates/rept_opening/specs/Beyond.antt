@@ -9,7 +9,7 @@ use Rattle.rept_dump.specs.Program.Program.{OneFile, MappedFiles}
 use Rattle.rept_dump.specs.Registers.{pid_of, saved_register}
 use Rattle.rept_isa.specs.declared.row.StepRow.{StepRow}
 use Rattle.rept_found.specs.Crash.{Crash, left_of, note_at}
-use Rattle.rept_infer.specs.Admitted.{Premises, Story}
+use Rattle.rept_narrow.specs.Admitted.{Premises, Story}
 use Rattle.rept_opening.specs.declared.areas.ProcessTold.{ProcessTold}
 
 -- the segment is part of memory, and has the address there

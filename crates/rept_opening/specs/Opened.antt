@@ -19,7 +19,7 @@ use Rattle.rept_found.specs.Trip.Trip.{Trip, setting_on}
 use Rattle.rept_found.specs.Contradictions.{contradiction_on}
 use Rattle.rept_found.specs.Crash.{Crash, Means, Scene, route, scene_of, setting}
 use Rattle.rept_found.specs.Telling.{shown_on}
-use Rattle.rept_infer.specs.Admitted.{IsAdmitted}
+use Rattle.rept_narrow.specs.Admitted.{IsAdmitted}
 use Rattle.rept_infer.specs.Holding.{Holding, Holds}
 use Rattle.rept_inferred.specs.Narrowed.{shown_beyond}
 use Rattle.rept_found.specs.declared.contradiction.Contradiction.{Contradiction}

@@ -19,7 +19,7 @@ use Rattle.rept_found.specs.Crash.{Scene, ending_of, path_of}
 use Rattle.rept_found.specs.Histories.{IsTrueTrip}
 use Rattle.rept_found.specs.Telling.{shown_of, shown_on}
 use Rattle.rept_found.specs.Truth.{ExecutesPath, HasNoExecutionOfPath, IsTrueOf, IsTrueReport}
-use Rattle.rept_infer.specs.Admitted.{IsAdmitted}
+use Rattle.rept_narrow.specs.Admitted.{IsAdmitted}
 use Rattle.rept_inferred.specs.Narrowed.{TellsAll}
 use Rattle.rept_opening.specs.Beyond.{story_of}
 use Rattle.rept_opening.specs.Opened.{CrashRun, RunAccount, route_of, run_setting, told_in}

@@ -12,8 +12,8 @@ ghost use Rattle.rept_opening.specs.Beyond.{begun_file, e_entry, has_page, is_at
 use crate::areas::ProcessTold;
 use rept_dump::Dump;
 use rept_elf::{Image, PF_W, PT_LOAD, Segment, word};
-use rept_infer::PathPremises;
 use rept_isa::StepRow;
+use rept_narrow::PathPremises;
 
 /// `p_type` of a segment that names the program by which an executable is begun.
 const PT_INTERP: u32 = 3;

@@ -1,6 +1,6 @@
 use Rattle.std.proofs.Common.{◌≡◌, ◌≤◌, ℕ, length, sym, ◌∙◌, arith}
 use Rattle.std.proofs.lemmas.Bool.{ne_eqb}
-use Rattle.rept_infer.proofs.Calling.{exact_is, both_known, one_known}
+use Rattle.rept_narrow.proofs.Calling.{exact_is, both_known, one_known}
 use Rattle.rept_infer.proofs.calls.call_leaves_pages.Goals as goal
 
 pub returns-in-Some-as_exact : goal.returns-in-Some-as_exact

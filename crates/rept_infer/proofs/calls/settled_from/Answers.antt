@@ -1,8 +1,8 @@
 use Rattle.std.proofs.Common.{◌≡◌, ◌+◌, ◌-◌, ◌<◌, ◌≤◌, ℕ, List, length, get_or, ap, sym, subst, ◌∙◌, arith}
 use Rattle.rept_isa.specs.declared.row.StepRow.{StepRow}
 use Rattle.rept_machine.specs.State.{State}
-use Rattle.rept_infer.specs.Admitted.{Story, IsSettled}
-use Rattle.rept_infer.proofs.Calling.{settled_before, settled_end}
+use Rattle.rept_narrow.specs.Admitted.{Story, IsSettled}
+use Rattle.rept_narrow.proofs.Calling.{settled_before, settled_end}
 use Rattle.rept_infer.proofs.calls.settled_from.Goals as goal
 
 pub loop-back-init : goal.loop-back-init

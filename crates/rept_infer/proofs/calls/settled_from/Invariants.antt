@@ -1,7 +1,7 @@
 use Rattle.std.proofs.Common.{◌≡◌, ℕ, ◌-◌}
 use Rattle.rept_machine.specs.State.{State}
-use Rattle.rept_infer.specs.Admitted.{Story, IsSettled}
-use Rattle.rept_infer.specs.Rules.{HasSets}
+use Rattle.rept_narrow.specs.Admitted.{Story, IsSettled}
+use Rattle.rept_narrow.specs.Rules.{HasSets}
 use Rattle.rept_infer.proofs.calls.settled_from.Given as goal
 
 abbrev pub invariant-loop-back : goal.invariant-loop-back

@@ -1,6 +1,6 @@
 use Rattle.std.proofs.Common.{◌<◌, ℕ}
 use Rattle.rept_isa.specs.Numbers.{beside}
-use Rattle.rept_lanes.specs.Lanes.{IsListed}
+use Rattle.rept_narrow.specs.Lanes.{IsListed}
 use Rattle.rept_infer.proofs.crossing.places.Given as goal
 
 abbrev pub invariant-loop-k : goal.invariant-loop-k

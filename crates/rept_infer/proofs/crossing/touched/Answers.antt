@@ -1,7 +1,7 @@
 use Rattle.std.proofs.Common.{◌≡◌, ◌≤◌, ℕ, Some, slice_get, length, inl, inr, subst, arith}
 use Rattle.std.proofs.lemmas.Bool.{cases_eq}
 use Rattle.rept_alias.specs.Accesses.{call_hits}
-use Rattle.rept_infer.proofs.Touching.{all_touched}
+use Rattle.rept_narrow.proofs.Touching.{all_touched}
 use Rattle.rept_infer.proofs.crossing.touched.Goals as goal
 
 pub loop-number-preserved : goal.loop-number-preserved

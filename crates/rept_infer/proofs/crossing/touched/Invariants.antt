@@ -1,7 +1,7 @@
 use Rattle.std.proofs.Common.{◌≡◌, ◌<◌, ℕ, true, Some, slice_get}
 use Rattle.rept_alias.specs.Accesses.{call_hits}
-use Rattle.rept_lanes.specs.declared.held.Held.{Held}
-use Rattle.rept_lanes.specs.Lanes.{IsListed}
+use Rattle.rept_narrow.specs.declared.lanes.held.Held.{Held}
+use Rattle.rept_narrow.specs.Lanes.{IsListed}
 use Rattle.rept_infer.proofs.crossing.touched.Given as goal
 
 abbrev pub invariant-loop-number : goal.invariant-loop-number

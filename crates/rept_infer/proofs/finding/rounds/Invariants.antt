@@ -1,7 +1,7 @@
 use Rattle.std.proofs.Common.{◌≡◌, ℕ}
 use Rattle.rept_machine.specs.State.{State}
-use Rattle.rept_infer.specs.Admitted.{Story}
-use Rattle.rept_infer.specs.Sweeps.{AreKnown, IsFound}
+use Rattle.rept_narrow.specs.Admitted.{Story}
+use Rattle.rept_narrow.specs.Sweeps.{AreKnown, IsFound}
 use Rattle.rept_infer.proofs.finding.rounds.Given as goal
 
 abbrev pub invariant-loop : goal.invariant-loop

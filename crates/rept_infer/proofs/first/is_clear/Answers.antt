@@ -1,5 +1,5 @@
 use Rattle.std.proofs.Common.{◌≡◌, Some, sym, subst, ◌∙◌}
-use Rattle.rept_infer.specs.Admitted.{Premises}
+use Rattle.rept_narrow.specs.Admitted.{Premises}
 use Rattle.rept_infer.proofs.first.is_clear.Goals as goal
 
 pub returns-then-from-address : goal.returns-then-from-address

@@ -1,6 +1,6 @@
 use Rattle.std.proofs.Common.{◌≡◌, ℕ, sym, subst}
 use Rattle.std.proofs.lemmas.Result.{on_ok_weaker}
-use Rattle.rept_infer.specs.Sweeps.{memory_of}
+use Rattle.rept_narrow.specs.Sweeps.{memory_of}
 use Rattle.rept_infer.proofs.first.note_first.Goals as goal
 
 pub returns-in-Some-clause-holds : goal.returns-in-Some-clause-holds

@@ -1,9 +1,9 @@
 use Rattle.std.proofs.Common.{◌≡◌, ℕ}
 use Rattle.rept_machine.specs.State.{State}
-use Rattle.rept_lanes.specs.Lanes.{IsTrueSweep}
-use Rattle.rept_infer.specs.Admitted.{Story}
-use Rattle.rept_infer.specs.Rules.{HasSets}
-use Rattle.rept_infer.specs.Sweeps.{memory_of}
+use Rattle.rept_narrow.specs.Lanes.{IsTrueSweep}
+use Rattle.rept_narrow.specs.Admitted.{Story}
+use Rattle.rept_narrow.specs.Rules.{HasSets}
+use Rattle.rept_narrow.specs.Sweeps.{memory_of}
 use Rattle.rept_infer.proofs.first.note_window.Given as goal
 
 abbrev pub invariant-loop-k : goal.invariant-loop-k

@@ -1,6 +1,6 @@
 use Rattle.std.proofs.Common.{◌+◌, ◌≤◌, length, arith}
 use Rattle.std.proofs.lemmas.Option.{IfSome_then}
-use Rattle.rept_infer.proofs.Sentences.{inside_rows}
+use Rattle.rept_narrow.proofs.Sentences.{inside_rows}
 use Rattle.rept_infer.proofs.fresh.brk_answer.Goals as goal
 
 pub returns-then-is_call : goal.returns-then-is_call

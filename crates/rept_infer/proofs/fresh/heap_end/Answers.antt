@@ -1,6 +1,6 @@
 use Rattle.std.proofs.Common.{◌≡◌, ◌+◌, ◌-◌, ◌<◌, ◌≤◌, ℕ, length, ap, sym, subst, arith}
 use Rattle.std.proofs.lemmas.Option.{IfSome_then}
-use Rattle.rept_infer.specs.Admitted.{HasNoCall}
+use Rattle.rept_narrow.specs.Admitted.{HasNoCall}
 use Rattle.rept_infer.proofs.Handing.{earlier, no_row_left, row_read}
 use Rattle.rept_infer.proofs.fresh.heap_end.Goals as goal
 

@@ -1,5 +1,5 @@
 use Rattle.std.proofs.lemmas.Result.{on_ok_weaker}
-use Rattle.rept_infer.specs.Sweeps.{memory_of}
+use Rattle.rept_narrow.specs.Sweeps.{memory_of}
 use Rattle.rept_infer.proofs.fresh.note_zero.Goals as goal
 
 pub returns-then-is_zero-clause-holds : goal.returns-then-is_zero-clause-holds

@@ -1,8 +1,8 @@
 use Rattle.std.proofs.Common.{◌≡◌, ℕ}
 use Rattle.rept_machine.specs.State.{State}
-use Rattle.rept_lanes.specs.Lanes.{IsTrueSweep}
+use Rattle.rept_narrow.specs.Lanes.{IsTrueSweep}
 use Rattle.rept_infer.specs.Fresh.{AreZero}
-use Rattle.rept_infer.specs.Sweeps.{memory_of}
+use Rattle.rept_narrow.specs.Sweeps.{memory_of}
 use Rattle.rept_infer.proofs.fresh.note_zero_window.Given as goal
 
 abbrev pub invariant-loop-k : goal.invariant-loop-k

@@ -1,5 +1,5 @@
 use Rattle.std.proofs.Common.{sym, ◌∙◌}
-use Rattle.rept_infer.proofs.Calling.{exact_is}
+use Rattle.rept_narrow.proofs.Calling.{exact_is}
 use Rattle.rept_infer.proofs.fresh.value_at.Goals as goal
 
 pub returns-in-Some : goal.returns-in-Some

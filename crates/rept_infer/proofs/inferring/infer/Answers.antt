@@ -1,10 +1,10 @@
 use Rattle.std.proofs.Common.{◌≡◌, ℕ, ◌+◌, ◌<◌, true, [], length, Some, Err, ap, sym, subst, ◌∙◌, arith}
-use Rattle.rept_infer.specs.Admitted.{Premises, IsSettled}
+use Rattle.rept_narrow.specs.Admitted.{Premises, IsSettled}
 use Rattle.rept_infer.specs.Path.{Fixed}
-use Rattle.rept_infer.specs.Rules.{HasSets}
-use Rattle.rept_infer.specs.Sweeps.{IsFound, memory_of}
+use Rattle.rept_narrow.specs.Rules.{HasSets}
+use Rattle.rept_narrow.specs.Sweeps.{IsFound, memory_of}
 use Rattle.rept_infer.proofs.Frame.{started, fixed_known, path_holds, path_finer}
-use Rattle.rept_infer.proofs.Sentences.{same_err}
+use Rattle.rept_narrow.proofs.Sentences.{same_err}
 use Rattle.rept_infer.proofs.inferring.infer.Goals as goal
 
 pub returns-in-Err-rounds-clause-impossible : goal.returns-in-Err-rounds-clause-impossible

@@ -1,7 +1,7 @@
 use Rattle.std.proofs.Common.{◌≡◌, ℕ}
 use Rattle.rept_machine.specs.State.{State}
-use Rattle.rept_infer.specs.Admitted.{Story}
-use Rattle.rept_infer.specs.Sweeps.{IsAround, IsFollowed}
+use Rattle.rept_narrow.specs.Admitted.{Story}
+use Rattle.rept_narrow.specs.Sweeps.{IsAround, IsFollowed}
 use Rattle.rept_infer.proofs.passing.all_on.Given as goal
 
 abbrev pub invariant-loop-index : goal.invariant-loop-index

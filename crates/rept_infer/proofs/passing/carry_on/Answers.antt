@@ -1,5 +1,5 @@
 use Rattle.std.proofs.Common.{◌≡◌, ◌≤◌, length, ap, arith}
-use Rattle.rept_infer.proofs.Sentences.{row_here}
+use Rattle.rept_narrow.proofs.Sentences.{row_here}
 use Rattle.rept_infer.proofs.passing.carry_on.Goals as goal
 
 pub returns-clause-keeps : goal.returns-clause-keeps

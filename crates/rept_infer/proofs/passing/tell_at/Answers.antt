@@ -1,5 +1,5 @@
 use Rattle.std.proofs.lemmas.Result.{on_ok_weaker, on_err_weaker}
-use Rattle.rept_infer.proofs.Sentences.{row_here}
+use Rattle.rept_narrow.proofs.Sentences.{row_here}
 use Rattle.rept_infer.proofs.Carrying.{bytes_true}
 use Rattle.rept_infer.proofs.passing.tell_at.Goals as goal
 

@@ -1,7 +1,7 @@
 use Rattle.std.proofs.Common.{◌≡◌, ℕ, length}
 use Rattle.rept_machine.specs.State.{State}
-use Rattle.rept_infer.specs.Admitted.{Story}
-use Rattle.rept_infer.specs.Rules.{HasSets}
+use Rattle.rept_narrow.specs.Admitted.{Story}
+use Rattle.rept_narrow.specs.Rules.{HasSets}
 use Rattle.rept_relate.specs.Holding.{AreCallsWithin}
 use Rattle.rept_infer.proofs.relating.list_calls.Given as goal
 

@@ -1,7 +1,7 @@
 use Rattle.std.proofs.Common.{◌≡◌, ℕ, length}
 use Rattle.rept_machine.specs.State.{State}
-use Rattle.rept_infer.specs.Admitted.{Story}
-use Rattle.rept_infer.specs.Rules.{HasSets, KeepsSets}
+use Rattle.rept_narrow.specs.Admitted.{Story}
+use Rattle.rept_narrow.specs.Rules.{HasSets, KeepsSets}
 use Rattle.rept_relate.specs.Classes.Valuations.{IsValued, HaveSameWords}
 use Rattle.rept_relate.specs.Numbering.{value_in}
 use Rattle.rept_infer.proofs.relating.tell_first.Given as goal

@@ -1,6 +1,6 @@
 use Rattle.std.proofs.Common.{Err, ap, ◌∙◌}
-use Rattle.rept_infer.specs.Sweeps.{memory_of}
-use Rattle.rept_infer.proofs.Sentences.{same_err}
+use Rattle.rept_narrow.specs.Sweeps.{memory_of}
+use Rattle.rept_narrow.proofs.Sentences.{same_err}
 use Rattle.rept_infer.proofs.round.sweep_on.Goals as goal
 
 pub returns-in-Err-all_on-clause-refuses : goal.returns-in-Err-all_on-clause-refuses

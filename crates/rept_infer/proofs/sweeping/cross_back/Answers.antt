@@ -1,6 +1,6 @@
 use Rattle.std.proofs.Common.{◌≡◌, ◌≤◌, length, ◌∙◌, arith}
-use Rattle.rept_infer.specs.Sweeps.{memory_of}
-use Rattle.rept_infer.proofs.Sentences.{inside_rows}
+use Rattle.rept_narrow.specs.Sweeps.{memory_of}
+use Rattle.rept_narrow.proofs.Sentences.{inside_rows}
 use Rattle.rept_infer.proofs.Carrying.{stays_back}
 use Rattle.rept_infer.proofs.sweeping.cross_back.Goals as goal
 

@@ -1,6 +1,6 @@
 use Rattle.std.proofs.Common.{ℕ, List, sym, subst}
-use Rattle.rept_lanes.specs.Lanes.{LetsGo}
-use Rattle.rept_infer.specs.Sweeps.{memory_of}
+use Rattle.rept_narrow.specs.Lanes.{LetsGo}
+use Rattle.rept_narrow.specs.Sweeps.{memory_of}
 use Rattle.rept_infer.proofs.Carrying.{bytes_true, kept_listed}
 use Rattle.rept_infer.proofs.sweeping.let_written_go.Goals as goal
 

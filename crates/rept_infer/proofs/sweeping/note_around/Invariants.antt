@@ -1,8 +1,8 @@
 use Rattle.std.proofs.Common.{◌≡◌, ◌≤◌, ℕ, length}
 use Rattle.rept_machine.specs.State.{State}
-use Rattle.rept_lanes.specs.Lanes.{IsTrueSweep}
-use Rattle.rept_infer.specs.Admitted.{Story}
-use Rattle.rept_infer.specs.Sweeps.{IsAround, memory_of}
+use Rattle.rept_narrow.specs.Lanes.{IsTrueSweep}
+use Rattle.rept_narrow.specs.Admitted.{Story}
+use Rattle.rept_narrow.specs.Sweeps.{IsAround, memory_of}
 use Rattle.rept_infer.proofs.sweeping.note_around.Given as goal
 
 abbrev pub invariant-loop-k : goal.invariant-loop-k

@@ -1,6 +1,6 @@
 use Rattle.std.proofs.Common.{◌≡◌, ◌≤◌, ℕ, length, sym, subst, arith}
 use Rattle.std.proofs.lemmas.Result.{on_ok_weaker}
-use Rattle.rept_infer.specs.Sweeps.{memory_of}
+use Rattle.rept_narrow.specs.Sweeps.{memory_of}
 use Rattle.rept_infer.proofs.Carrying.{bytes_true}
 use Rattle.rept_infer.proofs.sweeping.note_at.Goals as goal
 

@@ -1,6 +1,6 @@
 use Rattle.std.proofs.Common.{◌≡◌, ◌≤◌, ℕ, List, Some, slice_get, length, inl, inr, ap, subst, arith}
 use Rattle.std.proofs.lemmas.Bool.{cases_eq}
-use Rattle.rept_lanes.specs.declared.held.Held.{Held}
+use Rattle.rept_narrow.specs.declared.lanes.held.Held.{Held}
 use Rattle.rept_infer.proofs.Listing.{all_numbers}
 use Rattle.rept_infer.proofs.crossing.ByteCrossing.hits.Goals as goal
 

@@ -1,10 +1,10 @@
 use Rattle.std.proofs.Common.{◌≡◌, ◌<◌, ℕ, Some, slice_get}
 use Rattle.rept_machine.specs.State.{State}
-use Rattle.rept_lanes.specs.declared.held.Held.{Held}
-use Rattle.rept_lanes.specs.Lanes.{IsListed}
-use Rattle.rept_infer.specs.Admitted.{Story}
-use Rattle.rept_infer.specs.Rules.{HasSets, AreBytes, WritesNot}
-use Rattle.rept_infer.specs.Sweeps.{tells_in}
+use Rattle.rept_narrow.specs.declared.lanes.held.Held.{Held}
+use Rattle.rept_narrow.specs.Lanes.{IsListed}
+use Rattle.rept_narrow.specs.Admitted.{Story}
+use Rattle.rept_narrow.specs.Rules.{HasSets, AreBytes, WritesNot}
+use Rattle.rept_narrow.specs.Sweeps.{tells_in}
 use Rattle.rept_infer.proofs.crossing.ByteCrossing.hits.Given as goal
 
 abbrev pub invariant-loop-number : goal.invariant-loop-number

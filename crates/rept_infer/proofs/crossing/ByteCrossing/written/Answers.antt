@@ -1,13 +1,13 @@
 use Rattle.std.proofs.Common.{◌≡◌, ◌≤◌, ◌+◌, ◌<◌, ℤ, ℕ, List, Some, length, to_z, of_z, w32, rules, refl, sym, subst, arith}
 use Rattle.std.proofs.lemmas.Result.{IfOk-weaker}
 use Rattle.rept_isa.specs.Numbers.{plus}
-use Rattle.rept_infer.proofs.Sentences.{inside_rows}
+use Rattle.rept_narrow.proofs.Sentences.{inside_rows}
 use Rattle.rept_isa.specs.declared.instr.Instr.{Instr}
 use Rattle.rept_alias.specs.Accesses.{call_hits}
-use Rattle.rept_lanes.specs.declared.held.Held.{Held}
-use Rattle.rept_lanes.specs.Lanes.{held_at}
-use Rattle.rept_infer.specs.Stores.{IsAtomicAt}
-use Rattle.rept_infer.proofs.Touching.{touched_written}
+use Rattle.rept_narrow.specs.declared.lanes.held.Held.{Held}
+use Rattle.rept_narrow.specs.Lanes.{held_at}
+use Rattle.rept_narrow.specs.Stores.{IsAtomicAt}
+use Rattle.rept_narrow.proofs.Touching.{touched_written}
 use Rattle.rept_infer.proofs.Listing.{named_written}
 use Rattle.rept_infer.proofs.crossing.ByteCrossing.written.Goals as goal
 

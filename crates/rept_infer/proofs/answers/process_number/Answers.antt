@@ -1,5 +1,0 @@
-use Rattle.rept_infer.proofs.Answering.{all_has}
-use Rattle.rept_infer.proofs.answers.process_number.Goals as goal
-
-pub returns-in-None : goal.returns-in-None
-returns-in-None g c = λ v small same. all_has c.unknown.result v c.unknown.ensures small

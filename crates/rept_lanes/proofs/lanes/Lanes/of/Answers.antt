@@ -1,6 +1,0 @@
-use Rattle.std.proofs.lemmas.List.Sorted.{All-permutation}
-use Rattle.rept_lanes.specs.Lanes.{IsTrueSpan}
-use Rattle.rept_lanes.proofs.lanes.Lanes.of.Goals as goal
-
-pub returns : goal.returns
-returns c = λ memory are. All-permutation (IsTrueSpan memory) c.args.spans.items c.sort.new.spans.items c.sort.ensures.same are

@@ -1,6 +1,0 @@
-use Rattle.std.proofs.Common.{ℕ}
-use Rattle.rept_lanes.specs.Lanes.{IsTrueSweep}
-use Rattle.rept_lanes.proofs.sweep.Sweep.end_all.Given as goal
-
-abbrev pub invariant-loop-index : goal.invariant-loop-index
-invariant-loop-index l = (memory : ℕ → ℕ → ℕ) → IsTrueSweep memory l.fn.self → IsTrueSweep memory l.self

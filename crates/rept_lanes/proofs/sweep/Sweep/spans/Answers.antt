@@ -1,6 +1,0 @@
-use Rattle.std.proofs.Common.{sym, subst}
-use Rattle.rept_lanes.specs.Lanes.{SweepView, IsTrueSweep}
-use Rattle.rept_lanes.proofs.sweep.Sweep.spans.Goals as goal
-
-pub returns : goal.returns
-returns c = λ memory t. (subst (λ (x : SweepView). IsTrueSweep memory x) (sym c.sweep.view_is) (c.in_ok-end_all.ensures memory t)).spans

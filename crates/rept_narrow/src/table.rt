@@ -1,0 +1,133 @@
+//! The sets of values of registers along one path.
+
+ghost use Rattle.std.specs.Prelude.{◌≡◌, ◌+◌, ◌*◌, ◌<◌, ◌≤◌, ◌/◌, ◌%◌, ◌^◌, ℕ, length, OnOk, OnErr, IfOk, Some, slice_get};
+ghost use Rattle.rept_machine.specs.State.{State};
+ghost use Rattle.rept_narrow.specs.Admitted.{Story};
+ghost use Rattle.rept_narrow.specs.Rules.{set_at, HasSets, KeepsSets, IsSoundIn};
+
+use crate::known::KnownPath;
+use rept_isa::{Reg, register};
+use rept_known::Both;
+use rept_partial::Partial;
+use std::alloc::{AllocError as OutOfMemory, Global};
+use std::marker::Model;
+
+/// No value is left for the register at this point: no admitted execution has what was told.
+#[derive(Clone, Copy, Debug)]
+pub struct Empty {
+    /// the point, from 0 before the first row to the number of rows after the last one
+    pub point: u32,
+    /// the register
+    pub reg: Reg,
+}
+
+/// A set of values for each of the 32 registers at each point.
+#[derive(Drop)]
+pub struct Table {
+    points: u32,
+    items: Vec<Both>,
+}
+
+impl Model for Table {
+    ghost use Rattle.std.specs.Prelude.{◌≡◌, ◌*◌, length};
+    ghost use Rattle.rept_known.specs.declared.both.Both.{Both};
+    ghost use Rattle.rept_span.specs.Filled.{View};
+
+    ghost Value = { View Both };
+
+    ghost view = { λ t. record { points = t.points; items = t.items.items } };
+
+    ghost invariant = { λ t. length t.items.items ≡ t.points * 32 };
+}
+
+/// Where the set of a register at a point stands.
+fn place(point: u32, r: Reg) -> usize
+    ensures place { result ≡ point * 32 + r }
+    ensures in_file { r < 32 }
+{
+    point as usize * 32 + usize::from(r.number())
+}
+
+/// The sets that are known, point by point, in the order of the registers.
+fn known_sets<K: KnownPath>(
+    alloc: Global,
+    known: &K,
+    count: usize,
+) -> Result<Vec<Both>, OutOfMemory>
+    requires small { count < 2 ^ 32 * 32 }
+    ensures length { IfOk result (λ v. length v.items ≡ count) }
+    ensures known { IfOk result (λ v. (k : ℕ) → k < count → slice_get v.items k ≡ Some (K.set known.now (k / 32) (k % 32))) }
+{
+    let mut v = Vec::with_capacity(alloc, count)?;
+    for k in 0..count {
+        v.push(known.set((k / 32) as u32, register((k % 32) as u8)))?;
+    }
+    Ok(v)
+}
+
+impl Table {
+    /// A table of so many points with the sets that are known.
+    pub fn of_known<K: KnownPath>(
+        alloc: Global,
+        known: &K,
+        points: u32,
+    ) -> Result<Table, OutOfMemory>
+        ensures points { IfOk result (λ t. t.points ≡ points) }
+        ensures known { IfOk result (λ t. (p r : ℕ) → p < points → r < 32 → set_at t p r ≡ Some (K.set known.now p r)) }
+    {
+        let items = known_sets(alloc, known, points as usize * 32)?;
+        Ok(Table { points, items })
+    }
+
+    /// How many points there are.
+    pub fn points(&self) -> u32
+        ensures points { result ≡ self.now.points }
+        ensures long { length self.now.items ≡ self.now.points * 32 }
+    {
+        self.points
+    }
+
+    /// The set of a register at a point.
+    pub fn at(&self, point: u32, r: Reg) -> Both
+        requires point { point < self.now.points }
+        ensures value { set_at self.now point r ≡ Some result }
+    {
+        let _points = &self.points;
+        self.items[place(point, r)]
+    }
+
+    /// Writes the set of a register at a point.
+    fn set(&mut self, point: u32, r: Reg, w: Both)
+        requires point { point < self.old.points }
+        ensures points { self.new.points ≡ self.old.points }
+        ensures here { set_at self.new point r ≡ Some w }
+        ensures others { (q s : ℕ) → ((q ≡ point) × (s ≡ r) → ⊥) → set_at self.new q s ≡ set_at self.old q s }
+    {
+        let _points = &self.points;
+        let place = place(point, r);
+        self.items[place] = w;
+    }
+
+    /// Cuts the set of a register at a point to the values that another set has, too; answers
+    /// whether it changed. The rule that found the other set shows that it is sound. What held
+    /// after holds before: no set gets wider.
+    pub fn narrow(&mut self, point: u32, r: Reg, set: Both) -> Result<bool, Empty>
+        requires point { point < self.old.points }
+        ensures points { self.new.points ≡ self.old.points }
+        ensures narrower { (story : Story) → KeepsSets story self.new self.old }
+        ensures keeps { OnOk result ((story : Story) (run : ℕ → State) → HasSets story self.old run → IsSoundIn story run point r set → HasSets story self.new run) }
+        ensures refuses { OnErr result ((story : Story) (run : ℕ → State) → HasSets story self.old run → IsSoundIn story run point r set → point ≤ length story.rows → ⊥) }
+    {
+        let old = self.at(point, r);
+        match old.meet(set) {
+            None => Err(Empty { point, reg: r }),
+            Some(met) => {
+                if met == old {
+                    return Ok(false);
+                }
+                self.set(point, r, met);
+                Ok(true)
+            }
+        }
+    }
+}
