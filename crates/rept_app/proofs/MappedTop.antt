@@ -35,13 +35,13 @@ both_at r a l m old new e same h = (ok_at r a (asked.Maps l) (λ x. IsAsked x m 
 pub both_loads : (m : Option Meaning) (core : List ℕ) (old mid : Shelved) → LoadsBoth m core (move old mid) → mid.loads ≡ core_loads_to file.Trace old.loads
 both_loads None core old mid h = absurd h
 both_loads (Some (Made seed steps)) core old mid h = absurd h
-both_loads (Some (Maps names from)) core old mid h = h.loads
+both_loads (Some (Maps d names from)) core old mid h = h.loads
 both_loads (Some (Open d names from)) core old mid h = absurd h
 
 pub both_named : {P : Type 0} (m : Option Meaning) (core : List ℕ) (old mid : Shelved) → LoadsBoth m core (move old mid) → NamesNone m → P
 both_named None core old mid h none = absurd h
 both_named (Some (Made seed steps)) core old mid h none = absurd h
-both_named (Some (Maps names from)) core old mid h none = absurd none
+both_named (Some (Maps d names from)) core old mid h none = absurd none
 both_named (Some (Open d names from)) core old mid h none = absurd h
 
 pub both_mean : {P : Type 0} (m : Option Meaning) (core : List ℕ) (old mid : Shelved) → LoadsBoth m core (move old mid) → m ≡ None → P
@@ -52,7 +52,7 @@ both_mean {P} m core old mid h e =
 pub both_asks : (m : Option Meaning) (core : List ℕ) (old mid : Shelved) (status : ExitStatus) → LoadsBoth m core (move old mid) → AskedEnds m status
 both_asks None core old mid status h = tt
 both_asks (Some (Made seed steps)) core old mid status h = absurd h
-both_asks (Some (Maps names from)) core old mid status h = tt
+both_asks (Some (Maps d names from)) core old mid status h = tt
 both_asks (Some (Open d names from)) core old mid status h = tt
 
 -- statuses of words and files are none of a trace
@@ -134,13 +134,13 @@ module _ (old mid new : Shelved) (c : CoreBytes) (source sink : PortMove Port) (
   mapped_once None h ends_all = absurd h
   mapped_once (Some (Made seed steps)) h ends_all = absurd h
   mapped_once (Some (Open d names from)) h ends_all = absurd h
-  mapped_once (Some (Maps names from)) h ends_all = by_counts (told_counts old.files ends_all counts_here)
+  mapped_once (Some (Maps d names from)) h ends_all = by_counts (told_counts old.files ends_all counts_here)
 
   pub mapped_loads : (m : Option Meaning) → LoadsBoth m c.core (move old mid) → LoadsOf m (move old new) status
   mapped_loads None h = absurd h
   mapped_loads (Some (Made seed steps)) h = absurd h
   mapped_loads (Some (Open d names from)) h = absurd h
-  mapped_loads (Some (Maps names from)) h =
+  mapped_loads (Some (Maps d names from)) h =
       inr (inl (record { core = c.core; found = h.found; named = subst (λ n. NamesLoaded c.core (move n new.loads) status) h.loads is.loads }))
 
   pub mapped_usage : {P : Type 0} → status ≡ ends.Usage → P

@@ -34,7 +34,6 @@ use Rattle.rept_opening.proofs.RunLemmas.{IsWhole}
 use Rattle.rept_opening.proofs.TrueLemmas.{ReportsAreTrue, opened_whole}
 use Rattle.rept_opening.specs.Words.Words.{CoreNames, Names, Meaning, meaning_of}
 use Rattle.rept_opening.specs.Words.Words.Meaning.{Open, Maps, Made as MadeWords}
-use Rattle.rept_opening.specs.declared.words.request.Domain.TheVariants as domain
 
 -- a trace that is refused, or no memory
 path_status : (f : PathFault) → (status_of_path f ≡ ends.Trace) ⊎ (status_of_path f ≡ ends.OutOfMemory)
@@ -106,7 +105,7 @@ two_files files names manner =
 no_conflict : (files : Files) (m : Option Meaning) → IsNoConflict (loading_by files m)
 no_conflict files None = λ (e : ends.Usage ≡ ends.Inconsistent). cc
 no_conflict files (Some (MadeWords seed steps)) = tt
-no_conflict files (Some (Maps names from)) = two_files files names (manner_of domain.Ranges from)
+no_conflict files (Some (Maps d names from)) = two_files files names (manner_of d from)
 no_conflict files (Some (Open d names from)) = all_files files names (manner_of d from)
 
 -- the trace of these files tells a run, and it is analysed

@@ -21,7 +21,6 @@ use Rattle.rept_opening.specs.Opened.{IsCrashOf, Opening, run_at, told_in}
 use Rattle.rept_app.specs.Top.{TopCauses, FileStoreCauses, LacksFile, LoadEnds, LoadsOf, EndsAt, EndsByFiles, AskedEnds, NoneFails, Completes}
 use Rattle.rept_opening.specs.Words.Words.{Meaning, meaning_of}
 use Rattle.rept_opening.specs.Words.Words.Meaning.{Open, Maps, Made}
-use Rattle.rept_opening.specs.declared.words.request.Domain.TheVariants as domain
 use Rattle.rept_opening.specs.declared.load.OpenOptions.{OpenOptions}
 use Rattle.rept_opening.specs.declared.load.LoadedRequest.{LoadedRequest}
 use Rattle.rept_opening.specs.declared.load.LoadedRequest.TheVariants as asked
@@ -64,7 +63,7 @@ module _ (words : List (List ℕ)) (files : Files) where
 
   named_loads : (old new : Shelved) (kind : FileKind) → Came words files old new kind → LoadsFiles (loading words files)
   named_loads old new kind (inl ((d, names, from, named, before), loads)) = subst LoadsFiles (sym (ap (loading_by files) named)) (all_fetched files names (manner_of d from))
-  named_loads old new kind (inr ((names, from, named, before), loads)) = subst LoadsFiles (sym (ap (loading_by files) named)) (core_fetched files names (manner_of domain.Ranges from))
+  named_loads old new kind (inr ((d, names, from, named, before), loads)) = subst LoadsFiles (sym (ap (loading_by files) named)) (core_fetched files names (manner_of d from))
 
   by_refusal : (r s : Refusal) (status : ExitStatus) → r ≡ s → Yields (status_of r) status → Yields (status_of s) status
   by_refusal r s status e h = subst (λ (x : Refusal). Yields (status_of x) status) e h
@@ -264,7 +263,7 @@ module _ (old new : Shelved) (source : Port) (sink : PortMove Port) (status : Ex
   meaning_causes None r h so =
       idle_causes ends.Usage (λ (e : ends.Usage ≡ ends.LoadFault). cc) (λ (e : ends.Usage ≡ ends.NoFile). cc) (λ (e : ends.Usage ≡ ends.TooLarge). cc) (ap (λ (s : Shelved). s.faults) h.1) (by r refusal.Usage h.0 so)
   meaning_causes (Some (Made seed steps)) r h so = absurd h
-  meaning_causes (Some (Maps names from)) r (kind, s) so = file_causes (core_name_of names kind) kind r (why old new (core_name_of names kind) kind r s.why) so
+  meaning_causes (Some (Maps d names from)) r (kind, s) so = file_causes (core_name_of names kind) kind r (why old new (core_name_of names kind) kind r s.why) so
   meaning_causes (Some (Open d names from)) r (kind, s) so = file_causes (name_of names kind) kind r (why old new (name_of names kind) kind r s.why) so
 
   -- a made run
@@ -285,7 +284,7 @@ module _ (old new : Shelved) (source : Port) (sink : PortMove Port) (status : Ex
   meaning_loads : (m : Option Meaning) (r : Refusal) → MeaningStops m (move old new) r → Yields (status_of r) status → LoadsOf m (move old new) status
   meaning_loads None r h so = tt
   meaning_loads (Some (Made seed steps)) r h so = absurd h
-  meaning_loads (Some (Maps names from)) r (kind, s) so = inl (record {
+  meaning_loads (Some (Maps d names from)) r (kind, s) so = inl (record {
     last = kind;
     one = s.one;
     before = s.before;
@@ -302,7 +301,7 @@ module _ (old new : Shelved) (source : Port) (sink : PortMove Port) (status : Ex
   none_loads : (m : Option Meaning) → new ≡ old → Stopped status → LoadsOf m (move old new) status
   none_loads None same stopped = tt
   none_loads (Some (Made seed steps)) same stopped = tt
-  none_loads (Some (Maps names from)) same stopped = inr (inr (same, stopped))
+  none_loads (Some (Maps d names from)) same stopped = inr (inr (same, stopped))
   none_loads (Some (Open d names from)) same stopped = inr (same, stopped)
 
   pub refused_loads : (m : Option Meaning) (r : Refusal) → LoadingStops m (move old new) r → Yields (status_of r) status → LoadsOf m (move old new) status
@@ -335,7 +334,7 @@ file_status old new name kind r other is (inr (inr (inr h))) e = is.memory (ap s
 meaning_status : (old new : Shelved) (m : Option Meaning) (r : Refusal) (other : ExitStatus) → IsOther other → MeaningStops m (move old new) r → status_of r ≡ other → ⊥
 meaning_status old new None r other is h e = is.usage (ap status_of (sym h.0) ∙ e)
 meaning_status old new (Some (Made seed steps)) r other is h e = absurd h
-meaning_status old new (Some (Maps names from)) r other is (kind, s) e = file_status old new (core_name_of names kind) kind r other is (why old new (core_name_of names kind) kind r s.why) e
+meaning_status old new (Some (Maps d names from)) r other is (kind, s) e = file_status old new (core_name_of names kind) kind r other is (why old new (core_name_of names kind) kind r s.why) e
 meaning_status old new (Some (Open d names from)) r other is (kind, s) e = file_status old new (name_of names kind) kind r other is (why old new (name_of names kind) kind r s.why) e
 
 pub no_status : (old new : Shelved) (m : Option Meaning) (r : Refusal) (other : ExitStatus) → IsOther other → LoadingStops m (move old new) r → status_of r ≡ other → ⊥
@@ -346,7 +345,7 @@ no_status old new m r other is (inr h) e = meaning_status old new m r other is h
 pub all_loads : (old new : Shelved) (m : Option Meaning) (status : ExitStatus) → LoadsAll m (move old new) → LoadsOf m (move old new) status
 all_loads old new None status h = absurd h
 all_loads old new (Some (Made seed steps)) status h = absurd h
-all_loads old new (Some (Maps names from)) status h = absurd h
+all_loads old new (Some (Maps d names from)) status h = absurd h
 all_loads old new (Some (Open d names from)) status h = inl (record { last = file.Trace; before = h.before; loads = h.loads; all = inl refl })
 
 -- the causes of a call whose files were loaded
@@ -422,19 +421,19 @@ holds_where o H bytes status h (inr f) = inr (f.1, where_some o H (λ files at. 
 -- what is said of words that ask for a made run, and isn't of others
 pub asked_holds : (m : Option Meaning) → ((seed steps : ℕ) → MadeHolds seed steps) → AskedHolds m
 asked_holds None h = tt
-asked_holds (Some (Maps names from)) h = tt
+asked_holds (Some (Maps d names from)) h = tt
 asked_holds (Some (Open d names from)) h = tt
 asked_holds (Some (Made seed steps)) h = h seed steps
 
 pub loaded_asks : (m : Option Meaning) (old new : Shelved) (status : ExitStatus) → LoadsAll m (move old new) → AskedEnds m status
 loaded_asks None old new status h = tt
-loaded_asks (Some (Maps names from)) old new status h = tt
+loaded_asks (Some (Maps d names from)) old new status h = tt
 loaded_asks (Some (Open d names from)) old new status h = tt
 loaded_asks (Some (Made seed steps)) old new status h = absurd h
 
 pub loads_named : {P : Type 0} (m : Option Meaning) (old new : Shelved) → LoadsAll m (move old new) → NamesNone m → P
 loads_named None old new h none = absurd h
-loads_named (Some (Maps names from)) old new h none = absurd none
+loads_named (Some (Maps d names from)) old new h none = absurd none
 loads_named (Some (Open d names from)) old new h none = absurd none
 loads_named (Some (Made seed steps)) old new h none = absurd h
 
@@ -447,7 +446,7 @@ memory_ends r status e so = stop (subst (λ (x : Refusal). Yields (status_of x) 
 
 pub refused_asks : (m : Option Meaning) (old new : Shelved) (r : Refusal) (status : ExitStatus) → LoadingStops m (move old new) r → Yields (status_of r) status → AskedEnds m status
 refused_asks None old new r status h so = tt
-refused_asks (Some (Maps names from)) old new r status h so = tt
+refused_asks (Some (Maps d names from)) old new r status h so = tt
 refused_asks (Some (Open d names from)) old new r status h so = tt
 refused_asks (Some (Made seed steps)) old new r status (inl h) so = memory_ends r status h.0 so
 refused_asks (Some (Made seed steps)) old new r status (inr h) so = absurd h

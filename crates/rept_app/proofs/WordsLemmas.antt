@@ -5,14 +5,15 @@ use Rattle.std.specs.List.{list_all}
 use Rattle.std.specs.Option.{option_and_then}
 use Rattle.std.specs.Str.{bytes_eq}
 use Rattle.rept_word.specs.Parsing.Numbers.{decimal_of}
-use Rattle.rept_opening.specs.Words.Words.{CoreNames, Names, Meaning, maps_from, is_plain, steps_of, made_of, domain_of, plain_meaning, meaning_of}
+use Rattle.rept_opening.specs.Words.Words.{CoreNames, Names, Meaning, maps_from, asks_maps, opened_by, is_plain, steps_of, made_of, domain_of, plain_meaning, meaning_of}
 use Rattle.rept_opening.specs.Words.Words.Meaning.{Open, Maps, Made}
 use Rattle.rept_opening.specs.declared.words.request.Domain.{Domain}
+use Rattle.rept_opening.specs.declared.words.request.Domain.TheVariants as domain
 
 -- it is one of 1 to 20000
 abbrev pub AsksFew : Option Meaning → Type 0
 AsksFew None = Unit {0}
-AsksFew (Some (Maps names from)) = Unit {0}
+AsksFew (Some (Maps d names from)) = Unit {0}
 AsksFew (Some (Open d names from)) = Unit {0}
 AsksFew (Some (Made seed steps)) = (1 ≤ steps) × (steps ≤ 20000)
 
@@ -43,13 +44,20 @@ seeded_few (Some s) steps h = made_few s steps h
 made_of_few : (seed steps : List ℕ) → AsksFew (made_of seed steps)
 made_of_few seed steps = seeded_few (decimal_of seed) (steps_of steps) (few_of (decimal_of steps))
 
-maps_few : (names : CoreNames) (o : Option ℕ) → AsksFew (option_and_then (λ k. Some (Maps names (Some k))) o)
+maps_few : (names : CoreNames) (o : Option ℕ) → AsksFew (option_and_then (λ k. Some (Maps domain.Ranges names (Some k))) o)
 maps_few names None = tt
 maps_few names (Some k) = tt
 
-from_few : (d : Domain) (names : Names) (o : Option ℕ) → AsksFew (option_and_then (λ k. Some (Open d names (Some k))) o)
+chosen_few : (b : Bool) (x y : Meaning) → AsksFew (Some x) → AsksFew (Some y) → AsksFew (Some (cond b x y))
+chosen_few true x y h k = h
+chosen_few false x y h k = k
+
+opened_few : (d : Domain) (names : Names) (from : Option ℕ) → AsksFew (Some (opened_by d names from))
+opened_few d names from = chosen_few (asks_maps d names.exe) (Maps d (record { core = names.core; trace = names.trace }) from) (Open d names from) tt tt
+
+from_few : (d : Domain) (names : Names) (o : Option ℕ) → AsksFew (option_and_then (λ k. Some (opened_by d names (Some k))) o)
 from_few d names None = tt
-from_few d names (Some k) = tt
+from_few d names (Some k) = opened_few d names (Some k)
 
 domain_few : (f : Domain → Option Meaning) (o : Option Domain) → ((d : Domain) → AsksFew (f d)) → AsksFew (option_and_then f o)
 domain_few f None h = tt
@@ -61,15 +69,15 @@ plain_few (a ∷ []) = tt
 plain_few (a ∷ b ∷ []) = tt
 plain_few (first ∷ seed ∷ steps ∷ []) =
     let names : CoreNames = record { core = seed; trace = steps } in
-    either (bytes_eq first (codes "self")) (made_of seed steps) (cond (bytes_eq first (codes "maps")) (Some (Maps names None)) None) (made_of_few seed steps)
-    (either (bytes_eq first (codes "maps")) (Some (Maps names None)) None tt tt)
+    either (bytes_eq first (codes "self")) (made_of seed steps) (cond (bytes_eq first (codes "maps")) (Some (Maps domain.Ranges names None)) None) (made_of_few seed steps)
+    (either (bytes_eq first (codes "maps")) (Some (Maps domain.Ranges names None)) None tt tt)
 plain_few (first ∷ exe ∷ core ∷ trace ∷ []) =
     let names : CoreNames = record { core = exe; trace = core } in
-    let opened : Option Meaning = option_and_then (λ d. Some (Open d (record { exe = exe; core = core; trace = trace }) None)) (domain_of first) in
+    let opened : Option Meaning = option_and_then (λ d. Some (opened_by d (record { exe = exe; core = core; trace = trace }) None)) (domain_of first) in
     either (bytes_eq first (codes "maps")) (maps_from names trace) opened (maps_few names (decimal_of trace))
-    (domain_few (λ d. Some (Open d (record { exe = exe; core = core; trace = trace }) None)) (domain_of first) (λ d. tt))
+    (domain_few (λ d. Some (opened_by d (record { exe = exe; core = core; trace = trace }) None)) (domain_of first) (λ d. opened_few d (record { exe = exe; core = core; trace = trace }) None))
 plain_few (first ∷ exe ∷ core ∷ trace ∷ from ∷ []) =
-    domain_few (λ d. option_and_then (λ k. Some (Open d (record { exe = exe; core = core; trace = trace }) (Some k))) (decimal_of from)) (domain_of first) (λ d. from_few d (record { exe = exe; core = core; trace = trace }) (decimal_of from))
+    domain_few (λ d. option_and_then (λ k. Some (opened_by d (record { exe = exe; core = core; trace = trace }) (Some k))) (decimal_of from)) (domain_of first) (λ d. from_few d (record { exe = exe; core = core; trace = trace }) (decimal_of from))
 plain_few (a ∷ b ∷ c ∷ d ∷ e ∷ f ∷ more) = tt
 
 pub asks_few : (words : List (List ℕ)) (seed steps : ℕ) → meaning_of words ≡ Some (Made seed steps) → (1 ≤ steps) × (steps ≤ 20000)

@@ -41,7 +41,7 @@ MadeHolds seed steps =
 -- the same of words that ask for a made run
 abbrev pub AskedHolds : Option Meaning → Type 0
 AskedHolds None = Unit {0}
-AskedHolds (Some (Maps names from)) = Unit {0}
+AskedHolds (Some (Maps d names from)) = Unit {0}
 AskedHolds (Some (Open d names from)) = Unit {0}
 AskedHolds (Some (MadeWords seed steps)) = MadeHolds seed steps
 

@@ -73,7 +73,7 @@ pub record MappedLoads (names : CoreNames) (file_store : PortMove Shelved) (stat
 abbrev pub LoadsOf : Option Meaning → PortMove Shelved → ExitStatus → Type 0
 LoadsOf None file_store status = Unit {0}
 LoadsOf (Some (Made seed steps)) file_store status = Unit {0}
-LoadsOf (Some (Maps names from)) file_store status = LastCoreLoad names file_store status ⊎ MappedLoads names file_store status ⊎ ((file_store.after ≡ file_store.before) × Stopped status)
+LoadsOf (Some (Maps d names from)) file_store status = LastCoreLoad names file_store status ⊎ MappedLoads names file_store status ⊎ ((file_store.after ≡ file_store.before) × Stopped status)
 LoadsOf (Some (Open d names from)) file_store status = LastLoad names file_store status ⊎ ((file_store.after ≡ file_store.before) × Stopped status)
 
 -- a call that ends so, unless a file can't be loaded, the output fails, or memory runs out
@@ -106,6 +106,6 @@ Completes g sink status = (status ≡ ends.OutOfMemory) ⊎ ((text : List ℕ) �
 -- fails or memory runs out
 abbrev pub AskedEnds : Option Meaning → ExitStatus → Type 0
 AskedEnds None status = Unit {0}
-AskedEnds (Some (Maps names from)) status = Unit {0}
+AskedEnds (Some (Maps d names from)) status = Unit {0}
 AskedEnds (Some (Open d names from)) status = Unit {0}
 AskedEnds (Some (Made seed steps)) status = Yields ends.Ok status

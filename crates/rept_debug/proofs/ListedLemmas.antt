@@ -101,7 +101,7 @@ said_ok {T} {E} r x P is h = let Q : Result T E → Type 0 = λ w. OnOk w P in s
 pub both_loads : (m : Option Meaning) (core : List ℕ) (file_store : PortMove Shelved) → LoadsBoth m core file_store → file_store.after.loads ≡ core_loads_to file.Trace file_store.before.loads
 both_loads None core file_store h = absurd h
 both_loads (Some (Made seed steps)) core file_store h = absurd h
-both_loads (Some (Maps names from)) core file_store h = h.loads
+both_loads (Some (Maps d names from)) core file_store h = h.loads
 both_loads (Some (Open d names from)) core file_store h = absurd h
 
 -- and what the loads of mapped files do to the file store after them
@@ -117,5 +117,5 @@ module _ {T E : Type 0} (old between new : Shelved) (same : between.files ≡ ol
   pub mapped_moves : (m : Option Meaning) (core : List ℕ) → LoadsBoth m core (move old between) → IfSome between.files (λ _. new.faults ≤ between.faults + 1) → OnOk r (IfSome between.files (λ _. new.faults ≡ between.faults)) → FaultsEnd m old.files → FileStoreMoves (move old new) r
   mapped_moves None core h once quiet ends = absurd h
   mapped_moves (Some (Made seed steps)) core h once quiet ends = absurd h
-  mapped_moves (Some (Maps names from)) core h once quiet ends = told_moves between.files once quiet (subst (λ (o : Option Files). MatchOption o ⊥ (λ _. Unit {0})) (sym same) ends)
+  mapped_moves (Some (Maps d names from)) core h once quiet ends = told_moves between.files once quiet (subst (λ (o : Option Files). MatchOption o ⊥ (λ _. Unit {0})) (sym same) ends)
   mapped_moves (Some (Open d names from)) core h once quiet ends = absurd h

@@ -31,15 +31,15 @@ pub record DebugProcess : Type 0 where
 abbrev pub process : Result (List (List ℕ)) Unreadable → PortMove Shelved → PortMove Port → PortMove Port → PortMove Port → DebugProcess
 process words file_store input output errors = record { words = words; file_store = file_store; input = input; output = output; errors = errors }
 
--- the first word is `maps` or `infer`
+-- the first word is `open`, `bits` or `infer`
 abbrev pub names_way : List (List ℕ) → Bool
 names_way [] = false
-names_way (first ∷ words) = bytes_eq first (codes "maps") || bytes_eq first (codes "infer")
+names_way (first ∷ words) = bytes_eq first (codes "open") || bytes_eq first (codes "bits") || bytes_eq first (codes "infer")
 
--- the words of a session over the same crash: these, where the first is `maps` or `infer`, and else
--- `open` and these
+-- the words of a session over the same crash: these, where the first is `open`, `bits` or `infer`,
+-- and else `infer` and these
 abbrev pub session_words : List (List ℕ) → List (List ℕ)
-session_words words = if names_way words then words else codes "open" ∷ words
+session_words words = if names_way words then words else codes "infer" ∷ words
 
 -- the status of a dialog that was held; a debugger that is gone is no fault
 abbrev pub status_of_end : SessionEnd → ExitStatus
@@ -53,7 +53,7 @@ status_of_end conversed.OutOfMemory = ends.OutOfMemory
 
 -- the line of a refusal: that of a session, or, of words, this program's own
 abbrev pub TellsRefusal : Refusal → List ℕ → ExitStatus → Type 0
-TellsRefusal refusal.Usage text status = text ≡ codes "usage: rept_gdb [infer] EXE CORE TRACE [FROM] | rept_gdb maps CORE TRACE [FROM]" ++ 10 ∷ []
+TellsRefusal refusal.Usage text status = text ≡ codes "usage: rept_gdb [open|bits|infer] EXE CORE TRACE [FROM] | rept_gdb maps CORE TRACE [FROM]" ++ 10 ∷ []
 TellsRefusal r text status = SaysOrNoMemory r text status
 
 -- why no dialog is held

@@ -21,27 +21,29 @@ use std::alloc::Global;
 use std::process::ExitCode;
 use std::{env, io};
 
-/// Whether the first word is `maps` or `infer`.
+/// Whether the first word is `open`, `bits` or `infer`.
 fn names_way(words: &[String]) -> bool
     ensures { result ≡ names_way (map string_bytes words.now) }
 {
     match words {
         [] => false,
-        [first, ..] => first.as_str() == "maps" || first.as_str() == "infer",
+        [first, ..] => {
+            first.as_str() == "open" || first.as_str() == "bits" || first.as_str() == "infer"
+        }
     }
 }
 
-/// The words of a session over the crash that these words name: these, where the first is `maps` or
-/// `infer`, and else `open` and these.
+/// The words of a session over the crash that these words name: these, where the first is `open`,
+/// `bits` or `infer`, and else `infer` and these.
 fn session_words(alloc: Global, words: Vec<String>) -> Result<Vec<String>, OutOfMemory>
     ensures { IfOk result (λ all. map string_bytes all.items ≡ session_words (map string_bytes words.items)) }
 {
     if names_way(words.as_slice()) {
         return Ok(words);
     }
-    let open = String::from_str(alloc, "open")?;
+    let infer = String::from_str(alloc, "infer")?;
     let mut all = words;
-    all.insert(0, open)?;
+    all.insert(0, infer)?;
     Ok(all)
 }
 

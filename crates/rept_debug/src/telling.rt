@@ -16,7 +16,7 @@ fn tell_refusal<E: Sink>(alloc: Global, errors: &mut E, refusal: &Refusal) -> Ex
     match refusal {
         Refusal::Usage => deliver(
             errors,
-            b"usage: rept_gdb [infer] EXE CORE TRACE [FROM] | rept_gdb maps CORE TRACE [FROM]\n",
+            b"usage: rept_gdb [open|bits|infer] EXE CORE TRACE [FROM] | rept_gdb maps CORE TRACE [FROM]\n",
             ExitStatus::Usage,
         ),
         _ => tell(alloc, errors, refusal),

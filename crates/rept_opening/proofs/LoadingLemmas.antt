@@ -9,7 +9,6 @@ use Rattle.rept_opening.specs.Loading.Loading.{Refused, Loaded, LoadedCore, Made
 use Rattle.rept_opening.specs.Words.Words.{CoreNames, Names, Meaning, meaning_of}
 use Rattle.rept_opening.specs.Words.Words.Meaning.{Open, Maps, Made}
 use Rattle.rept_opening.specs.declared.words.request.Domain.{Domain}
-use Rattle.rept_opening.specs.declared.words.request.Domain.TheVariants as domain
 use Rattle.rept_opening.specs.declared.load.OpenOptions.{OpenOptions}
 use Rattle.rept_opening.specs.declared.refusal.FileKind.{FileKind}
 use Rattle.rept_opening.specs.declared.refusal.FileKind.TheVariants as file
@@ -145,20 +144,20 @@ module _ (words : List (List ℕ)) (files : Files) where
       inr (inr (ap (loading_by files) named ∙ over files names (manner_of d from) kind before (at_told old.files _ (λ fs. IsOver fs (name_of names kind) (limit_of kind) × (new.faults ≡ old.faults)) files told h.1).0 ∙ ap Refused (sym h.0)))
   names_stop old new d names from kind r told named before loads (inr (inr (inr h))) = inr (inl h)
 
-  core_stop : (old new : Shelved) (names : CoreNames) (from : Option ℕ) (kind : FileKind) (r : Refusal) → old.files ≡ Some files → meaning_of words ≡ Some (Maps names from) → CoreFitBefore files names kind → new.loads ≡ core_loads_to kind old.loads
+  core_stop : (old new : Shelved) (d : Domain) (names : CoreNames) (from : Option ℕ) (kind : FileKind) (r : Refusal) → old.files ≡ Some files → meaning_of words ≡ Some (Maps d names from) → CoreFitBefore files names kind → new.loads ≡ core_loads_to kind old.loads
       → Why old new (core_name_of names kind) kind r → Stops old new r
-  core_stop old new names from kind r told named before loads (inl h) = inl (kind, h.0, inr ((names, from, named, before), loads))
-  core_stop old new names from kind r told named before loads (inr (inl h)) =
-      inr (inr (ap (loading_by files) named ∙ core_lacks files names (manner_of domain.Ranges from) kind before (at_told old.files _ (λ fs. (fs (core_name_of names kind) ≡ None) × (new.faults ≡ old.faults)) files told h.1).0 ∙ ap Refused (sym h.0)))
-  core_stop old new names from kind r told named before loads (inr (inr (inl h))) =
-      inr (inr (ap (loading_by files) named ∙ core_over files names (manner_of domain.Ranges from) kind before (at_told old.files _ (λ fs. IsOver fs (core_name_of names kind) (limit_of kind) × (new.faults ≡ old.faults)) files told h.1).0 ∙ ap Refused (sym h.0)))
-  core_stop old new names from kind r told named before loads (inr (inr (inr h))) = inr (inl h)
+  core_stop old new d names from kind r told named before loads (inl h) = inl (kind, h.0, inr ((d, names, from, named, before), loads))
+  core_stop old new d names from kind r told named before loads (inr (inl h)) =
+      inr (inr (ap (loading_by files) named ∙ core_lacks files names (manner_of d from) kind before (at_told old.files _ (λ fs. (fs (core_name_of names kind) ≡ None) × (new.faults ≡ old.faults)) files told h.1).0 ∙ ap Refused (sym h.0)))
+  core_stop old new d names from kind r told named before loads (inr (inr (inl h))) =
+      inr (inr (ap (loading_by files) named ∙ core_over files names (manner_of d from) kind before (at_told old.files _ (λ fs. IsOver fs (core_name_of names kind) (limit_of kind) × (new.faults ≡ old.faults)) files told h.1).0 ∙ ap Refused (sym h.0)))
+  core_stop old new d names from kind r told named before loads (inr (inr (inr h))) = inr (inl h)
 
   words_stop : (old new : Shelved) (r : Refusal) → old.files ≡ Some files → (m : Option Meaning) → meaning_of words ≡ m → MeaningStops m (move old new) r → Stops old new r
   words_stop old new r told None e h = inr (inr (ap (loading_by files) e ∙ ap Refused (sym h.0)))
   words_stop old new r told (Some (Made seed steps)) e h = absurd h
-  words_stop old new r told (Some (Maps names from)) e (kind, s) =
-      core_stop old new names from kind r told e (at_files old.files (λ fs. CoreFitBefore fs names kind) files told s.before) s.loads (why old new (core_name_of names kind) kind r s.why)
+  words_stop old new r told (Some (Maps d names from)) e (kind, s) =
+      core_stop old new d names from kind r told e (at_files old.files (λ fs. CoreFitBefore fs names kind) files told s.before) s.loads (why old new (core_name_of names kind) kind r s.why)
   words_stop old new r told (Some (Open d names from)) e (kind, s) =
       names_stop old new d names from kind r told e (at_files old.files (λ fs. FitBefore fs names kind) files told s.before) s.loads (why old new (name_of names kind) kind r s.why)
 

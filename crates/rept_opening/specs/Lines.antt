@@ -142,7 +142,7 @@ abbrev pub contradiction_text : Contradiction → List ℕ
 contradiction_text c = conflict_text c.at.place c.kind ++ thread_named c.threads c.at.thread
 
 abbrev pub words_of : Refusal → List ℕ
-words_of refusal.Usage = codes "usage: rept open|bits|infer EXE CORE TRACE [FROM] | rept self SEED STEPS | rept maps CORE TRACE [FROM]"
+words_of refusal.Usage = codes "usage: rept open|bits|infer EXE CORE TRACE [FROM] | rept self SEED STEPS | rept maps CORE TRACE [FROM] | rept infer maps CORE TRACE [FROM]"
 words_of (refusal.LoadFault f) = codes "load-fault " ++ file_word f
 words_of (refusal.NoFile f) = codes "no-file " ++ file_word f
 words_of (refusal.TooLarge f) = codes "too-large " ++ file_word f

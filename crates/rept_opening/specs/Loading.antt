@@ -82,7 +82,7 @@ manner_of d from = record { from = first_packet from; domain = d }
 abbrev pub loading_by : Files → Option Meaning → Loading
 loading_by files None = Refused refusal.Usage
 loading_by files (Some (Made seed steps)) = MadeRun seed steps
-loading_by files (Some (Maps names from)) = fetched_core files names (manner_of domain.Ranges from)
+loading_by files (Some (Maps d names from)) = fetched_core files names (manner_of d from)
 loading_by files (Some (Open d names from)) = fetched_all files names (manner_of d from)
 
 -- what words and files come to: no meaning, a made run, the first file that is missing or too
@@ -142,7 +142,7 @@ ComesTo words files kind = (d : Domain) × (names : Names) × (from : Option ℕ
 -- the words name a core file and a trace, and what is loaded before this one is there and within
 -- its limit
 abbrev pub ComesToCore : List (List ℕ) → Files → FileKind → Type 0
-ComesToCore words files kind = (names : CoreNames) × (from : Option ℕ) × (meaning_of words ≡ Some (Maps names from)) × CoreFitBefore files names kind
+ComesToCore words files kind = (d : Domain) × (names : CoreNames) × (from : Option ℕ) × (meaning_of words ≡ Some (Maps d names from)) × CoreFitBefore files names kind
 
 -- Why this file isn't loaded: by the files where they are told, and otherwise by the count of the
 -- file store's faults.
@@ -173,7 +173,7 @@ pub record CoreStopsAt (file_store : PortMove Shelved) (names : CoreNames) (kind
 abbrev pub MeaningStops : Option Meaning → PortMove Shelved → Refusal → Type 0
 MeaningStops None file_store r = (r ≡ refusal.Usage) × (file_store.after ≡ file_store.before)
 MeaningStops (Some (Made seed steps)) file_store r = ⊥
-MeaningStops (Some (Maps names from)) file_store r = (kind : FileKind) × CoreStopsAt file_store names kind r
+MeaningStops (Some (Maps d names from)) file_store r = (kind : FileKind) × CoreStopsAt file_store names kind r
 MeaningStops (Some (Open d names from)) file_store r = (kind : FileKind) × IsLastLoad file_store names kind r
 
 -- why no files are loaded: there was no memory to read the words, or by these
@@ -184,7 +184,7 @@ LoadingStops m file_store r = ((r ≡ refusal.OutOfMemory) × (file_store.after 
 abbrev pub NamesNone : Option Meaning → Type 0
 NamesNone None = Unit {0}
 NamesNone (Some (Made seed steps)) = Unit {0}
-NamesNone (Some (Maps names from)) = ⊥
+NamesNone (Some (Maps d names from)) = ⊥
 NamesNone (Some (Open d names from)) = ⊥
 
 -- what all loads do to a file store: its files stay, at most one fault is counted, and none where
@@ -204,7 +204,7 @@ pub record AllLoaded (names : Names) (file_store : PortMove Shelved) : Type 0 wh
 abbrev pub LoadsAll : Option Meaning → PortMove Shelved → Type 0
 LoadsAll None file_store = ⊥
 LoadsAll (Some (Made seed steps)) file_store = ⊥
-LoadsAll (Some (Maps names from)) file_store = ⊥
+LoadsAll (Some (Maps d names from)) file_store = ⊥
 LoadsAll (Some (Open d names from)) file_store = AllLoaded names file_store
 
 -- the core file, of these bytes, and the trace were loaded
@@ -216,7 +216,7 @@ pub record BothLoaded (names : CoreNames) (core : List ℕ) (file_store : PortMo
 abbrev pub LoadsBoth : Option Meaning → List ℕ → PortMove Shelved → Type 0
 LoadsBoth None core file_store = ⊥
 LoadsBoth (Some (Made seed steps)) core file_store = ⊥
-LoadsBoth (Some (Maps names from)) core file_store = BothLoaded names core file_store
+LoadsBoth (Some (Maps d names from)) core file_store = BothLoaded names core file_store
 LoadsBoth (Some (Open d names from)) core file_store = ⊥
 
 -- what was loaded, or is to be made
@@ -238,5 +238,5 @@ IsAsked (asked.Made seed steps) m file_store = (m ≡ Some (Made seed steps)) ×
 abbrev pub FaultsEnd : Option Meaning → Option Files → Type 0
 FaultsEnd None files = Unit {0}
 FaultsEnd (Some (Made seed steps)) files = Unit {0}
-FaultsEnd (Some (Maps names from)) files = MatchOption files ⊥ (λ _. Unit {0})
+FaultsEnd (Some (Maps d names from)) files = MatchOption files ⊥ (λ _. Unit {0})
 FaultsEnd (Some (Open d names from)) files = Unit {0}

@@ -184,10 +184,18 @@ pub fn load_files<H: FileStore>(
                 Err(refusal) => Err(refusal),
             }
         }
-        Ok(Some(Request::Maps { names, from })) => {
+        Ok(
+            Some(
+                Request::Maps {
+                    domain,
+                    names,
+                    from,
+                },
+            ),
+        ) => {
             let manner = OpenOptions {
                 from: first_packet_of(from),
-                domain: Domain::Ranges,
+                domain,
             };
             match load_core_names(alloc, file_store, names, manner) {
                 Ok(files) => Ok(LoadedRequest::Maps(files)),

@@ -90,7 +90,7 @@ fn push_words(text: &mut Text, refusal: &Refusal) -> Result<(), OutOfMemory>
 {
     match refusal {
         Refusal::Usage => text.push(
-            b"usage: rept open|bits|infer EXE CORE TRACE [FROM] | rept self SEED STEPS | rept maps CORE TRACE [FROM]",
+            b"usage: rept open|bits|infer EXE CORE TRACE [FROM] | rept self SEED STEPS | rept maps CORE TRACE [FROM] | rept infer maps CORE TRACE [FROM]",
         ),
         Refusal::LoadFault(file) => push_file(text, b"load-fault ", *file),
         Refusal::NoFile(file) => push_file(text, b"no-file ", *file),

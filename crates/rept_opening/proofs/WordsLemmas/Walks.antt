@@ -17,7 +17,7 @@ use Rattle.clap.specs.declared.builder.value_parser.ValueParser.TheVariants.{Str
 use Rattle.clap.proofs.OnLiterals.{clap_on_literals}
 use Rattle.rept_opening.specs.Words.CommandLine.{rept_app}
 use Rattle.rept_word.specs.Parsing.Numbers.{decimal_of}
-use Rattle.rept_opening.specs.Words.Words.{is_plain, domain_of, plain_meaning, meaning_of}
+use Rattle.rept_opening.specs.Words.Words.{is_plain, domain_of, plain_meaning, meaning_of, opened_by}
 use Rattle.rept_opening.specs.Words.Words.Meaning.{Open}
 use Rattle.rept_opening.specs.Words.Found.{found_meaning, is_command, is_screened}
 use Rattle.rept_opening.specs.declared.words.request.Domain.{Domain}
@@ -422,8 +422,8 @@ other_meaning : (first : Text) (ws : List Text) → bytes_eq first (codes "open"
 other_meaning first [] ho hb hi hm hs = refl
 other_meaning first (w ∷ []) ho hb hi hm hs = refl
 other_meaning first (w ∷ x ∷ []) ho hb hi hm hs = rw (hs, hm) refl
-other_meaning first (w ∷ x ∷ y ∷ []) ho hb hi hm hs = rw (hm) (ap (λ o. option_and_then (λ d. Some (Open d (record { exe = w; core = x; trace = y }) None)) o) (no_domain first ho hb hi))
-other_meaning first (w ∷ x ∷ y ∷ z ∷ []) ho hb hi hm hs = ap (λ o. option_and_then (λ d. option_and_then (λ k. Some (Open d (record { exe = w; core = x; trace = y }) (Some k))) (decimal_of z)) o) (no_domain first ho hb hi)
+other_meaning first (w ∷ x ∷ y ∷ []) ho hb hi hm hs = rw (hm) (ap (λ o. option_and_then (λ d. Some (opened_by d (record { exe = w; core = x; trace = y }) None)) o) (no_domain first ho hb hi))
+other_meaning first (w ∷ x ∷ y ∷ z ∷ []) ho hb hi hm hs = ap (λ o. option_and_then (λ d. option_and_then (λ k. Some (opened_by d (record { exe = w; core = x; trace = y }) (Some k))) (decimal_of z)) o) (no_domain first ho hb hi)
 other_meaning first (w ∷ x ∷ y ∷ z ∷ v ∷ ws) ho hb hi hm hs = refl
 
 unplain : (words : List Text) → list_all is_plain words ≡ false → meaning_of words ≡ None

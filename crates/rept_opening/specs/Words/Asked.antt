@@ -14,5 +14,5 @@ core_named_by names = record { core = names.core.now; trace = names.trace.now }
 
 abbrev pub asked_by : Request → Meaning
 asked_by (request.Open domain names from) = Open domain (named_by names) from
-asked_by (request.Maps names from) = Maps (core_named_by names) from
+asked_by (request.Maps d names from) = Maps d (core_named_by names) from
 asked_by (request.Made seed steps) = Made seed steps

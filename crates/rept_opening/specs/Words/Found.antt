@@ -5,10 +5,10 @@ use Rattle.std.specs.Str.{bytes_eq}
 use Rattle.std.specs.Option.{option_and_then}
 use Rattle.clap.specs.Words.{Row, Text, first_of}
 use Rattle.rept_word.specs.Parsing.Numbers.{decimal_of}
-use Rattle.rept_opening.specs.Words.Words.{CoreNames, Names, Meaning, is_plain, made_of, maps_from}
+use Rattle.rept_opening.specs.Words.Words.{CoreNames, Names, Meaning, is_plain, made_of, maps_from, opened_by}
 use Rattle.rept_opening.specs.declared.words.request.Domain.{Domain}
 use Rattle.rept_opening.specs.declared.words.request.Domain.TheVariants as domain
-use Rattle.rept_opening.specs.Words.Words.Meaning.{Maps, Open}
+use Rattle.rept_opening.specs.Words.Words.Meaning.{Maps}
 
 -- the names of the files, where all three are found
 abbrev pub names_by : List Row → Option Names
@@ -18,8 +18,8 @@ names_by rows =
 
 -- these names and the word of a packet, if there is one
 abbrev pub open_with : Domain → Names → Option Text → Option Meaning
-open_with d names None = Some (Open d names None)
-open_with d names (Some from) = option_and_then (λ k. Some (Open d names (Some k))) (decimal_of from)
+open_with d names None = Some (opened_by d names None)
+open_with d names (Some from) = option_and_then (λ k. Some (opened_by d names (Some k))) (decimal_of from)
 
 abbrev pub open_by : Domain → List Row → Option Meaning
 open_by d rows = option_and_then (λ names. open_with d names (first_of (codes "from") rows)) (names_by rows)
@@ -29,7 +29,7 @@ abbrev pub core_names_by : List Row → Option CoreNames
 core_names_by rows = option_and_then (λ core. option_and_then (λ trace. Some (record { core = core; trace = trace })) (first_of (codes "trace") rows)) (first_of (codes "core") rows)
 
 abbrev pub maps_with : CoreNames → Option Text → Option Meaning
-maps_with names None = Some (Maps names None)
+maps_with names None = Some (Maps domain.Ranges names None)
 maps_with names (Some from) = maps_from names from
 
 abbrev pub maps_by : List Row → Option Meaning

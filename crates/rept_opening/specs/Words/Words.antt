@@ -18,11 +18,11 @@ pub record CoreNames : Type 0 where
   pub core : List ℕ
   pub trace : List ℕ
 
--- `open`, `bits` and `infer` name three files and may name the packet to begin from; `maps` names
--- two, and the same; `self` gives a seed and a count of steps
+-- `open`, `bits` and `infer` name three files and may name the packet to begin from; `maps` and
+-- `infer maps` name two, and the same; `self` gives a seed and a count of steps
 pub data Meaning : Type 0 where
   Open : Domain → Names → Option ℕ → Meaning
-  Maps : CoreNames → Option ℕ → Meaning
+  Maps : Domain → CoreNames → Option ℕ → Meaning
   Made : ℕ → ℕ → Meaning
 
 -- not empty, and no leading hyphen
@@ -39,7 +39,17 @@ made_of seed steps = option_and_then (λ s. option_and_then (λ n. Some (Made s 
 
 -- what `maps` asks for with these names and the word of a packet
 abbrev pub maps_from : CoreNames → List ℕ → Option Meaning
-maps_from names from = option_and_then (λ k. Some (Maps names (Some k))) (decimal_of from)
+maps_from names from = option_and_then (λ k. Some (Maps domain.Ranges names (Some k))) (decimal_of from)
+
+-- whether these are the words `infer maps`
+abbrev pub asks_maps : Domain → List ℕ → Bool
+asks_maps domain.Inferred exe = bytes_eq exe (codes "maps")
+asks_maps other exe = false
+
+-- what names that follow the word of a domain ask for: `infer maps` names a core file and a trace,
+-- any other such words three files; an executable of the name `maps` is `./maps` there
+abbrev pub opened_by : Domain → Names → Option ℕ → Meaning
+opened_by d names from = if asks_maps d names.exe then Maps d (record { core = names.core; trace = names.trace }) from else Open d names from
 
 -- the domain that a first word asks for
 abbrev pub domain_of : List ℕ → Option Domain
@@ -53,12 +63,12 @@ domain_of first =
 abbrev pub plain_meaning : List (List ℕ) → Option Meaning
 plain_meaning (first ∷ one ∷ two ∷ three ∷ []) =
     if bytes_eq first (codes "maps") then maps_from (record { core = one; trace = two }) three
-    else option_and_then (λ d. Some (Open d (record { exe = one; core = two; trace = three }) None)) (domain_of first)
+    else option_and_then (λ d. Some (opened_by d (record { exe = one; core = two; trace = three }) None)) (domain_of first)
 plain_meaning (first ∷ exe ∷ core ∷ trace ∷ from ∷ []) =
-    option_and_then (λ d. option_and_then (λ k. Some (Open d (record { exe = exe; core = core; trace = trace }) (Some k))) (decimal_of from)) (domain_of first)
+    option_and_then (λ d. option_and_then (λ k. Some (opened_by d (record { exe = exe; core = core; trace = trace }) (Some k))) (decimal_of from)) (domain_of first)
 plain_meaning (first ∷ one ∷ two ∷ []) =
     if bytes_eq first (codes "self") then made_of one two
-    else if bytes_eq first (codes "maps") then Some (Maps (record { core = one; trace = two }) None)
+    else if bytes_eq first (codes "maps") then Some (Maps domain.Ranges (record { core = one; trace = two }) None)
     else None
 plain_meaning words = None
 

@@ -6,7 +6,7 @@ ghost use Rattle.std.specs.List.{list_all};
 ghost use Rattle.clap.specs.Words.{subcommand_rows_of, rows_of, found_of, first_of};
 ghost use Rattle.rept_opening.specs.Words.Asked.{asked_by, core_named_by, named_by};
 ghost use Rattle.rept_opening.specs.Words.Found.{core_names_by, found_meaning, is_command, is_screened, made_by, maps_by, maps_with, meaning_after, names_by, open_by, open_with};
-ghost use Rattle.rept_opening.specs.Words.Words.{is_plain, made_of, meaning_of, steps_of};
+ghost use Rattle.rept_opening.specs.Words.Words.{asks_maps, is_plain, made_of, meaning_of, opened_by, steps_of};
 
 use crate::words::command::rept_command;
 use crate::words::request::{CoreNames, Domain, FileNames, Request};
@@ -110,11 +110,7 @@ fn opened<'a>(domain: Domain, found: &ArgMatches<'a>) -> Option<Request<'a>>
         return None;
     };
     match word_of(found, "from") {
-        None => Some(Request::Open {
-            domain,
-            names,
-            from: None,
-        }),
+        None => Some(asked_of(domain, names, None)),
         Some(word) => from_packet(domain, names, word),
     }
 }
@@ -125,11 +121,39 @@ fn from_packet<'a>(domain: Domain, names: FileNames<'a>, word: &str) -> Option<R
     let Some(from) = decimal(word.as_bytes()) else {
         return None;
     };
-    Some(Request::Open {
+    Some(asked_of(domain, names, Some(from)))
+}
+
+/// Whether these are the words `infer maps`.
+fn asks_maps(domain: Domain, exe: &str) -> bool
+    ensures { result ≡ asks_maps domain exe.now }
+{
+    match domain {
+        Domain::Inferred => exe == "maps",
+        Domain::Ranges | Domain::KnownBits => false,
+    }
+}
+
+/// What names that follow the word of a domain ask for.
+fn asked_of<'a>(domain: Domain, names: FileNames<'a>, from: Option<u32>) -> Request<'a>
+    ensures { asked_by result ≡ opened_by domain (named_by names.entry) from }
+{
+    if asks_maps(domain, names.exe) {
+        let names = CoreNames {
+            core: names.core,
+            trace: names.trace,
+        };
+        return Request::Maps {
+            domain,
+            names,
+            from,
+        };
+    }
+    Request::Open {
         domain,
         names,
-        from: Some(from),
-    })
+        from,
+    }
 }
 
 fn names<'a>(found: &ArgMatches<'a>) -> Option<FileNames<'a>>
@@ -166,7 +190,11 @@ fn mapped<'a>(found: &ArgMatches<'a>) -> Option<Request<'a>>
         return None;
     };
     match word_of(found, "from") {
-        None => Some(Request::Maps { names, from: None }),
+        None => Some(Request::Maps {
+            domain: Domain::Ranges,
+            names,
+            from: None,
+        }),
         Some(word) => mapped_from(names, word),
     }
 }
@@ -178,6 +206,7 @@ fn mapped_from<'a>(names: CoreNames<'a>, word: &str) -> Option<Request<'a>>
         return None;
     };
     Some(Request::Maps {
+        domain: Domain::Ranges,
         names,
         from: Some(from),
     })

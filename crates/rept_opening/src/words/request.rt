@@ -37,9 +37,10 @@ pub enum Request<'a> {
         names: FileNames<'a>,
         from: Option<u32>,
     },
-    /// `maps CORE TRACE [FROM]`: the executable and shared objects are those that the core file
-    /// lists.
+    /// `maps CORE TRACE [FROM]`, in the domain of `open`, or `infer maps CORE TRACE [FROM]`: the
+    /// executable and shared objects are those that the core file lists.
     Maps {
+        domain: Domain,
         names: CoreNames<'a>,
         from: Option<u32>,
     },
