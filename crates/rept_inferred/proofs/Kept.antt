@@ -1,5 +1,5 @@
 -- What is narrowed stays true, and nothing that was known is lost.
-use Rattle.std.proofs.Common.{◌≡◌, ℕ, ◌+◌, ◌<◌, ◌≤◌, Bool, true, false, cond, length, Option, Some, None, refl, sym, ap, subst, ◌∙◌, arith}
+use Rattle.std.proofs.Common.{◌≡◌, ◌≢◌, ℕ, ◌+◌, ◌<◌, ◌≤◌, Bool, true, false, cond, length, Option, Some, None, refl, sym, ap, subst, ◌∙◌, arith}
 use Rattle.std.specs.Prelude.{nat_lt, if◌then◌else◌, is_some, unwrap_or, bit_and, bit_or}
 use Rattle.std.specs.Option.{option_or}
 use Rattle.std.specs.Int.{bit_at}
@@ -15,11 +15,12 @@ use Rattle.rept_known.specs.Laws.BothLaws.{both_lawful, both_parts}
 use Rattle.rept_reason.specs.declared.fact.Cell.{Cell}
 use Rattle.rept_reason.specs.declared.fact.Cell.TheVariants.{Register, Byte}
 use Rattle.rept_report.specs.OneThread.{ThreadPath}
-use Rattle.rept_findings.specs.LastWriters.{AreLastWriters}
 use Rattle.rept_findings.specs.Shown.{Shown, known_value, places_of}
+use Rattle.rept_report.specs.declared.writer.Writer.TheVariants as writer
 use Rattle.rept_found.specs.Truth.{IsTrueOf}
 use Rattle.rept_narrow.specs.Admitted.{Story}
 use Rattle.rept_infer.specs.Holding.{Holding, Holds}
+use Rattle.rept_inferred.proofs.Writers.{writer_true}
 use Rattle.rept_inferred.specs.Narrowed.{TellsAll, joined, narrowed, note_by, range_by, shown_beyond, value_by}
 
 -- a set that is told has a value
@@ -83,13 +84,13 @@ byte_true None false o x v by_known by_held e = by_known e
 
 -- Where all that is shown of a path is true of an execution, and the holding holds in it, all that
 -- is shown narrowed is true of it.
-pub narrowed_true : {W : Type 0} (P : ThreadPath W) (s : Shown) (story : Story) (h : Holding) (run : ℕ → State) → story.rows ≡ P.given.rows → s.moments ≡ length P.given.rows + 1 → IsTrueOf P s run → Holds story h run → IsTrueOf P (narrowed h s) run
-narrowed_true P s story h run same ends t holds = record {
+pub narrowed_true : {W : Type 0} (P : ThreadPath W) (s : Shown) (story : Story) (h : Holding) (run : ℕ → State) → story.rows ≡ P.given.rows → s.moments ≡ length P.given.rows + 1 → s.rows 0 ≡ P.given.rows → ((p a : ℕ) → p ≤ length P.given.rows → s.writer p a ≢ writer.Several) → IsTrueOf P s run → Holds story h run → IsTrueOf P (narrowed h s) run
+narrowed_true P s story h run same ends rows single t holds = record {
   registers = λ p r v early e. value_true (s.register p r) (h.set p r) ((run p).register r) v (t.registers p r v early) (in_set p r early) e;
   ranges = λ p r early. range_true (s.range p r) (h.set p r) ((run p).register r) (t.ranges p r early) (in_set p r early);
   notes = λ p r n early e. note_true (s.note p r) (h.set p r) ((run p).register r) n (λ m is. t.notes p r m early is) (in_set p r early) e;
   bytes = λ p a v e. byte_true (s.byte p a) (nat_lt p s.moments) (h.byte p a) ((run p).memory a) v (t.bytes p a v) (λ before is. holds.bytes p a v (within p before) is) e;
-  writers = t.writers;
+  writers = λ p a early small. writer_true P s story h run same rows t holds a (λ q le. single q a le) small p early;
 }
   where
     size : length story.rows ≡ length P.given.rows
@@ -137,10 +138,6 @@ knows_same s = record {
 pub knows_beyond : (o : Option Holding) (s : Shown) → TellsAll s (shown_beyond o s)
 knows_beyond None s = knows_same s
 knows_beyond (Some h) s = knows_all h s
-
--- last writers are as they were
-pub last_kept : (h : Holding) (s : Shown) (thread address : ℕ) → AreLastWriters s thread address → AreLastWriters (narrowed h s) thread address
-last_kept h s thread address l = record { before = l.before; since = l.since; between = l.between; none = l.none }
 
 -- a register or byte has values at as many points or moments
 pub places_kept : (h : Holding) (s : Shown) (c : Cell) → places_of (narrowed h s) c ≡ places_of s c

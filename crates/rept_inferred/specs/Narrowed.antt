@@ -9,6 +9,7 @@ use Rattle.rept_partial.specs.declared.range.Range.{Range}
 use Rattle.rept_partial.specs.Ranges.{range_meet}
 use Rattle.rept_reason.specs.declared.fact.Cell.{Cell}
 use Rattle.rept_findings.specs.Shown.{Shown, known_value}
+use Rattle.rept_inferred.specs.Writing.{counts_by, writer_beyond}
 
 -- a known value, or else the only one of a set
 abbrev pub value_by : Option ℕ → Option Both → Option ℕ
@@ -32,14 +33,16 @@ note_by note None = note
 note_by None (Some w) = both_moves.note w
 note_by (Some n) (Some w) = Some (joined n (both_moves.note w))
 
--- What is shown of a report, with the sets of registers narrowed by a holding, and with the bytes
--- that it tells besides.
+-- What is shown of a report, with the sets of registers narrowed by a holding, with the bytes that it
+-- tells besides, and with what that leaves of possible writers.
 abbrev pub narrowed : Holding → Shown → Shown
 narrowed h s = record s {
   register = λ p r. value_by (s.register p r) (h.set p r);
   range = λ p r. range_by (s.range p r) (h.set p r);
   note = λ p r. note_by (s.note p r) (h.set p r);
   byte = λ m a. option_or (s.byte m a) (if nat_lt m s.moments then h.byte m a else None);
+  writer = writer_beyond h s;
+  counts = counts_by h s;
   is_inferred = λ m c. if is_some (known_value s m c) then s.is_inferred m c else true;
 }
 

@@ -4,6 +4,7 @@
 mod narrowing;
 mod overlay;
 mod reported;
+mod writing;
 
 pub use overlay::InferredCrash;
 pub use reported::Reported;

@@ -1,6 +1,10 @@
 //! The findings of a report with what was inferred beyond it.
 
+ghost use Rattle.std.specs.Prelude.{◌≡◌};
+ghost use Rattle.rept_inferred.specs.Writing.{is_line};
+
 use crate::narrowing::{note_by, range_by, value_by};
+use crate::writing::{PossibleWriters, is_line};
 use rept_elf::Symbol;
 use rept_findings::{Findings, ThreadPlace, ThreadPoint};
 use rept_infer::InferredPath;
@@ -13,12 +17,40 @@ use rept_word::OutOfMemory;
 use std::alloc::Global;
 
 /// The findings of a run that is one path, and what was inferred of the path beyond them. What is
-/// told of registers and bytes is narrowed; all else is that of the findings. A value that only was
-/// inferred has no reason.
+/// told of registers, bytes, writers and stores is narrowed; all else is that of the findings. A
+/// value that only was inferred has no reason.
 #[derive(Drop)]
 pub struct InferredCrash<'a, F: Findings, K: KnownPath, P: PathPremises> {
     pub found: F,
     pub inferred: InferredPath<'a, K, P>,
+    pub(crate) line: bool,
+    ghost lined: { line ≡ is_line (F.shown found) },
+}
+
+impl<'a, F: Findings, K: KnownPath, P: PathPremises> InferredCrash<'a, F, K, P> {
+    /// These findings, with what was inferred beyond them.
+    pub fn new(found: F, inferred: InferredPath<'a, K, P>) -> InferredCrash<'a, F, K, P>
+        ensures found { result.found ≡ found }
+        ensures inferred { result.inferred ≡ inferred.entry }
+    {
+        let line = is_line(&found);
+        InferredCrash {
+            found,
+            inferred,
+            line,
+        }
+    }
+
+    /// Which steps may have written a byte.
+    fn writers(&self) -> PossibleWriters<'_, 'a, F, K, P>
+        ensures found { result.found.now ≡ self.now.found }
+        ensures inferred { result.inferred.now ≡ self.now.inferred }
+    {
+        PossibleWriters {
+            found: &self.found,
+            inferred: &self.inferred,
+        }
+    }
 }
 
 impl<'a, F: Findings, K: KnownPath, P: PathPremises> Findings for InferredCrash<'a, F, K, P> {
@@ -98,11 +130,16 @@ impl<'a, F: Findings, K: KnownPath, P: PathPremises> Findings for InferredCrash<
     }
 
     fn writer(&self, moment: u32, address: u32) -> Writer {
-        self.found.writer(moment, address)
+        let told = self.found.writer(moment, address);
+        if self.line {
+            self.writers().last_writer(moment, address)
+        } else {
+            told
+        }
     }
 
     fn counts(&self) -> Counts {
-        self.found.counts()
+        self.writers().counts()
     }
 
     fn symbols(

@@ -1,5 +1,5 @@
 -- What is inferred beyond the report of a run that is one path.
-use Rattle.std.proofs.Common.{◌≡◌, ℕ, ◌+◌, ◌<◌, ◌≤◌, ◌^◌, Bool, true, false, List, [], length, Option, None, Some, unwrap_or, inl, inr, refl, sym, ap, subst, ◌∙◌, arith}
+use Rattle.std.proofs.Common.{◌≡◌, ◌≢◌, ℕ, ◌+◌, ◌<◌, ◌≤◌, ◌^◌, Bool, true, false, List, [], length, Option, None, Some, unwrap_or, inl, inr, refl, sym, ap, subst, ◌∙◌, arith}
 use Rattle.std.specs.Prelude.{◌⊎◌, slice_get, drop, if◌then◌else◌}
 use Rattle.std.specs.List.{list_any}
 use Rattle.std.specs.Option.{option_map}
@@ -38,6 +38,9 @@ use Rattle.rept_infer.specs.Holding.{Has, Holding, Holds, Keeps, Refuses, holdin
 use Rattle.rept_inferred.specs.Narrowed.{narrowed, shown_beyond}
 use Rattle.rept_inferred.specs.Known.{byte_known, set_known, shown_in}
 use Rattle.rept_inferred.proofs.Kept.{knows_beyond, narrowed_true}
+use Rattle.rept_inferred.proofs.Writers.{last_single}
+use Rattle.rept_report.specs.declared.writer.Writer.TheVariants as writer
+use Rattle.rept_found.specs.Single.{last_writer}
 use Rattle.rept_inferred.proofs.KnownLaws.{known_holds}
 use Rattle.rept_elf.specs.Segments.{ElfSegment}
 use Rattle.rept_dump.specs.Dump.{core_of, exe_of, registers_of}
@@ -171,11 +174,19 @@ module _ {W : Type 0} (p : CrashRun W) (a : RunAccount) (true_of : IsTrue p a.kn
     moments_are : there.moments ≡ length rows + 1
     moments_are = subst (λ (s : Shown). s.moments ≡ length rows + 1) (sym (alone.shown a.scene)) ((one_thread_shown (path_by p rows) a.known a.scene).moments)
 
+    rows_are : there.rows 0 ≡ rows
+    rows_are = subst (λ (s : Shown). s.rows 0 ≡ rows) (sym (alone.shown a.scene)) ((one_thread_shown (path_by p rows) a.known a.scene).rows)
+
+    singles : (q x : ℕ) → q ≤ length rows → there.writer q x ≢ writer.Several
+    singles q x le e =
+        let is = subst (λ (s : Shown). s.writer q x ≡ last_writer (path_setting (path_by p rows)) a.known q x) (sym (alone.shown a.scene)) ((one_thread_shown (path_by p rows) a.known a.scene).writer q x le) in
+        last_single (path_setting (path_by p rows)) a.known q x (sym is ∙ e)
+
     beyond_true : path_rows p.run ≡ Some rows → (o : Option Holding) → IsBeyond p o → IsTrueOf (path_by p rows) (shown_beyond o there) states
     beyond_true one None b = reported_true
     beyond_true one (Some h) b =
         let held = subst (λ (rs : List StepRow). IsAdmitted (story_of p.crash p.run.skipped rs) states → Holds (story_of p.crash p.run.skipped rs) h states) (same_rows (sym b.one ∙ one)) (b.holds states) in
-        narrowed_true (path_by p rows) there (story_of p.crash p.run.skipped rows) h states refl moments_are reported_true (held admitted)
+        narrowed_true (path_by p rows) there (story_of p.crash p.run.skipped rows) h states refl moments_are rows_are singles reported_true (held admitted)
 
   none_beyond : (o : Option Holding) → IsBeyond p o → p.means.beyond ≡ false → o ≡ None
   none_beyond None b e = refl

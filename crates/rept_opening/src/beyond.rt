@@ -205,6 +205,6 @@ fn ask_narrowed<A: Asking, F: Findings + Drop, P: KnownPath, Q: PathPremises, S:
 ) -> A::End
     ensures { A.asks asking.old (session_told (narrowed (told_in (path_reader P.set P.byte Q.premises) inferred.entry) (F.shown found)) circumstances.skipped (F.reasons found)) circumstances.signal (move (S.port input.old) (S.port input.new)) (move (K.port out.old) (K.port out.new)) result }
 {
-    let mut findings = InferredCrash { found, inferred };
+    let mut findings = InferredCrash::new(found, inferred);
     asking.ask(alloc, &mut findings, circumstances, input, out)
 }

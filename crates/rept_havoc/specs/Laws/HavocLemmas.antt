@@ -53,12 +53,12 @@ form base size = elim (either_way (size == 0)) [
 ]
 
 -- what one interval of bytes says
-record IsInside (base size a : ℕ) : Type 0 where
+record IsInArea (base size a : ℕ) : Type 0 where
   some : 0 < size
   low : base ≤ a
   high : a < base + size
 
-inside : (base size a : ℕ) → base + size ≤ 2 ^ 32 → within base size a ≡ true → IsInside base size a
+inside : (base size a : ℕ) → base + size ≤ 2 ^ 32 → within base size a ≡ true → IsInArea base size a
 inside base size a fits t = record { some = grind (arith, t, fits); low = grind (arith, t, fits); high = grind (arith, t, fits) }
 
 not_empty : (base a : ℕ) → within base 0 a ≡ true → ⊥
@@ -81,7 +81,7 @@ same_test true q f g = sym (f refl)
 same_test false true f g = g refl
 same_test false false f g = refl
 
-is_inside : (base size a : ℕ) → base + size ≤ 2 ^ 32 → IsInside base size a → within base size a ≡ true
+is_inside : (base size a : ℕ) → base + size ≤ 2 ^ 32 → IsInArea base size a → within base size a ≡ true
 is_inside base size a fits h = let s = h.some in let l = h.low in let g = h.high in grind (arith, fits, s, l, g)
 
 past_is_all : (base size a : ℕ) → 0 < size → 2 ^ 32 < base + size → within base size a ≡ true
