@@ -11,6 +11,7 @@ use Rattle.rept_reason.specs.declared.reason.Reason.{Reason}
 use Rattle.rept_report.specs.Why.{Because, because}
 use Rattle.rept_report.specs.declared.writer.Writer.{Writer}
 use Rattle.rept_report.specs.declared.counts.Counts.{Counts}
+use Rattle.rept_findings.specs.declared.findings.KnownBeyond.{KnownBeyond}
 use Rattle.rept_findings.specs.declared.place.ThreadPoint.{ThreadPoint}
 use Rattle.rept_findings.specs.declared.place.ThreadPlace.{ThreadPlace}
 
@@ -45,6 +46,8 @@ pub record Shown : Type 0 where
   -- of a register at a point and of a byte at a moment, whether its value isn't one of the report,
   -- and was inferred beyond it
   pub is_inferred : ℕ → Cell → Bool
+  -- how much is known beyond the report and by which premises; nothing where none was asked for
+  pub beyond : Option KnownBeyond
   -- the byte of code at an address, where the program has code, which is assumed not to change
   pub code : ℕ → Option ℕ
   pub counts : Counts

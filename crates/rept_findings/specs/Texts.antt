@@ -1,6 +1,6 @@
 -- Pieces of what a session answers. HEX below is `0x` and eight lower-case hexadecimal digits. This
 -- project's own.
-use Rattle.std.specs.Prelude.{ℕ, ◌+◌, ◌-◌, ◌*◌, ◌/◌, ◌%◌, ◌^◌, min, List, [], ◌∷◌, ◌++◌, ◌&&◌, nat_le, nat_lt, Option, None, Some, slice_get, codes, if◌then◌else◌}
+use Rattle.std.specs.Prelude.{ℕ, ◌+◌, ◌-◌, ◌*◌, ◌/◌, ◌%◌, ◌^◌, min, List, [], ◌∷◌, ◌++◌, Bool, true, false, ◌&&◌, nat_le, nat_lt, Option, None, Some, slice_get, codes, if◌then◌else◌}
 use Rattle.std.specs.List.{flat_map, range_with_len}
 use Rattle.std.specs.Option.{option_map_or}
 use Rattle.std.specs.Fmt.{decimal}
@@ -15,6 +15,10 @@ use Rattle.rept_reason.specs.declared.reason.RangePremise.{RangePremise}
 use Rattle.rept_report.specs.declared.writer.Writer.{Writer}
 use Rattle.rept_report.specs.declared.writer.Writer.TheVariants as writer
 use Rattle.rept_findings.specs.Shown.{Shown}
+use Rattle.rept_findings.specs.declared.findings.BeyondRule.{BeyondRule}
+use Rattle.rept_findings.specs.declared.findings.BeyondRule.TheVariants as rules
+use Rattle.rept_findings.specs.declared.findings.KnownBeyond.{KnownBeyond}
+use Rattle.rept_findings.specs.declared.findings.PremisesTaken.{PremisesTaken}
 use Rattle.rept_findings.specs.declared.place.Place.{Place}
 use Rattle.rept_findings.specs.declared.place.Place.TheVariants as places
 use Rattle.rept_findings.specs.declared.place.ThreadPoint.{ThreadPoint}
@@ -107,6 +111,31 @@ step_lines rows first count = flat_map (λ j. step_line j (slice_get rows j)) (r
 abbrev pub visible : ℕ → ℕ
 visible byte = if nat_le 33 byte && nat_le byte 126 then byte else 63
 
+-- ` NAME` of a premise that was taken
+abbrev pub premise_name : Bool → List ℕ → List ℕ
+premise_name true name = name
+premise_name false name = []
+
+abbrev pub premise_names : PremisesTaken → List ℕ
+premise_names p = premise_name p.read_only (codes " read-only") ++ premise_name p.answers (codes " answers") ++ premise_name p.first_memory (codes " first-memory") ++ premise_name p.fresh_pages (codes " fresh-pages")
+
+-- `inferred REGISTERS BYTES premises NAME NAME ..`, where more than a report was asked for
+abbrev pub beyond_line : Option KnownBeyond → List ℕ
+beyond_line None = []
+beyond_line (Some b) = codes "inferred " ++ decimal b.registers ++ codes " " ++ decimal b.bytes ++ codes " premises" ++ premise_names b.premises ++ 10 ∷ []
+
+-- the line of a premise that was taken
+abbrev pub premise_told : Bool → List ℕ → List ℕ
+premise_told true line = line ++ 10 ∷ []
+premise_told false line = []
+
+-- a line for each premise that was taken; `none` where nothing more than a report was asked for
+abbrev pub premises_lines : Option KnownBeyond → List ℕ
+premises_lines None = codes "none" ++ 10 ∷ []
+premises_lines (Some b) =
+    premise_told b.premises.read_only (codes "read-only no step writes what the program can't write") ++ premise_told b.premises.answers (codes "answers calls answer as Linux's do")
+    ++ premise_told b.premises.first_memory (codes "first-memory memory begins as the executable says") ++ premise_told b.premises.fresh_pages (codes "fresh-pages pages that a call hands out are 0")
+
 -- `xN HEX`, or the address as HEX and the byte as two digits
 abbrev pub cell_text : Cell → ℕ → List ℕ
 cell_text (Register r) value = register_text r ++ codes " " ++ hex_word value
@@ -136,6 +165,18 @@ range_at_line s at looked = codes "  range " ++ decimal at.point ++ codes " " ++
 
 abbrev pub looked_line : Shown → RangePremise → List ℕ
 looked_line s looked = range_at_line s (s.point looked.point) looked
+
+abbrev pub rule_name : BeyondRule → List ℕ
+rule_name rules.Value = codes "value"
+rule_name rules.Call = codes "call"
+rule_name rules.Class = codes "class"
+rule_name rules.Miss = codes "miss"
+rule_name rules.ReadOnly = codes "read-only"
+rule_name rules.FirstMemory = codes "first-memory"
+
+-- `inferred ROW RULE`
+abbrev pub rule_line : ℕ → BeyondRule → List ℕ
+rule_line row rule = codes "inferred " ++ decimal row ++ codes " " ++ rule_name rule ++ 10 ∷ []
 
 -- a point of a thread
 abbrev pub at : ℕ → ℕ → ThreadPoint

@@ -19,6 +19,48 @@ use rept_report::{Counts, Writer};
 use rept_word::OutOfMemory;
 use std::alloc::Global;
 
+/// Which premises were taken of the executions of which a session tells beyond a report: those
+/// whose condition holds of the files.
+#[derive(Clone, Copy)]
+pub struct PremisesTaken {
+    /// `read-only`: no step writes what the program can't write
+    pub read_only: bool,
+    /// `answers`: calls answer as Linux's do
+    pub answers: bool,
+    /// `first-memory`: memory begins as the executable says
+    pub first_memory: bool,
+    /// `fresh-pages`: pages that a call hands out are 0
+    pub fresh_pages: bool,
+}
+
+/// How much is known beyond a report, and by which premises.
+#[derive(Clone, Copy)]
+pub struct KnownBeyond {
+    /// the values of x1 to x31 that only were inferred, at all points together
+    pub registers: u32,
+    /// the bytes that steps load and that only were inferred, of all steps together
+    pub bytes: u32,
+    /// the premises
+    pub premises: PremisesTaken,
+}
+
+/// The rule by which a value was inferred beyond a report.
+#[derive(Clone, Copy)]
+pub enum BeyondRule {
+    /// `value`: a step's operands tell its result, its result an operand, or a byte a register
+    Value,
+    /// `call`: what a call answers
+    Call,
+    /// `class`: it differs from another value by a constant
+    Class,
+    /// `miss`: no step in between writes the byte
+    Miss,
+    /// `read-only`: the program can't write the byte
+    ReadOnly,
+    /// `first-memory`: the executable has the byte
+    FirstMemory,
+}
+
 /// What an analysis of a run of threads found out. Threads have numbers from 0 on; a thread of n
 /// steps has the points 0 to n. The points of all threads have numbers, those of a thread side by
 /// side, and so have the moments at which bytes have values; of one thread both are its points.
@@ -122,6 +164,16 @@ pub trait Findings {
         addresses: &[u32],
     ) -> Result<Vec<Option<Symbol<'_>>>, OutOfMemory>
         ensures { IfOk result (λ found. map (option_map symbol_of) found.items ≡ map (shown self.now).symbol addresses.now) };
+
+    /// How much is known beyond the report, and by which premises. None where nothing was asked for
+    /// beyond it.
+    fn beyond(&self) -> Option<KnownBeyond>
+        ensures { result ≡ (shown self.now).beyond };
+
+    /// The rule by which the value of a register at a point, or of a byte at a moment, was inferred
+    /// last, as far as it was kept.
+    fn rule(&self, number: u32, cell: Cell) -> BeyondRule
+        requires { number < places_of (shown self.now) cell };
 
     /// Whether the value of a register at a point, or of a byte at a moment, isn't one of the
     /// report, and was inferred beyond it: then it has no reason.

@@ -6,6 +6,6 @@ pub mod lines;
 pub mod pieces;
 pub mod place;
 
-pub use findings::Findings;
+pub use findings::{BeyondRule, Findings, KnownBeyond, PremisesTaken};
 pub use pieces::{push_place, push_thread_named, push_visible};
 pub use place::{Place, ThreadPlace, ThreadPoint};

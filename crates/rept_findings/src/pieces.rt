@@ -1,12 +1,12 @@
 //! Pieces of answers, pushed onto a text.
 
-ghost use Rattle.std.specs.Prelude.{◌≡◌, ◌++◌, OnOk, Some, codes, map};
+ghost use Rattle.std.specs.Prelude.{◌≡◌, ◌++◌, ◌∷◌, [], IfOk, OnOk, Some, codes, map};
 ghost use Rattle.std.specs.Fmt.{decimal};
 ghost use Rattle.rept_isa.specs.Texts.{instruction_text, register_text};
-ghost use Rattle.rept_findings.specs.Texts.{byte_text, cell_text, looked_line, note_text, of_thread, place_of, place_text, premise_line, range_text, step_line, step_text, value_line, value_text, writer_text, thread_named, visible};
+ghost use Rattle.rept_findings.specs.Texts.{beyond_line, byte_text, cell_text, looked_line, note_text, of_thread, place_of, place_text, premise_line, premise_name, premise_names, premise_told, premises_lines, range_text, rule_line, rule_name, step_line, step_text, value_line, value_text, writer_text, thread_named, visible};
 ghost use Rattle.rept_word.specs.Hex.{hex_byte, hex_word};
 
-use crate::findings::Findings;
+use crate::findings::{BeyondRule, Findings, KnownBeyond, PremisesTaken};
 use crate::place::{Place, ThreadPlace};
 use rept_isa::{Reg, Shown, StepRow};
 use rept_partial::{Partial, Range};
@@ -274,6 +274,124 @@ pub fn push_looked<F: Findings>(
     text.push(b" ")?;
     push_range(text, looked.reg, looked.range)?;
     push_thread(text, findings, at.thread)?;
+    text.push(b"\n")?;
+    Ok(())
+}
+
+/// The line of a value that was inferred beyond the report: the step that left it, and a rule.
+pub fn push_rule(text: &mut Text, row: u32, rule: BeyondRule) -> Result<(), OutOfMemory>
+    ensures { OnOk result (text.new ≡ text.old ++ rule_line row rule) }
+{
+    push_numbered(text, b"inferred ", row)?;
+    text.push(b" ")?;
+    push_rule_name(text, rule)?;
+    text.push(b"\n")?;
+    Ok(())
+}
+
+fn push_rule_name(text: &mut Text, rule: BeyondRule) -> Result<(), OutOfMemory>
+    ensures { OnOk result (text.new ≡ text.old ++ rule_name rule) }
+{
+    match rule {
+        BeyondRule::Value => text.push(b"value"),
+        BeyondRule::Call => text.push(b"call"),
+        BeyondRule::Class => text.push(b"class"),
+        BeyondRule::Miss => text.push(b"miss"),
+        BeyondRule::ReadOnly => text.push(b"read-only"),
+        BeyondRule::FirstMemory => text.push(b"first-memory"),
+    }
+}
+
+/// The line of `summary` that tells how much is known beyond the report.
+pub fn push_beyond(text: &mut Text, beyond: Option<KnownBeyond>) -> Result<(), OutOfMemory>
+    ensures { OnOk result (text.new ≡ text.old ++ beyond_line beyond) }
+{
+    match beyond {
+        None => Ok(()),
+        Some(known) => push_known_beyond(text, known),
+    }
+}
+
+fn push_known_beyond(text: &mut Text, known: KnownBeyond) -> Result<(), OutOfMemory>
+    ensures { OnOk result (text.new ≡ text.old ++ beyond_line (Some known)) }
+{
+    push_numbered(text, b"inferred ", known.registers)?;
+    push_numbered(text, b" ", known.bytes)?;
+    text.push(b" premises")?;
+    push_premise_names(text, known.premises)?;
+    text.push(b"\n")?;
+    Ok(())
+}
+
+fn push_premise_names(text: &mut Text, premises: PremisesTaken) -> Result<(), OutOfMemory>
+    ensures { OnOk result (text.new ≡ text.old ++ premise_names premises) }
+{
+    push_premise_name(text, premises.read_only, b" read-only")?;
+    push_premise_name(text, premises.answers, b" answers")?;
+    push_premise_name(text, premises.first_memory, b" first-memory")?;
+    push_premise_name(text, premises.fresh_pages, b" fresh-pages")?;
+    Ok(())
+}
+
+/// The name of a premise, if it was taken.
+fn push_premise_name(text: &mut Text, taken: bool, name: &[u8]) -> Result<(), OutOfMemory>
+    ensures { OnOk result (text.new ≡ text.old ++ premise_name taken name.now) }
+{
+    if taken { text.push(name) } else { Ok(()) }
+}
+
+/// The lines of the premises that were taken beyond the report.
+pub fn premises_text(alloc: Global, beyond: Option<KnownBeyond>) -> Result<Text, OutOfMemory>
+    ensures { IfOk result (λ text. text ≡ premises_lines beyond) }
+{
+    let mut text = Text::new(alloc);
+    push_premise_lines(&mut text, beyond)?;
+    Ok(text)
+}
+
+fn push_premise_lines(text: &mut Text, beyond: Option<KnownBeyond>) -> Result<(), OutOfMemory>
+    ensures { OnOk result (text.new ≡ text.old ++ premises_lines beyond) }
+{
+    match beyond {
+        None => text.push(b"none\n"),
+        Some(known) => push_premises(text, known.premises),
+    }
+}
+
+fn push_premises(text: &mut Text, premises: PremisesTaken) -> Result<(), OutOfMemory>
+    ensures { OnOk result (text.new ≡ text.old ++ (premise_told premises.read_only (codes "read-only no step writes what the program can't write") ++ premise_told premises.answers (codes "answers calls answer as Linux's do") ++ premise_told premises.first_memory (codes "first-memory memory begins as the executable says") ++ premise_told premises.fresh_pages (codes "fresh-pages pages that a call hands out are 0"))) }
+{
+    push_premise_told(
+        text,
+        premises.read_only,
+        b"read-only no step writes what the program can't write",
+    )?;
+    push_premise_told(
+        text,
+        premises.answers,
+        b"answers calls answer as Linux's do",
+    )?;
+    push_premise_told(
+        text,
+        premises.first_memory,
+        b"first-memory memory begins as the executable says",
+    )?;
+    push_premise_told(
+        text,
+        premises.fresh_pages,
+        b"fresh-pages pages that a call hands out are 0",
+    )?;
+    Ok(())
+}
+
+/// The line of a premise, if it was taken.
+fn push_premise_told(text: &mut Text, taken: bool, line: &[u8]) -> Result<(), OutOfMemory>
+    ensures { OnOk result (text.new ≡ text.old ++ premise_told taken line.now) }
+{
+    if !taken {
+        return Ok(());
+    }
+    text.push(line)?;
     text.push(b"\n")?;
     Ok(())
 }

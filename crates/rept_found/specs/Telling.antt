@@ -63,6 +63,7 @@ shown_on t K scene = record {
   byte = λ m a. K m (Byte a);
   writer = λ m a. writer_found (setting_on t) K (spot m a);
   is_inferred = λ p c. false;
+  beyond = None;
   code = code_byte t.course (contents scene.program);
   counts = counts_of (setting_on t) K;
   symbol = (contents scene.program).symbol;

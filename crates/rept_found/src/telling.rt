@@ -10,7 +10,7 @@ use crate::found::AnalysedCrash;
 use crate::places::{place_of, point_of};
 use rept_analysis::Analysis;
 use rept_elf::Symbol;
-use rept_findings::{Findings, ThreadPlace, ThreadPoint};
+use rept_findings::{BeyondRule, Findings, KnownBeyond, ThreadPlace, ThreadPoint};
 use rept_isa::{Reg, StepRow};
 use rept_log::LastValues;
 use rept_moments::NumberedRun;
@@ -134,6 +134,14 @@ impl<'a, W: Transfer, R: RowRules> Findings for AnalysedCrash<'a, W, R> {
         addresses: &[u32],
     ) -> Result<Vec<Option<Symbol<'_>>>, OutOfMemory> {
         self.dump.symbols(alloc, addresses)
+    }
+
+    fn beyond(&self) -> Option<KnownBeyond> {
+        None
+    }
+
+    fn rule(&self, _number: u32, _cell: Cell) -> BeyondRule {
+        BeyondRule::Value
     }
 
     fn is_inferred(&self, _number: u32, _cell: Cell) -> bool {

@@ -16,7 +16,7 @@ use rept_machine::store_width;
 use rept_narrow::memory::place_of;
 use rept_narrow::store::may_hit;
 use rept_narrow::told::SweptBytes;
-use rept_narrow::touched::{atomic_access, call_access};
+use rept_narrow::touched::{atomic_access, call_access, writes_none};
 use rept_narrow::{HeldBytes, KnownPath, Table};
 use std::alloc::{AllocError as OutOfMemory, Global};
 
@@ -120,6 +120,9 @@ impl<'a, K: KnownPath> ByteCrossing<'a, K> {
         ensures { IfOk result (λ list. (story : Story) (run : ℕ → State) → story.image_end ≡ self.now.image_end → slice_get story.rows self.now.index ≡ Some self.now.row → HasSets story self.now.table.now run → AreBytes story (tells_in (K.byte self.now.bytes.now.known.now) self.now.bytes.now.lanes.now self.now.bytes.now.sweep.now) run → ListsWritten story run self.now.index self.now.bytes.now.sweep.now.held list.items) }
     {
         let _points = self.table.points();
+        if writes_none(self.table, self.index, &self.row) {
+            return Ok(Vec::new(alloc));
+        }
         match self.row.instr {
             Instr::Store { op, rs1, imm, .. } => match place_of(self.table, self.index, rs1, imm) {
                 None => self.hits(alloc),

@@ -13,7 +13,7 @@ use crate::stop::InferStop;
 use rept_isa::{Instr, StepRow};
 use rept_narrow::answers::tell_answers;
 use rept_narrow::memory::place_of;
-use rept_narrow::{Empty, InferPath, KnownPath, Lanes, PathPremises, Table};
+use rept_narrow::{Empty, InferPath, KnownPath, Lanes, NarrowRule, PathPremises, Table};
 use std::alloc::Global;
 
 /// What was found so far: sets, and spans of the last sweeps on and back.
@@ -68,6 +68,7 @@ fn round<K: KnownPath, P: PathPremises>(
 {
     let Found { table, back, .. } = found;
     let mut table = table;
+    table.begin(NarrowRule::Value);
     let first = Earlier {
         alloc: earlier.0,
         known,
@@ -118,6 +119,7 @@ fn answered<K: KnownPath, P: PathPremises>(
 {
     let Found { table, on, back } = found;
     let mut table = table;
+    table.begin(NarrowRule::Call);
     match tell_answers(&mut table, premises, earlier.1) {
         Err(empty) => Err(InferStop::Contradiction(empty)),
         Ok(told) => match round(Found { table, on, back }, earlier, known, premises) {
@@ -146,6 +148,7 @@ fn related<K: KnownPath, P: PathPremises>(
         Ok((next, changed)) => {
             let Found { table, on, back } = next;
             let mut table = table;
+            table.begin(NarrowRule::Class);
             match relate_few(earlier.0, &mut table, earlier.1) {
                 Err(stop) => Err(stop),
                 Ok(more) => Ok((Found { table, on, back }, changed || more)),

@@ -11,6 +11,7 @@ use crate::fresh::{most_later, note_fresh};
 use crate::stop::InferStop;
 use crate::sweeping::{BytesAround, cross_back, cross_on, note_loaded, note_named, note_stored};
 use rept_isa::StepRow;
+use rept_narrow::atomic::answer_row;
 use rept_narrow::memory::{load_row, store_row};
 use rept_narrow::told::SweptBytes;
 use rept_narrow::visiting::visit;
@@ -49,7 +50,8 @@ fn tell<B: ToldBytes>(
     let made = visit(table, index, row)?;
     let loaded = load_row(table, bytes, index, row)?;
     let stored = store_row(table, bytes, index, row)?;
-    Ok(made || loaded || stored)
+    let answered = answer_row(table, bytes, index, row)?;
+    Ok(made || loaded || stored || answered)
 }
 
 /// The rules of a row's registers, by the bytes of a sweep. Answers whether a set changed.

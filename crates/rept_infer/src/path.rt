@@ -5,13 +5,12 @@ ghost use Rattle.rept_infer.specs.Path.{met, path_reader, told_in};
 
 use rept_isa::Reg;
 use rept_known::Both;
-use rept_narrow::{KnownPath, Lanes, PathPremises, Table};
+use rept_narrow::{KnownPath, Lanes, NarrowRule, PathPremises, Table};
 use rept_partial::Partial;
 use std::marker::Model;
 
 /// What follows of a path: a set for each register at each point, and some bytes at points. It is
-/// seen as a `PathView`,
-/// of which `told_in` makes a `Holding`.
+/// seen as a `PathView`, of which `told_in` makes a `Holding`.
 #[derive(Drop)]
 pub struct InferredPath<'a, K: KnownPath, P: PathPremises> {
     pub(crate) last: u32,
@@ -55,6 +54,45 @@ impl<'a, K: KnownPath, P: PathPremises> InferredPath<'a, K, P> {
             met(known, self.table.at(point, register))
         } else {
             known
+        }
+    }
+
+    /// By which rule the set of a register at a point was narrowed last.
+    pub fn set_rule(&self, point: u32, register: Reg) -> NarrowRule {
+        if point < self.table.points() {
+            self.table.rule(point, register)
+        } else {
+            NarrowRule::Value
+        }
+    }
+
+    /// By which rule the byte at a point and an address is told beyond what was known before.
+    pub fn byte_rule(&self, point: u32, address: u32) -> NarrowRule {
+        if self.on.byte(point, address).is_some() {
+            return if self.is_first(address) {
+                NarrowRule::FirstMemory
+            } else {
+                NarrowRule::Miss
+            };
+        }
+        if self.back.byte(point, address).is_some() {
+            NarrowRule::Miss
+        } else {
+            NarrowRule::ReadOnly
+        }
+    }
+
+    /// Whether a byte was told at the first point, by the executable or in the stack's area.
+    fn is_first(&self, address: u32) -> bool {
+        self.on.byte(0, address).is_some()
+            && (self.is_cleared(address) || self.premises.first_byte(address).is_some())
+    }
+
+    /// Whether an address isn't below the stack's area, where the path begins with the program.
+    fn is_cleared(&self, address: u32) -> bool {
+        match self.premises.clear_from() {
+            Some(from) => from <= address,
+            None => false,
         }
     }
 

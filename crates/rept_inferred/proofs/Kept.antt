@@ -21,7 +21,8 @@ use Rattle.rept_found.specs.Truth.{IsTrueOf}
 use Rattle.rept_narrow.specs.Admitted.{Story}
 use Rattle.rept_infer.specs.Holding.{Holding, Holds}
 use Rattle.rept_inferred.proofs.Writers.{writer_true}
-use Rattle.rept_inferred.specs.Narrowed.{TellsAll, joined, narrowed, note_by, range_by, shown_beyond, value_by}
+use Rattle.rept_inferred.specs.Added.{value_by}
+use Rattle.rept_inferred.specs.Narrowed.{Beyond, TellsAll, joined, narrowed, note_by, range_by, shown_beyond}
 
 -- a set that is told has a value
 abbrev HasIn : Option Both → ℕ → Type 0
@@ -84,19 +85,19 @@ byte_true None false o x v by_known by_held e = by_known e
 
 -- Where all that is shown of a path is true of an execution, and the holding holds in it, all that
 -- is shown narrowed is true of it.
-pub narrowed_true : {W : Type 0} (P : ThreadPath W) (s : Shown) (story : Story) (h : Holding) (run : ℕ → State) → story.rows ≡ P.given.rows → s.moments ≡ length P.given.rows + 1 → s.rows 0 ≡ P.given.rows → ((p a : ℕ) → p ≤ length P.given.rows → s.writer p a ≢ writer.Several) → IsTrueOf P s run → Holds story h run → IsTrueOf P (narrowed h s) run
-narrowed_true P s story h run same ends rows single t holds = record {
-  registers = λ p r v early e. value_true (s.register p r) (h.set p r) ((run p).register r) v (t.registers p r v early) (in_set p r early) e;
-  ranges = λ p r early. range_true (s.range p r) (h.set p r) ((run p).register r) (t.ranges p r early) (in_set p r early);
-  notes = λ p r n early e. note_true (s.note p r) (h.set p r) ((run p).register r) n (λ m is. t.notes p r m early is) (in_set p r early) e;
-  bytes = λ p a v e. byte_true (s.byte p a) (nat_lt p s.moments) (h.byte p a) ((run p).memory a) v (t.bytes p a v) (λ before is. holds.bytes p a v (within p before) is) e;
-  writers = λ p a early small. writer_true P s story h run same rows t holds a (λ q le. single q a le) small p early;
+pub narrowed_true : {W : Type 0} (P : ThreadPath W) (s : Shown) (story : Story) (b : Beyond) (run : ℕ → State) → story.rows ≡ P.given.rows → s.moments ≡ length P.given.rows + 1 → s.rows 0 ≡ P.given.rows → ((p a : ℕ) → p ≤ length P.given.rows → s.writer p a ≢ writer.Several) → IsTrueOf P s run → Holds story b.told run → IsTrueOf P (narrowed b s) run
+narrowed_true P s story b run same ends rows single t holds = record {
+  registers = λ p r v early e. value_true (s.register p r) (b.told.set p r) ((run p).register r) v (t.registers p r v early) (in_set p r early) e;
+  ranges = λ p r early. range_true (s.range p r) (b.told.set p r) ((run p).register r) (t.ranges p r early) (in_set p r early);
+  notes = λ p r n early e. note_true (s.note p r) (b.told.set p r) ((run p).register r) n (λ m is. t.notes p r m early is) (in_set p r early) e;
+  bytes = λ p a v e. byte_true (s.byte p a) (nat_lt p s.moments) (b.told.byte p a) ((run p).memory a) v (t.bytes p a v) (λ before is. holds.bytes p a v (within p before) is) e;
+  writers = λ p a early small. writer_true P s story b.told run same rows t holds a (λ q le. single q a le) small p early;
 }
   where
     size : length story.rows ≡ length P.given.rows
     size = ap length same
 
-    in_set : (p r : ℕ) → p ≤ length P.given.rows → HasIn (h.set p r) ((run p).register r)
+    in_set : (p r : ℕ) → p ≤ length P.given.rows → HasIn (b.told.set p r) ((run p).register r)
     in_set p r early w is = holds.sets p r w (omega (arith, size, early)) is
 
     within : (p : ℕ) → nat_lt p s.moments ≡ true → p ≤ length story.rows
@@ -119,8 +120,8 @@ note_kept n None = (n, refl, and_self n.0)
 note_kept n (Some w) = (joined n (both_moves.note w), refl, joins n (both_moves.note w))
 
 -- all that was known still is
-pub knows_all : (h : Holding) (s : Shown) → TellsAll s (narrowed h s)
-knows_all h s = record {
+pub knows_all : (b : Beyond) (s : Shown) → TellsAll s (narrowed b s)
+knows_all b s = let h : Holding = b.told in record {
   registers = λ p r v e. ap (λ o. value_by o (h.set p r)) e;
   ranges = λ p r. tighter (s.range p r) (h.set p r);
   notes = λ p r n e. subst (λ (o : Option (ℕ × ℕ)). (m : ℕ × ℕ) × (note_by o (h.set p r) ≡ Some m) × (bit_and n.0 m.0 ≡ n.0)) (sym e) (note_kept n (h.set p r));
@@ -135,14 +136,14 @@ knows_same s = record {
   bytes = λ m a v e. e;
 }
 
-pub knows_beyond : (o : Option Holding) (s : Shown) → TellsAll s (shown_beyond o s)
+pub knows_beyond : (o : Option Beyond) (s : Shown) → TellsAll s (shown_beyond o s)
 knows_beyond None s = knows_same s
-knows_beyond (Some h) s = knows_all h s
+knows_beyond (Some b) s = knows_all b s
 
 -- a register or byte has values at as many points or moments
-pub places_kept : (h : Holding) (s : Shown) (c : Cell) → places_of (narrowed h s) c ≡ places_of s c
-places_kept h s (Register r) = refl
-places_kept h s (Byte a) = refl
+pub places_kept : (b : Beyond) (s : Shown) (c : Cell) → places_of (narrowed b s) c ≡ places_of s c
+places_kept b s (Register r) = refl
+places_kept b s (Byte a) = refl
 
 reported_value : (known : Option ℕ) (i : Bool) → (if is_some known then i else true) ≡ false → (is_some known ≡ true) × (i ≡ false)
 reported_value None i e = let bad : ⊥ = cc in absurd bad
@@ -157,6 +158,6 @@ byte_kept None o e = let bad : ⊥ = cc in absurd bad
 byte_kept (Some v) o e = refl
 
 -- what isn't inferred is of the findings
-pub reported : (h : Holding) (s : Shown) (p : ℕ) (c : Cell) → (narrowed h s).is_inferred p c ≡ false → (known_value (narrowed h s) p c ≡ known_value s p c) × (s.is_inferred p c ≡ false)
-reported h s p (Register r) e = let k = reported_value (s.register p r) (s.is_inferred p (Register r)) e in (value_kept (s.register p r) (h.set p r) k.0, k.1)
-reported h s p (Byte a) e = let k = reported_value (s.byte p a) (s.is_inferred p (Byte a)) e in (byte_kept (s.byte p a) (if nat_lt p s.moments then h.byte p a else None) k.0, k.1)
+pub reported : (b : Beyond) (s : Shown) (p : ℕ) (c : Cell) → (narrowed b s).is_inferred p c ≡ false → (known_value (narrowed b s) p c ≡ known_value s p c) × (s.is_inferred p c ≡ false)
+reported b s p (Register r) e = let k = reported_value (s.register p r) (s.is_inferred p (Register r)) e in (value_kept (s.register p r) (b.told.set p r) k.0, k.1)
+reported b s p (Byte a) e = let k = reported_value (s.byte p a) (s.is_inferred p (Byte a)) e in (byte_kept (s.byte p a) (if nat_lt p s.moments then b.told.byte p a else None) k.0, k.1)

@@ -11,7 +11,7 @@ use Rattle.rept_findings.specs.LastWriters.{AreLastWriters, named_row}
 use Rattle.rept_findings.specs.Shown.{IsThreadPoint, Shown}
 use Rattle.rept_findings.specs.Texts.{at}
 use Rattle.rept_infer.specs.Holding.{Holding}
-use Rattle.rept_inferred.specs.Narrowed.{narrowed}
+use Rattle.rept_inferred.specs.Narrowed.{Beyond, narrowed, narrowed_by}
 use Rattle.rept_inferred.specs.Writing.{HasOneLine, all_below, greatest, instr_reaches, is_exact_store, is_line, is_lined_at, names_step, refined_row, refined_step, sharpened, told_if, told_step, writer_beyond, writer_by, writer_if}
 use Rattle.rept_inferred.proofs.Greatest.{below, empty, kept, names_is}
 
@@ -151,7 +151,7 @@ module _ (h : Holding) (s : Shown) (line : is_line s ≡ true) (thread a : ℕ) 
   from_point : (p q j : ℕ) → IsThreadPoint s (at thread p) → q ≤ p → named_row (greatest told q) ≡ Some j → named_row (writer_beyond h s (s.moment (s.first thread + q)) a) ≡ Some j
   from_point p q j inside le e = ap named_row (is_told p q inside le) ∙ e
 
-  last_on : AreLastWriters (narrowed h s) thread a
+  last_on : AreLastWriters (narrowed_by h s) thread a
   last_on = record {
     before = λ step p inside own e.
         let here = to_point p p step inside (omega arith) e in
@@ -176,7 +176,7 @@ module _ (h : Holding) (s : Shown) (off : is_line s ≡ false) (thread a : ℕ) 
   from_report : (m j : ℕ) → named_row (s.writer m a) ≡ Some j → named_row (writer_beyond h s m a) ≡ Some j
   from_report m j e = ap named_row (same_there m) ∙ e
 
-  last_off : AreLastWriters (narrowed h s) thread a
+  last_off : AreLastWriters (narrowed_by h s) thread a
   last_off = record {
     before = λ step p inside own e. laws.before step p inside own (to_report (s.moment (s.first thread + p)) step e);
     since = λ step q p inside own e low high. from_report (s.moment (s.first thread + q)) step (laws.since step q p inside own (to_report (s.moment (s.first thread + p)) step e) low high);
@@ -184,9 +184,14 @@ module _ (h : Holding) (s : Shown) (off : is_line s ≡ false) (thread a : ℕ) 
     none = λ q p inside e high. same_there (s.moment (s.first thread + q)) ∙ laws.none q p inside (sym (same_there (s.moment (s.first thread + p))) ∙ e) high;
   }
 
-pub last_beyond : (h : Holding) (s : Shown) (thread a : ℕ) → AreLastWriters s thread a → AreLastWriters (narrowed h s) thread a
-last_beyond h s thread a laws = by (is_line s) refl
+last_narrowed : (h : Holding) (s : Shown) (thread a : ℕ) → AreLastWriters s thread a → AreLastWriters (narrowed_by h s) thread a
+last_narrowed h s thread a laws = by (is_line s) refl
   where
-    by : (c : Bool) → is_line s ≡ c → AreLastWriters (narrowed h s) thread a
+    by : (c : Bool) → is_line s ≡ c → AreLastWriters (narrowed_by h s) thread a
     by true e = last_on h s e thread a
     by false e = last_off h s e thread a laws
+
+pub last_beyond : (b : Beyond) (s : Shown) (thread a : ℕ) → AreLastWriters s thread a → AreLastWriters (narrowed b s) thread a
+last_beyond b s thread a laws =
+    let l = last_narrowed b.told s thread a laws in
+    record { before = l.before; since = l.since; between = l.between; none = l.none }

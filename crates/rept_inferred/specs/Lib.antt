@@ -1,3 +1,4 @@
+pub mod Added
 pub mod Known
 pub mod Writing
 pub mod Narrowed

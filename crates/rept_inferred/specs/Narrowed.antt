@@ -9,13 +9,9 @@ use Rattle.rept_partial.specs.declared.range.Range.{Range}
 use Rattle.rept_partial.specs.Ranges.{range_meet}
 use Rattle.rept_reason.specs.declared.fact.Cell.{Cell}
 use Rattle.rept_findings.specs.Shown.{Shown, known_value}
+use Rattle.rept_findings.specs.declared.findings.PremisesTaken.{PremisesTaken}
+use Rattle.rept_inferred.specs.Added.{known_beyond, value_by}
 use Rattle.rept_inferred.specs.Writing.{counts_by, writer_beyond}
-
--- a known value, or else the only one of a set
-abbrev pub value_by : Option ℕ → Option Both → Option ℕ
-value_by (Some v) w = Some v
-value_by None None = None
-value_by None (Some w) = both_sets.as_exact w
 
 -- the words of a range that lie between the bounds of a set, too
 abbrev pub range_by : Range → Option Both → Range
@@ -33,10 +29,18 @@ note_by note None = note
 note_by None (Some w) = both_moves.note w
 note_by (Some n) (Some w) = Some (joined n (both_moves.note w))
 
+-- what was inferred beyond a report, and by which premises
+pub record Beyond : Type 0 where
+  pub told : Holding
+  pub taken : PremisesTaken
+
+abbrev pub beyond_of : Holding → PremisesTaken → Beyond
+beyond_of told taken = record { told = told; taken = taken }
+
 -- What is shown of a report, with the sets of registers narrowed by a holding, with the bytes that it
 -- tells besides, and with what that leaves of possible writers.
-abbrev pub narrowed : Holding → Shown → Shown
-narrowed h s = record s {
+abbrev pub narrowed_by : Holding → Shown → Shown
+narrowed_by h s = record s {
   register = λ p r. value_by (s.register p r) (h.set p r);
   range = λ p r. range_by (s.range p r) (h.set p r);
   note = λ p r. note_by (s.note p r) (h.set p r);
@@ -46,10 +50,14 @@ narrowed h s = record s {
   is_inferred = λ m c. if is_some (known_value s m c) then s.is_inferred m c else true;
 }
 
--- the same where more was inferred; else what is shown of the report
-abbrev pub shown_beyond : Option Holding → Shown → Shown
+-- and with how much that is
+abbrev pub narrowed : Beyond → Shown → Shown
+narrowed b s = record (narrowed_by b.told s) { beyond = Some (known_beyond b.told b.taken s) }
+
+-- what is shown where more was inferred; else what is shown of the report
+abbrev pub shown_beyond : Option Beyond → Shown → Shown
 shown_beyond None s = s
-shown_beyond (Some h) s = narrowed h s
+shown_beyond (Some b) s = narrowed b s
 
 -- the second knows each value, bound and bit that the first one knows
 pub record TellsAll (s more : Shown) : Type 0 where

@@ -1,6 +1,7 @@
 //! What is inferred of a crash beyond its report: the findings of a session, narrowed.
 #![tactic(auto)]
 
+mod counting;
 mod narrowing;
 mod overlay;
 mod reported;

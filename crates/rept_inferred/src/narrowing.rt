@@ -1,7 +1,8 @@
 //! What is shown of one register, narrowed by a set.
 
 ghost use Rattle.std.specs.Prelude.{◌≡◌, Some};
-ghost use Rattle.rept_inferred.specs.Narrowed.{joined, note_by, range_by, value_by};
+ghost use Rattle.rept_inferred.specs.Added.{is_added, value_by};
+ghost use Rattle.rept_inferred.specs.Narrowed.{joined, note_by, range_by};
 
 use rept_known::Both;
 use rept_partial::{Partial, Range};
@@ -15,6 +16,13 @@ pub fn value_by(known: Option<u32>, set: Both) -> Option<u32>
         Some(value) => Some(value),
         None => set.as_exact(),
     }
+}
+
+/// Whether a value that wasn't known is the only one of the set.
+pub fn is_added(known: Option<u32>, set: Both) -> bool
+    ensures { result ≡ is_added known (Some set) }
+{
+    known.is_none() && set.as_exact().is_some()
 }
 
 /// The words of the range that lie between the bounds of the set.

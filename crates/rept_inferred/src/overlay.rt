@@ -1,42 +1,49 @@
 //! The findings of a report with what was inferred beyond it.
 
-ghost use Rattle.std.specs.Prelude.{◌≡◌};
+ghost use Rattle.std.specs.Prelude.{◌≡◌, ◌<◌};
 ghost use Rattle.rept_inferred.specs.Writing.{is_line};
 
 use crate::narrowing::{note_by, range_by, value_by};
 use crate::writing::{PossibleWriters, is_line};
 use rept_elf::Symbol;
-use rept_findings::{Findings, ThreadPlace, ThreadPoint};
+use rept_findings::{BeyondRule, Findings, KnownBeyond, PremisesTaken, ThreadPlace, ThreadPoint};
 use rept_infer::InferredPath;
 use rept_isa::{Reg, StepRow};
-use rept_narrow::{KnownPath, PathPremises};
+use rept_narrow::{KnownPath, NarrowRule, PathPremises};
 use rept_partial::Range;
 use rept_reason::{Cell, Fact, Reason};
 use rept_report::{Counts, Writer};
 use rept_word::OutOfMemory;
 use std::alloc::Global;
 
-/// The findings of a run that is one path, and what was inferred of the path beyond them. What is
-/// told of registers, bytes, writers and stores is narrowed; all else is that of the findings. A
-/// value that only was inferred has no reason.
+/// The findings of a run that is one path, what was inferred of the path beyond them, and by which
+/// premises. What is told of registers, bytes, writers and stores is narrowed; all else is that of
+/// the findings. A value that only was inferred has no reason.
 #[derive(Drop)]
 pub struct InferredCrash<'a, F: Findings, K: KnownPath, P: PathPremises> {
     pub found: F,
     pub inferred: InferredPath<'a, K, P>,
+    pub taken: PremisesTaken,
     pub(crate) line: bool,
     ghost lined: { line ≡ is_line (F.shown found) },
 }
 
 impl<'a, F: Findings, K: KnownPath, P: PathPremises> InferredCrash<'a, F, K, P> {
-    /// These findings, with what was inferred beyond them.
-    pub fn new(found: F, inferred: InferredPath<'a, K, P>) -> InferredCrash<'a, F, K, P>
+    /// These findings, with what was inferred beyond them by these premises.
+    pub fn new(
+        found: F,
+        inferred: InferredPath<'a, K, P>,
+        taken: PremisesTaken,
+    ) -> InferredCrash<'a, F, K, P>
         ensures found { result.found ≡ found }
         ensures inferred { result.inferred ≡ inferred.entry }
+        ensures taken { result.taken ≡ taken }
     {
         let line = is_line(&found);
         InferredCrash {
             found,
             inferred,
+            taken,
             line,
         }
     }
@@ -55,9 +62,9 @@ impl<'a, F: Findings, K: KnownPath, P: PathPremises> InferredCrash<'a, F, K, P> 
 
 impl<'a, F: Findings, K: KnownPath, P: PathPremises> Findings for InferredCrash<'a, F, K, P> {
     ghost use Rattle.rept_infer.specs.Path.{path_reader, told_in};
-    ghost use Rattle.rept_inferred.specs.Narrowed.{narrowed};
+    ghost use Rattle.rept_inferred.specs.Narrowed.{beyond_of, narrowed};
 
-    ghost shown = { λ f. narrowed (told_in (path_reader K.set K.byte P.premises) f.inferred) (F.shown f.found) };
+    ghost shown = { λ f. narrowed (beyond_of (told_in (path_reader K.set K.byte P.premises) f.inferred) f.taken) (F.shown f.found) };
 
     ghost reasons = { λ f fact why. F.reasons f.found fact why };
 
@@ -150,6 +157,21 @@ impl<'a, F: Findings, K: KnownPath, P: PathPremises> Findings for InferredCrash<
         self.found.symbols(alloc, addresses)
     }
 
+    fn beyond(&self) -> Option<KnownBeyond> {
+        Some(KnownBeyond {
+            registers: self.values_added(),
+            bytes: self.bytes_added(),
+            premises: self.taken,
+        })
+    }
+
+    fn rule(&self, number: u32, cell: Cell) -> BeyondRule {
+        match cell {
+            Cell::Register(register) => rule_of(self.inferred.set_rule(number, register)),
+            Cell::Byte(address) => self.byte_rule(number, address),
+        }
+    }
+
     fn is_inferred(&self, number: u32, cell: Cell) -> bool {
         let known = match cell {
             Cell::Register(register) => self.found.reg(number, register).is_some(),
@@ -164,5 +186,30 @@ impl<'a, F: Findings, K: KnownPath, P: PathPremises> Findings for InferredCrash<
 
     fn why(&mut self, alloc: Global, fact: Fact) -> Result<Option<Reason>, OutOfMemory> {
         self.found.why(alloc, fact)
+    }
+}
+
+impl<'a, F: Findings, K: KnownPath, P: PathPremises> InferredCrash<'a, F, K, P> {
+    /// The rule by which a byte was inferred: a step that is known to have stored it tells its
+    /// value.
+    fn byte_rule(&self, moment: u32, address: u32) -> BeyondRule
+        requires { moment < (F.shown self.now.found).moments }
+    {
+        match self.found.writer(moment, address) {
+            Writer::Writes(_) => BeyondRule::Value,
+            _ => rule_of(self.inferred.byte_rule(moment, address)),
+        }
+    }
+}
+
+/// A rule, as a session names it.
+fn rule_of(rule: NarrowRule) -> BeyondRule {
+    match rule {
+        NarrowRule::Value => BeyondRule::Value,
+        NarrowRule::Call => BeyondRule::Call,
+        NarrowRule::Class => BeyondRule::Class,
+        NarrowRule::Miss => BeyondRule::Miss,
+        NarrowRule::ReadOnly => BeyondRule::ReadOnly,
+        NarrowRule::FirstMemory => BeyondRule::FirstMemory,
     }
 }

@@ -23,7 +23,7 @@ pub struct ByteAt {
 }
 
 /// How many bytes a load reads.
-fn load_width(op: LoadOp) -> u32
+pub fn load_width(op: LoadOp) -> u32
     ensures width { result ≡ load_width op }
     ensures small { result ≤ 4 }
 {

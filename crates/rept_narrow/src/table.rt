@@ -6,6 +6,7 @@ ghost use Rattle.rept_narrow.specs.Admitted.{Story};
 ghost use Rattle.rept_narrow.specs.Rules.{set_at, HasSets, KeepsSets, IsSoundIn};
 
 use crate::known::KnownPath;
+use crate::rule::{KeptRules, NarrowRule};
 use rept_isa::{Reg, register};
 use rept_known::Both;
 use rept_partial::Partial;
@@ -23,12 +24,12 @@ pub struct Empty {
 
 /// A set of values for each of the 32 registers at each point.
 #[derive(Drop)]
-pub struct Table {
+struct SetGrid {
     points: u32,
     items: Vec<Both>,
 }
 
-impl Model for Table {
+impl Model for SetGrid {
     ghost use Rattle.std.specs.Prelude.{◌≡◌, ◌*◌, length};
     ghost use Rattle.rept_known.specs.declared.both.Both.{Both};
     ghost use Rattle.rept_span.specs.Filled.{View};
@@ -38,6 +39,23 @@ impl Model for Table {
     ghost view = { λ t. record { points = t.points; items = t.items.items } };
 
     ghost invariant = { λ t. length t.items.items ≡ t.points * 32 };
+}
+
+/// A set of values for each of the 32 registers at each point, and by which rule it was narrowed
+/// last.
+#[derive(Drop)]
+pub struct Table {
+    grid: SetGrid,
+    rules: KeptRules,
+}
+
+impl Model for Table {
+    ghost use Rattle.rept_known.specs.declared.both.Both.{Both};
+    ghost use Rattle.rept_span.specs.Filled.{View};
+
+    ghost Value = { View Both };
+
+    ghost view = { λ t. t.grid };
 }
 
 /// Where the set of a register at a point stands.
@@ -65,22 +83,18 @@ fn known_sets<K: KnownPath>(
     Ok(v)
 }
 
-impl Table {
-    /// A table of so many points with the sets that are known.
-    pub fn of_known<K: KnownPath>(
-        alloc: Global,
-        known: &K,
-        points: u32,
-    ) -> Result<Table, OutOfMemory>
+impl SetGrid {
+    /// So many points with the sets that are known.
+    fn of_known<K: KnownPath>(alloc: Global, known: &K, points: u32) -> Result<SetGrid, OutOfMemory>
         ensures points { IfOk result (λ t. t.points ≡ points) }
         ensures known { IfOk result (λ t. (p r : ℕ) → p < points → r < 32 → set_at t p r ≡ Some (K.set known.now p r)) }
     {
         let items = known_sets(alloc, known, points as usize * 32)?;
-        Ok(Table { points, items })
+        Ok(SetGrid { points, items })
     }
 
     /// How many points there are.
-    pub fn points(&self) -> u32
+    fn points(&self) -> u32
         ensures points { result ≡ self.now.points }
         ensures long { length self.now.items ≡ self.now.points * 32 }
     {
@@ -88,7 +102,7 @@ impl Table {
     }
 
     /// The set of a register at a point.
-    pub fn at(&self, point: u32, r: Reg) -> Both
+    fn at(&self, point: u32, r: Reg) -> Both
         requires point { point < self.now.points }
         ensures value { set_at self.now point r ≡ Some result }
     {
@@ -106,6 +120,61 @@ impl Table {
         let _points = &self.points;
         let place = place(point, r);
         self.items[place] = w;
+    }
+}
+
+impl Table {
+    /// A table of so many points with the sets that are known.
+    pub fn of_known<K: KnownPath>(
+        alloc: Global,
+        known: &K,
+        points: u32,
+    ) -> Result<Table, OutOfMemory>
+        ensures points { IfOk result (λ t. t.points ≡ points) }
+        ensures known { IfOk result (λ t. (p r : ℕ) → p < points → r < 32 → set_at t p r ≡ Some (K.set known.now p r)) }
+    {
+        let rules = KeptRules::of(alloc, points as usize * 32)?;
+        let grid = SetGrid::of_known(alloc, known, points)?;
+        Ok(Table { grid, rules })
+    }
+
+    /// From here on sets are narrowed by this rule.
+    pub fn begin(&mut self, rule: NarrowRule)
+        ensures { self.new ≡ self.old }
+    {
+        self.rules.begin(rule);
+    }
+
+    /// By which rule the set of a register at a point was narrowed last.
+    pub fn rule(&self, point: u32, r: Reg) -> NarrowRule {
+        self.rules.at(place(point, r))
+    }
+
+    /// How many points there are.
+    pub fn points(&self) -> u32
+        ensures points { result ≡ self.now.points }
+        ensures long { length self.now.items ≡ self.now.points * 32 }
+    {
+        self.grid.points()
+    }
+
+    /// The set of a register at a point.
+    pub fn at(&self, point: u32, r: Reg) -> Both
+        requires point { point < self.now.points }
+        ensures value { set_at self.now point r ≡ Some result }
+    {
+        self.grid.at(point, r)
+    }
+
+    /// Writes the set of a register at a point, and by which rule.
+    fn set(&mut self, point: u32, r: Reg, w: Both)
+        requires point { point < self.old.points }
+        ensures points { self.new.points ≡ self.old.points }
+        ensures here { set_at self.new point r ≡ Some w }
+        ensures others { (q s : ℕ) → ((q ≡ point) × (s ≡ r) → ⊥) → set_at self.new q s ≡ set_at self.old q s }
+    {
+        self.rules.keep(place(point, r));
+        self.grid.set(point, r, w);
     }
 
     /// Cuts the set of a register at a point to the values that another set has, too; answers

@@ -34,8 +34,8 @@ use Rattle.rept_found.specs.View.{CrashView, IsFoundIn, scene_in, set_in, state_
 use Rattle.rept_found.proofs.Alone.{alone_setting, alone_shown}
 use Rattle.rept_found.proofs.Single.{one_thread_shown}
 use Rattle.rept_narrow.specs.Admitted.{IsAdmitted}
-use Rattle.rept_infer.specs.Holding.{Has, Holding, Holds, Keeps, Refuses, holding_of}
-use Rattle.rept_inferred.specs.Narrowed.{narrowed, shown_beyond}
+use Rattle.rept_infer.specs.Holding.{Has, Holds, Keeps, Refuses, holding_of}
+use Rattle.rept_inferred.specs.Narrowed.{Beyond, narrowed, shown_beyond}
 use Rattle.rept_inferred.specs.Known.{byte_known, set_known, shown_in}
 use Rattle.rept_inferred.proofs.Kept.{knows_beyond, narrowed_true}
 use Rattle.rept_inferred.proofs.Writers.{last_single}
@@ -53,6 +53,7 @@ use Rattle.rept_opening.specs.Beyond.{begun_file, executable_of, has_page, loade
 use Rattle.rept_opening.specs.Opened.{CrashRun, IsBeyond, RunAccount, crash_run, route_of, told_by, told_in}
 use Rattle.rept_opening.specs.Report.{HasNoReport, IsAsked}
 use Rattle.rept_opening.specs.True.{IsTrue, IsTrueAlone, IsTrueBeyond, path_by}
+use Rattle.rept_opening.specs.Taken.{taken_of}
 use Rattle.rept_opening.specs.declared.refusal.Refusal.{Refusal}
 
 same_rows : {x y : List StepRow} → Some x ≡ Some y → x ≡ y
@@ -63,9 +64,9 @@ clash e f = let bad : false ≡ true = sym e ∙ f in cc
 
 -- what is asked of a run without more, or refused of it, is asked or refused where more is inferred
 module _ {W : Type 0} (m : Means W) (crash : Crash) (run : Run) (plain : m.beyond ≡ false) where
-  still_beyond : (o : Option Holding) → IsBeyond (crash_run m crash run) o → IsBeyond (crash_run (means_beyond m) crash run) o
+  still_beyond : (o : Option Beyond) → IsBeyond (crash_run m crash run) o → IsBeyond (crash_run (means_beyond m) crash run) o
   still_beyond None b = tt
-  still_beyond (Some h) b = absurd (clash plain b.asked)
+  still_beyond (Some more) b = absurd (clash plain b.asked)
 
   pub asked_still : {E : Type 0} (Asks : SessionTold → ℕ → PortMove Port → PortMove Port → E → Type 0) (source sink : PortMove Port) (end : E) → IsAsked Asks (crash_run m crash run) source sink end → IsAsked Asks (crash_run (means_beyond m) crash run) source sink end
   asked_still Asks source sink end h = record {
@@ -80,16 +81,17 @@ module _ {W : Type 0} (m : Means W) (crash : Crash) (run : Run) (plain : m.beyon
   refused_still r (inr (inr is)) = inr (inr is)
 
 -- what was asked over a report with what was inferred beyond it
-pub asked_inferred : {W R E : Type 0} (m : Means W) (v : CrashView W R) (crash : Crash) (run : Run) (rows : List StepRow) (h : Holding) → IsFoundIn m (route m crash (course_of run)) (scene_of crash) v → path_rows run ≡ Some rows
-    → ((states : ℕ → State) → IsAdmitted (story_of crash run.skipped rows) states → Holds (story_of crash run.skipped rows) h states)
+pub asked_inferred : {W R E : Type 0} (m : Means W) (v : CrashView W R) (crash : Crash) (run : Run) (rows : List StepRow) (b : Beyond) → IsFoundIn m (route m crash (course_of run)) (scene_of crash) v → path_rows run ≡ Some rows
+    → ((states : ℕ → State) → IsAdmitted (story_of crash run.skipped rows) states → Holds (story_of crash run.skipped rows) b.told states)
+    → b.taken ≡ taken_of crash run.skipped rows
     → (Asks : SessionTold → ℕ → PortMove Port → PortMove Port → E → Type 0) (signal : ℕ) (source sink : PortMove Port) (end : E) → signal ≡ half_at (note_at crash 0) 12
-    → Asks (session_told (narrowed h (shown_on (trip_in m v) (answers (state_in m v)) (scene_in v))) run.skipped (IsReason (setting_on (trip_in m v)) (state_in m v).known.log)) signal source sink end
+    → Asks (session_told (narrowed b (shown_on (trip_in m v) (answers (state_in m v)) (scene_in v))) run.skipped (IsReason (setting_on (trip_in m v)) (state_in m v).known.log)) signal source sink end
     → IsAsked Asks (crash_run (means_beyond m) crash run) source sink end
-asked_inferred {W} m v crash run rows h found one holds Asks signal source sink end is asked =
-    let account : RunAccount = record { known = answers (state_in m v); log = (state_in m v).known.log; scene = scene_in v; skipped = run.skipped; beyond = Some h } in
+asked_inferred {W} m v crash run rows b found one holds taken Asks signal source sink end is asked =
+    let account : RunAccount = record { known = answers (state_in m v); log = (state_in m v).known.log; scene = scene_in v; skipped = run.skipped; beyond = Some b } in
     record {
       account = account;
-      report = record { report = found.report; log = found.log; scene = found.same_scene; skipped = refl; beyond = record { asked = refl; rows = rows; one = one; holds = holds } };
+      report = record { report = found.report; log = found.log; scene = found.same_scene; skipped = refl; beyond = record { asked = refl; rows = rows; one = one; holds = holds; taken = taken } };
       asked = subst (λ (s : ℕ). Asks (told_by (route m crash (course_of run)) account) s source sink end) is (subst (λ (t : Trip W). Asks (told_by t account) signal source sink end) found.trip asked);
     }
 
@@ -182,15 +184,15 @@ module _ {W : Type 0} (p : CrashRun W) (a : RunAccount) (true_of : IsTrue p a.kn
         let is = subst (λ (s : Shown). s.writer q x ≡ last_writer (path_setting (path_by p rows)) a.known q x) (sym (alone.shown a.scene)) ((one_thread_shown (path_by p rows) a.known a.scene).writer q x le) in
         last_single (path_setting (path_by p rows)) a.known q x (sym is ∙ e)
 
-    beyond_true : path_rows p.run ≡ Some rows → (o : Option Holding) → IsBeyond p o → IsTrueOf (path_by p rows) (shown_beyond o there) states
+    beyond_true : path_rows p.run ≡ Some rows → (o : Option Beyond) → IsBeyond p o → IsTrueOf (path_by p rows) (shown_beyond o there) states
     beyond_true one None b = reported_true
-    beyond_true one (Some h) b =
-        let held = subst (λ (rs : List StepRow). IsAdmitted (story_of p.crash p.run.skipped rs) states → Holds (story_of p.crash p.run.skipped rs) h states) (same_rows (sym b.one ∙ one)) (b.holds states) in
-        narrowed_true (path_by p rows) there (story_of p.crash p.run.skipped rows) h states refl moments_are rows_are singles reported_true (held admitted)
+    beyond_true one (Some more) b =
+        let held = subst (λ (rs : List StepRow). IsAdmitted (story_of p.crash p.run.skipped rs) states → Holds (story_of p.crash p.run.skipped rs) more.told states) (same_rows (sym b.one ∙ one)) (b.holds states) in
+        narrowed_true (path_by p rows) there (story_of p.crash p.run.skipped rows) more states refl moments_are rows_are singles reported_true (held admitted)
 
-  none_beyond : (o : Option Holding) → IsBeyond p o → p.means.beyond ≡ false → o ≡ None
+  none_beyond : (o : Option Beyond) → IsBeyond p o → p.means.beyond ≡ false → o ≡ None
   none_beyond None b e = refl
-  none_beyond (Some h) b e = absurd (clash e b.asked)
+  none_beyond (Some more) b e = absurd (clash e b.asked)
 
   pub told_beyond : IsBeyond p a.beyond → IsTrueBeyond p a
   told_beyond b = record {

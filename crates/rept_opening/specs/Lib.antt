@@ -12,6 +12,7 @@ pub mod Path
 pub mod Reading
 pub mod Report
 pub mod Status
+pub mod Taken
 pub mod TraceRun
 pub mod True
 pub mod Words

@@ -20,8 +20,8 @@ use Rattle.rept_found.specs.Contradictions.{contradiction_on}
 use Rattle.rept_found.specs.Crash.{Crash, Means, Scene, route, scene_of, setting}
 use Rattle.rept_found.specs.Telling.{shown_on}
 use Rattle.rept_narrow.specs.Admitted.{IsAdmitted}
-use Rattle.rept_infer.specs.Holding.{Holding, Holds}
-use Rattle.rept_inferred.specs.Narrowed.{shown_beyond}
+use Rattle.rept_infer.specs.Holding.{Holds}
+use Rattle.rept_inferred.specs.Narrowed.{Beyond, shown_beyond}
 use Rattle.rept_found.specs.declared.contradiction.Contradiction.{Contradiction}
 use Rattle.rept_opening.specs.declared.words.request.Domain.{Domain}
 use Rattle.rept_opening.specs.Beyond.{story_of}
@@ -31,6 +31,7 @@ use Rattle.rept_opening.specs.Loading.{CrashBytes, Loading, loading}
 use Rattle.rept_opening.specs.Loading.Loading.{Refused, Loaded, LoadedCore, MadeRun}
 use Rattle.rept_opening.specs.Mapped.{mapped_crash, IsMappedAs}
 use Rattle.rept_opening.specs.Reading.{NotesSay}
+use Rattle.rept_opening.specs.Taken.{taken_of}
 use Rattle.rept_opening.specs.TraceRun.{IsRunOf}
 use Rattle.rept_opening.specs.declared.load.OpenOptions.{OpenOptions}
 
@@ -55,18 +56,19 @@ run_setting p = setting p.means p.crash (course_of p.run)
 abbrev pub contradiction_in : {W : Type 0} → CrashRun W → ConflictKind → Contradiction
 contradiction_in p kind = contradiction_on (course_of p.run) kind
 
--- More is inferred of the run, which is one path, and the holding holds in each admitted execution
--- of it.
-pub record IsInferredOf {W : Type 0} (p : CrashRun W) (h : Holding) : Type 0 where
+-- More is inferred of the run, which is one path: a holding holds in each admitted execution of it,
+-- and these premises are taken.
+pub record IsInferredOf {W : Type 0} (p : CrashRun W) (b : Beyond) : Type 0 where
   pub asked : p.means.beyond ≡ true
   pub rows : List StepRow
   pub one : path_rows p.run ≡ Some rows
-  pub holds : (states : ℕ → State) → IsAdmitted (story_of p.crash p.run.skipped rows) states → Holds (story_of p.crash p.run.skipped rows) h states
+  pub holds : (states : ℕ → State) → IsAdmitted (story_of p.crash p.run.skipped rows) states → Holds (story_of p.crash p.run.skipped rows) b.told states
+  pub taken : b.taken ≡ taken_of p.crash p.run.skipped rows
 
--- what is told beyond the report: nothing, or such a holding
-abbrev pub IsBeyond : {W : Type 0} → CrashRun W → Option Holding → Type 0
+-- what is told beyond the report: nothing, or so much
+abbrev pub IsBeyond : {W : Type 0} → CrashRun W → Option Beyond → Type 0
 IsBeyond p None = Unit {0}
-IsBeyond p (Some h) = IsInferredOf p h
+IsBeyond p (Some b) = IsInferredOf p b
 
 -- a report, the order in which it was learnt, what a session tells of the crash besides, how many
 -- packets were left out, and what was inferred beyond the report
@@ -75,7 +77,7 @@ pub record RunAccount : Type 0 where
   pub log : List Fact
   pub scene : Scene
   pub skipped : ℕ
-  pub beyond : Option Holding
+  pub beyond : Option Beyond
 
 -- what a session tells of a trip by an account, with reasons by that order
 abbrev pub told_by : {W : Type 0} → Trip W → RunAccount → SessionTold

@@ -16,12 +16,13 @@ ghost use Rattle.rept_narrow.specs.Admitted.{IsAdmitted};
 ghost use Rattle.rept_infer.specs.Holding.{Holds};
 ghost use Rattle.rept_infer.specs.Path.{path_reader, told_in};
 ghost use Rattle.rept_machine.specs.State.{State};
-ghost use Rattle.rept_inferred.specs.Narrowed.{narrowed};
+ghost use Rattle.rept_inferred.specs.Narrowed.{beyond_of, narrowed};
 ghost use Rattle.rept_findings.specs.Shown.{session_told};
-ghost use Rattle.rept_opening.specs.Beyond.{executable_of, story_of};
+ghost use Rattle.rept_opening.specs.Beyond.{begun_file, executable_of, story_of};
 ghost use Rattle.rept_opening.specs.Opened.{crash_run};
 ghost use Rattle.rept_opening.specs.Reading.{AreNotesOf};
 ghost use Rattle.rept_opening.specs.Report.{AreEndsOf, HasNoReport, IsAsked, IsFoundOf};
+ghost use Rattle.rept_opening.specs.Taken.{taken_by};
 ghost use Rattle.rept_opening.specs.TraceRun.{FitsDump};
 
 use crate::analysis::{Basis, analyse, basis_of};
@@ -30,9 +31,10 @@ use crate::areas::process_told;
 use crate::dumping::CrashImages;
 use crate::premises::{CrashPremises, begun_program};
 use crate::refusal::Refusal;
+use crate::taken::premises_taken;
 use rept_amo::Atomic;
 use rept_dump::Dump;
-use rept_findings::Findings;
+use rept_findings::{Findings, PremisesTaken};
 use rept_found::{AnalysedCrash, reports_are_true};
 use rept_infer::{InferStop, InferredPath, infer};
 use rept_inferred::{InferredCrash, Reported};
@@ -150,9 +152,13 @@ fn open_known<A: Asking, S: Source, K: Sink>(
         image_end,
     };
     match infer(alloc, rows, &reported, &premises) {
-        Ok(inferred) => ask_beyond::<Both, A, _, _, S, K>(
-            alloc, path, inferred, asking, input, out,
-        ),
+        Ok(inferred) => {
+            let beyond = TakenPath {
+                inferred,
+                taken: premises_taken(premises.begun, steps),
+            };
+            ask_beyond::<Both, A, _, _, S, K>(alloc, path, beyond, asking, input, out)
+        }
         Err(InferStop::Contradiction(empty)) => Err(Refusal::Refuted {
             point: empty.point,
             reg: empty.reg,
@@ -161,13 +167,20 @@ fn open_known<A: Asking, S: Source, K: Sink>(
     }
 }
 
+/// What was inferred of a path, and by which premises.
+#[derive(Drop)]
+struct TakenPath<'a, P: KnownPath, Q: PathPremises> {
+    inferred: InferredPath<'a, P, Q>,
+    taken: PremisesTaken,
+}
+
 /// Answers what is asked of the report of the path and of what was inferred beyond it. The report
 /// is made anew: what was inferred borrows the one from which it follows, and a reason of a fact
 /// changes the report that tells it.
 fn ask_beyond<W: Transfer, A: Asking, P: KnownPath, Q: PathPremises, S: Source, K: Sink>(
     alloc: Global,
     path: PathCrash<'_>,
-    inferred: InferredPath<'_, P, Q>,
+    beyond: TakenPath<'_, P, Q>,
     asking: &mut A,
     input: &mut S,
     out: &mut K,
@@ -176,7 +189,8 @@ fn ask_beyond<W: Transfer, A: Asking, P: KnownPath, Q: PathPremises, S: Source, 
     requires course { IsCourseOf (course_of path.run.now) path.basis.now.paths.ways }
     requires ended { AreEndsOf path.dump.now path.run.now path.basis.now.ends }
     requires one { path_rows path.run.now ≡ Some path.steps.now }
-    requires holds { (notes : List (List ℕ)) → AreNotesOf path.dump.now notes → (states : ℕ → State) → IsAdmitted (story_of (crash_of path.dump.now notes) path.run.now.skipped path.steps.now) states → Holds (story_of (crash_of path.dump.now notes) path.run.now.skipped path.steps.now) (told_in (path_reader P.set P.byte Q.premises) inferred) states }
+    requires holds { (notes : List (List ℕ)) → AreNotesOf path.dump.now notes → (states : ℕ → State) → IsAdmitted (story_of (crash_of path.dump.now notes) path.run.now.skipped path.steps.now) states → Holds (story_of (crash_of path.dump.now notes) path.run.now.skipped path.steps.now) (told_in (path_reader P.set P.byte Q.premises) beyond.inferred) states }
+    requires taken { beyond.taken ≡ taken_by (begun_file (executable_of (exe_of path.dump.now)) path.run.now.skipped path.steps.now) path.steps.now }
     ensures asked { (notes : List (List ℕ)) → AreNotesOf path.entry.dump.now notes → IfOk result (IsAsked (A.asks asking.old) (crash_run (means_beyond (means W.sets W.moves atomic_rules)) (crash_of path.entry.dump.now notes) path.entry.run.now) (move (S.port input.old) (S.port input.new)) (move (K.port out.old) (K.port out.new))) }
     ensures refused { (notes : List (List ℕ)) → AreNotesOf path.entry.dump.now notes → IfErr result (HasNoReport (crash_run (means_beyond (means W.sets W.moves atomic_rules)) (crash_of path.entry.dump.now notes) path.entry.run.now)) }
     ensures unread { IfErr result (λ _. (input.new ≡ input.old) × (out.new ≡ out.old)) }
@@ -187,7 +201,7 @@ fn ask_beyond<W: Transfer, A: Asking, P: KnownPath, Q: PathPremises, S: Source, 
                 skipped: path.run.skipped,
                 signal: path.dump.status().signal,
             };
-            Ok(ask_narrowed(alloc, found, inferred, circumstances, asking, input, out))
+            Ok(ask_narrowed(alloc, found, beyond, circumstances, asking, input, out))
         }
         Err(refusal) => Err(refusal),
     }
@@ -197,14 +211,15 @@ fn ask_beyond<W: Transfer, A: Asking, P: KnownPath, Q: PathPremises, S: Source, 
 fn ask_narrowed<A: Asking, F: Findings + Drop, P: KnownPath, Q: PathPremises, S: Source, K: Sink>(
     alloc: Global,
     found: F,
-    inferred: InferredPath<'_, P, Q>,
+    beyond: TakenPath<'_, P, Q>,
     circumstances: Circumstances,
     asking: &mut A,
     input: &mut S,
     out: &mut K,
 ) -> A::End
-    ensures { A.asks asking.old (session_told (narrowed (told_in (path_reader P.set P.byte Q.premises) inferred.entry) (F.shown found)) circumstances.skipped (F.reasons found)) circumstances.signal (move (S.port input.old) (S.port input.new)) (move (K.port out.old) (K.port out.new)) result }
+    ensures { A.asks asking.old (session_told (narrowed (beyond_of (told_in (path_reader P.set P.byte Q.premises) beyond.entry.inferred) beyond.entry.taken) (F.shown found)) circumstances.skipped (F.reasons found)) circumstances.signal (move (S.port input.old) (S.port input.new)) (move (K.port out.old) (K.port out.new)) result }
 {
-    let mut findings = InferredCrash::new(found, inferred);
+    let TakenPath { inferred, taken } = beyond;
+    let mut findings = InferredCrash::new(found, inferred, taken);
     asking.ask(alloc, &mut findings, circumstances, input, out)
 }

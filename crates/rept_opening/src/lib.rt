@@ -15,6 +15,7 @@ mod premises;
 mod refusal;
 mod running;
 mod status;
+mod taken;
 mod telling;
 mod texts;
 pub mod words;

@@ -13,14 +13,17 @@ use Rattle.rept_isa.specs.declared.row.StepRow.{StepRow}
 use Rattle.rept_isa.specs.Texts.{hex_text, instruction_text, register_text}
 use Rattle.rept_reason.specs.declared.fact.Fact.{Fact}
 use Rattle.rept_reason.specs.declared.fact.Cell.{Cell}
-use Rattle.rept_reason.specs.declared.fact.Cell.TheVariants.{Register}
+use Rattle.rept_reason.specs.declared.fact.Cell.TheVariants.{Register, Byte}
 use Rattle.rept_report.specs.Why.{Because}
+use Rattle.rept_report.specs.declared.writer.Writer.{Writer}
+use Rattle.rept_report.specs.declared.writer.Writer.TheVariants as writer
 use Rattle.rept_findings.specs.Shown.{SessionTold, Shown, moment_at, number}
+use Rattle.rept_findings.specs.declared.findings.BeyondRule.{BeyondRule}
 use Rattle.rept_findings.specs.declared.place.ThreadPoint.{ThreadPoint}
 use Rattle.rept_questions.specs.Spots.{point_text, points_where, spots_line}
 use Rattle.rept_questions.specs.Trail.{IsTrail, address_by, base_of, byte_source, bytes_read, is_constant, register_source, registers_read}
 use Rattle.rept_questions.specs.Writers.{is_sure_writer}
-use Rattle.rept_findings.specs.Texts.{at, looked_line, pc_at, premise_line, value_text, visible, writer_line, writer_text}
+use Rattle.rept_findings.specs.Texts.{at, looked_line, pc_at, premise_line, rule_line, value_text, visible, writer_line, writer_text}
 
 -- ` NAME+0xOFFSET`: the function that has an address, and how far the address is from its first
 -- one; nothing where none is named
@@ -53,16 +56,43 @@ reason_lines s why = codes "rule " ++ decimal why.rule ++ 10 ∷ [] ++ flat_map 
 abbrev pub IsReasoned : SessionTold → Fact → List ℕ → Type 0
 IsReasoned t fact text = (why : Because) × (t.reasons fact why × (text ≡ reason_lines t.shown why))
 
--- why a cell has this value at a point or moment: `unknown` where it has none, `inferred` where the
--- value isn't one of the report, else a reason of the fact
-abbrev pub IsExplained : SessionTold → ℕ → Cell → Option ℕ → List ℕ → Type 0
-IsExplained t point cell None text = text ≡ codes "unknown" ++ 10 ∷ []
-IsExplained t point cell (Some value) text =
-    MatchBool (t.shown.is_inferred point cell) (text ≡ codes "inferred" ++ 10 ∷ []) (IsReasoned t (record { point = point; cell = cell; value = value }) text)
+-- the text tells by which rule a value was inferred that this step left
+abbrev pub IsRuled : ℕ → List ℕ → Type 0
+IsRuled row text = (rule : BeyondRule) × (text ≡ rule_line row rule)
 
--- the same of a register, of which x0 always has one value
-abbrev pub IsRegisterExplained : SessionTold → ℕ → ℕ → List ℕ → Type 0
-IsRegisterExplained t point r text = MatchBool (r == 0) (text ≡ codes "constant" ++ 10 ∷ []) (IsExplained t point (Register r) (t.shown.register point r) text)
+abbrev pub or_first : Option ℕ → ℕ
+or_first None = 0
+or_first (Some step) = step
+
+-- the step that left a register's value at a point of a thread; 0 where none wrote it
+abbrev pub register_row : Shown → ThreadPoint → ℕ → ℕ
+register_row s c r = or_first (register_source (s.rows c.thread) c.point r)
+
+abbrev pub row_named : Shown → Writer → ℕ
+row_named s (writer.Writes j) = (s.point j).point
+row_named s (writer.MayWrite j) = (s.point j).point
+row_named s writer.Several = 0
+row_named s writer.None = 0
+
+-- the step that is named as the last writer of a byte at a moment; 0 where none is
+abbrev pub byte_row : Shown → ℕ → ℕ → ℕ
+byte_row s moment a = row_named s (s.writer moment a)
+
+-- why a cell has this value at a point or moment: `unknown` where it has none; where the value isn't
+-- one of the report the step that left it, and a rule; else a reason of the fact
+abbrev pub IsExplained : SessionTold → ℕ → ℕ → Cell → Option ℕ → List ℕ → Type 0
+IsExplained t row point cell None text = text ≡ codes "unknown" ++ 10 ∷ []
+IsExplained t row point cell (Some value) text =
+    MatchBool (t.shown.is_inferred point cell) (IsRuled row text) (IsReasoned t (record { point = point; cell = cell; value = value }) text)
+
+-- of a register, of which x0 always has one value
+abbrev pub IsRegisterExplained : SessionTold → ThreadPoint → ℕ → List ℕ → Type 0
+IsRegisterExplained t c r text =
+    MatchBool (r == 0) (text ≡ codes "constant" ++ 10 ∷ []) (IsExplained t (register_row t.shown c r) (number t.shown c) (Register r) (t.shown.register (number t.shown c) r) text)
+
+-- of a byte
+abbrev pub IsByteExplained : SessionTold → ThreadPoint → ℕ → List ℕ → Type 0
+IsByteExplained t c a text = IsExplained t (byte_row t.shown (moment_at t.shown c) a) (moment_at t.shown c) (Byte a) (t.shown.byte (moment_at t.shown c) a) text
 
 -- a space, a register, and its value or `unknown`
 abbrev pub operand_text : Shown → ℕ → ℕ → List ℕ

@@ -3,14 +3,17 @@
 ghost use Rattle.std.specs.Prelude.{◌≡◌, ◌≢◌, ℕ, ◌<◌, ◌++◌, false, IfOk, OnOk, Some};
 ghost use Rattle.std.specs.List.{flat_map};
 ghost use Rattle.rept_reason.specs.declared.fact.Cell.TheVariants.{Byte, Register};
-ghost use Rattle.rept_findings.specs.Shown.{SameReasons, explained, known_value, places_of, session_told};
+ghost use Rattle.rept_findings.specs.Shown.{IsThreadPoint, SameReasons, explained, known_value, number, places_of, session_told};
 ghost use Rattle.rept_findings.specs.Texts.{looked_line, premise_line};
-ghost use Rattle.rept_questions.specs.Texts.{IsExplained, IsReasoned, IsRegisterExplained, reason_lines};
+ghost use Rattle.rept_questions.specs.Texts.{IsByteExplained, IsExplained, IsReasoned, IsRegisterExplained, IsRuled, byte_row, reason_lines, register_row};
 
-use rept_findings::Findings;
-use rept_findings::pieces::{push_looked, push_numbered, push_premise};
+use crate::trail::register_source;
+use rept_findings::findings::{moment_of, number_of};
+use rept_findings::pieces::{push_looked, push_numbered, push_premise, push_rule};
+use rept_findings::{BeyondRule, Findings, ThreadPoint};
 use rept_isa::Reg;
 use rept_reason::{Cell, Fact, RangePremise, Reason};
+use rept_report::Writer;
 use rept_word::{OutOfMemory, Text};
 use std::alloc::Global;
 
@@ -18,60 +21,94 @@ use std::alloc::Global;
 pub fn why_register<F: Findings>(
     alloc: Global,
     findings: &mut F,
-    point: u32,
+    at: ThreadPoint,
     register: Reg,
 ) -> Result<Text, OutOfMemory>
-    requires { point < (F.shown findings.old).points }
-    ensures text { (skipped : ℕ) → IfOk result (IsRegisterExplained (session_told (F.shown findings.old) skipped (F.reasons findings.old)) point register) }
+    requires { IsThreadPoint (F.shown findings.old) at }
+    ensures text { (skipped : ℕ) → IfOk result (IsRegisterExplained (session_told (F.shown findings.old) skipped (F.reasons findings.old)) at register) }
     ensures same { F.shown findings.new ≡ F.shown findings.old }
     ensures same_reasons { SameReasons (F.reasons findings.old) (F.reasons findings.new) }
 {
     if register.number() == 0 {
         return whole_text(alloc, b"constant\n");
     }
-    why_value(alloc, findings, point, register)
+    why_value(alloc, findings, at, register)
 }
 
 /// Why a register other than x0 has its value at a point.
 fn why_value<F: Findings>(
     alloc: Global,
     findings: &mut F,
-    point: u32,
+    at: ThreadPoint,
     register: Reg,
 ) -> Result<Text, OutOfMemory>
-    requires point { point < (F.shown findings.old).points }
+    requires point { IsThreadPoint (F.shown findings.old) at }
     requires named { register ≢ 0 }
-    ensures text { (skipped : ℕ) → IfOk result (IsExplained (session_told (F.shown findings.old) skipped (F.reasons findings.old)) point (Register register) ((F.shown findings.old).register point register)) }
+    ensures text { (skipped : ℕ) → IfOk result (IsExplained (session_told (F.shown findings.old) skipped (F.reasons findings.old)) (register_row (F.shown findings.old) at register) (number (F.shown findings.old) at) (Register register) ((F.shown findings.old).register (number (F.shown findings.old) at) register)) }
     ensures same { F.shown findings.new ≡ F.shown findings.old }
     ensures same_reasons { SameReasons (F.reasons findings.old) (F.reasons findings.new) }
 {
+    let row = register_row(findings, at, register);
+    let point = number_of(findings, at);
     match findings.reg(point, register) {
-        Some(value) => explain(alloc, findings, point, Cell::Register(register), value),
+        Some(value) => {
+            let fact = Fact {
+                point,
+                cell: Cell::Register(register),
+                value,
+            };
+            explain(alloc, findings, row, fact)
+        }
         None => whole_text(alloc, b"unknown\n"),
     }
 }
 
-/// Why the byte at an address is known at a moment.
+/// The step that left a register's value at a point; 0 where none wrote it.
+fn register_row<F: Findings>(findings: &F, at: ThreadPoint, register: Reg) -> u32
+    requires { IsThreadPoint (F.shown findings.now) at }
+    ensures { result ≡ register_row (F.shown findings.now) at register }
+{
+    match register_source(findings.rows(at.thread), at.point, register) {
+        Some(step) => step,
+        None => 0,
+    }
+}
+
+/// Why the byte at an address is known at a point.
 pub fn why_byte<F: Findings>(
     alloc: Global,
     findings: &mut F,
-    moment: u32,
+    at: ThreadPoint,
     address: u32,
 ) -> Result<Text, OutOfMemory>
-    requires { moment < (F.shown findings.old).moments }
-    ensures text { (skipped : ℕ) → IfOk result (IsExplained (session_told (F.shown findings.old) skipped (F.reasons findings.old)) moment (Byte address) ((F.shown findings.old).byte moment address)) }
+    requires { IsThreadPoint (F.shown findings.old) at }
+    ensures text { (skipped : ℕ) → IfOk result (IsByteExplained (session_told (F.shown findings.old) skipped (F.reasons findings.old)) at address) }
     ensures same { F.shown findings.new ≡ F.shown findings.old }
     ensures same_reasons { SameReasons (F.reasons findings.old) (F.reasons findings.new) }
 {
+    let moment = moment_of(findings, at);
+    let row = byte_row(findings, moment, address);
     match findings.byte(moment, address) {
-        Some(value) => explain(
-            alloc,
-            findings,
-            moment,
-            Cell::Byte(address),
-            u32::from(value),
-        ),
+        Some(value) => {
+            let fact = Fact {
+                point: moment,
+                cell: Cell::Byte(address),
+                value: u32::from(value),
+            };
+            explain(alloc, findings, row, fact)
+        }
         None => whole_text(alloc, b"unknown\n"),
+    }
+}
+
+/// The step that is named as the last writer of a byte at a moment; 0 where none is.
+fn byte_row<F: Findings>(findings: &F, moment: u32, address: u32) -> u32
+    requires { moment < (F.shown findings.now).moments }
+    ensures { result ≡ byte_row (F.shown findings.now) moment address }
+{
+    match findings.writer(moment, address) {
+        Writer::Writes(step) | Writer::MayWrite(step) => findings.point(step).point,
+        Writer::Several | Writer::None => 0,
     }
 }
 
@@ -84,46 +121,33 @@ fn whole_text(alloc: Global, words: &[u8]) -> Result<Text, OutOfMemory>
     Ok(text)
 }
 
-/// Why a known fact holds, at the point or moment of a number.
+/// Why a known fact holds that a step left: it was inferred, or has a reason.
 fn explain<F: Findings>(
     alloc: Global,
     findings: &mut F,
-    number: u32,
-    cell: Cell,
-    value: u32,
-) -> Result<Text, OutOfMemory>
-    requires place { number < places_of (F.shown findings.old) cell }
-    requires named { cell ≢ Register 0 }
-    requires known { known_value (F.shown findings.old) number cell ≡ Some value }
-    ensures text { (skipped : ℕ) → IfOk result (IsExplained (session_told (F.shown findings.old) skipped (F.reasons findings.old)) number cell (Some value)) }
-    ensures same { F.shown findings.new ≡ F.shown findings.old }
-    ensures same_reasons { SameReasons (F.reasons findings.old) (F.reasons findings.new) }
-{
-    let fact = Fact {
-        point: number,
-        cell,
-        value,
-    };
-    explain_fact(alloc, findings, fact)
-}
-
-/// Why a known fact holds: it was inferred, or has a reason.
-fn explain_fact<F: Findings>(
-    alloc: Global,
-    findings: &mut F,
+    row: u32,
     fact: Fact,
 ) -> Result<Text, OutOfMemory>
     requires place { fact.point < places_of (F.shown findings.old) fact.cell }
     requires named { fact.cell ≢ Register 0 }
     requires known { known_value (F.shown findings.old) fact.point fact.cell ≡ Some fact.value }
-    ensures text { (skipped : ℕ) → IfOk result (IsExplained (session_told (F.shown findings.old) skipped (F.reasons findings.old)) fact.point fact.cell (Some fact.value)) }
+    ensures text { (skipped : ℕ) → IfOk result (IsExplained (session_told (F.shown findings.old) skipped (F.reasons findings.old)) row fact.point fact.cell (Some fact.value)) }
     ensures same { F.shown findings.new ≡ F.shown findings.old }
     ensures same_reasons { SameReasons (F.reasons findings.old) (F.reasons findings.new) }
 {
     if findings.is_inferred(fact.point, fact.cell) {
-        return whole_text(alloc, b"inferred\n");
+        return rule_text(alloc, row, findings.rule(fact.point, fact.cell));
     }
     explain_reported(alloc, findings, fact)
+}
+
+/// The line of a value that was inferred beyond the report.
+fn rule_text(alloc: Global, row: u32, rule: BeyondRule) -> Result<Text, OutOfMemory>
+    ensures { IfOk result (IsRuled row) }
+{
+    let mut text = Text::new(alloc);
+    push_rule(&mut text, row, rule)?;
+    Ok(text)
 }
 
 /// A reason of a known fact of the report.

@@ -48,7 +48,8 @@ module _ (last threads : ℕ) where
       (λ _. either GoodLone (bytes_eq word (codes "summary")) _ _ (λ _. tt)
       (λ _. either GoodLone (bytes_eq word (codes "quit")) _ _ (λ _. tt)
       (λ _. either GoodLone (bytes_eq word (codes "at")) _ _ (λ _. tt)
-      (λ _. either GoodLone (bytes_eq word (codes "help")) _ _ (λ _. tt) (λ _. tt)))))))
+      (λ _. either GoodLone (bytes_eq word (codes "premises")) _ _ (λ _. tt)
+      (λ _. either GoodLone (bytes_eq word (codes "help")) _ _ (λ _. tt) (λ _. tt))))))))
 
   verb_good : (a : Option Command) (b : Option Single) (c : Option Double) (d : Option QuestionWord) → GoodLone a → GoodVerb (option_or (option_map Lone a) (option_or (option_map One b) (option_or (option_map Two c) (option_map Ask d))))
   verb_good (Some a) b c d h = h

@@ -29,6 +29,7 @@ lone_command word =
     else if bytes_eq word (codes "summary") then Some command.Summary
     else if bytes_eq word (codes "quit") then Some command.Quit
     else if bytes_eq word (codes "at") then Some (command.Ask question.At)
+    else if bytes_eq word (codes "premises") then Some (command.Ask question.Premises)
     else if bytes_eq word (codes "help") then Some (command.Ask question.Help)
     else None
 

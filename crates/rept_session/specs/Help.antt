@@ -29,6 +29,7 @@ help_text =
     ++ codes "visits A      the points at which the path is at address A" ++ 10 ∷ []
     ++ codes "find R V      the points at which register R is known to be V" ++ 10 ∷ []
     ++ codes "summary       how much is known" ++ 10 ∷ []
+    ++ codes "premises      what `infer` took for granted" ++ 10 ∷ []
     ++ codes "help          these lines" ++ 10 ∷ []
     ++ codes "quit          ends the session" ++ 10 ∷ []
     ++ codes "? 1           no such command" ++ 10 ∷ []

@@ -4,7 +4,7 @@ use Rattle.std.proofs.Common.{refl, sym, subst, subst₂, ◌∙◌, append_asso
 use Rattle.rept_session.specs.Session.{HasAnswered, IsDivided, IsReply, IsSession, Said, cursor_of, ends, said_at}
 use Rattle.rept_findings.specs.declared.place.ThreadPoint.{ThreadPoint}
 use Rattle.rept_findings.specs.Shown.{SameReasons, SessionTold, Shown, moment_at, number, session_told}
-use Rattle.rept_questions.specs.Texts.{IsExplained, IsReasoned}
+use Rattle.rept_questions.specs.Texts.{IsExplained, IsReasoned, byte_row, register_row}
 use Rattle.rept_session.specs.Texts.{IsText, cursor_after}
 use Rattle.rept_session.specs.Commands.{command_of, command_of_first, command_of_words, double_command, goto_command, is_count, single_command, thread_command, verb_of}
 use Rattle.rept_session.specs.Words.{words_in}
@@ -127,13 +127,13 @@ module _ (s : Shown) (skipped : ℕ) (old new : Fact → Because → Type 0) (sa
   reasoned_same : (fact : Fact) (text : List ℕ) → IsReasoned (session_told s skipped new) fact text → IsReasoned (session_told s skipped old) fact text
   reasoned_same fact text h = (h.0, ((same fact h.0).1 h.1.0, h.1.1))
 
-  explained_same : (point : ℕ) (cell : Cell) (value : Option ℕ) (text : List ℕ) → IsExplained (session_told s skipped new) point cell value text → IsExplained (session_told s skipped old) point cell value text
-  explained_same point cell None text h = h
-  explained_same point cell (Some v) text h = otherwise (s.is_inferred point cell) _ _ _ (reasoned_same (record { point = point; cell = cell; value = v }) text) h
+  explained_same : (row point : ℕ) (cell : Cell) (value : Option ℕ) (text : List ℕ) → IsExplained (session_told s skipped new) row point cell value text → IsExplained (session_told s skipped old) row point cell value text
+  explained_same row point cell None text h = h
+  explained_same row point cell (Some v) text h = otherwise (s.is_inferred point cell) _ _ _ (reasoned_same (record { point = point; cell = cell; value = v }) text) h
 
   text_same : (at : ThreadPoint) (c : Command) (text : List ℕ) → IsText (session_told s skipped new) at c text → IsText (session_told s skipped old) at c text
-  text_same at (command.WhyReg r) text h = otherwise (r == 0) _ _ _ (explained_same (number s at) (Register r) (s.register (number s at) r) text) h
-  text_same at (command.WhyByte a) text h = explained_same (moment_at s at) (Byte a) (s.byte (moment_at s at) a) text h
+  text_same at (command.WhyReg r) text h = otherwise (r == 0) _ _ _ (explained_same (register_row s at r) (number s at) (Register r) (s.register (number s at) r) text) h
+  text_same at (command.WhyByte a) text h = explained_same (byte_row s (moment_at s at) a) (moment_at s at) (Byte a) (s.byte (moment_at s at) a) text h
   text_same at command.Where text h = h
   text_same at (command.Back k) text h = h
   text_same at (command.Fwd k) text h = h

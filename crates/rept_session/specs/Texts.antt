@@ -4,7 +4,6 @@ use Rattle.std.specs.Prelude.{◌≡◌, ℕ, ◌+◌, ◌-◌, ◌*◌, min, Li
 use Rattle.std.specs.Fmt.{decimal}
 use Rattle.rept_word.specs.Hex.{hex_word}
 use Rattle.rept_partial.specs.declared.range.Range.{Range}
-use Rattle.rept_reason.specs.declared.fact.Cell.TheVariants.{Byte}
 use Rattle.rept_report.specs.declared.writer.Writer.{Writer}
 use Rattle.rept_session.specs.declared.command.Command.{Command}
 use Rattle.rept_session.specs.declared.command.Command.TheVariants as command
@@ -20,8 +19,8 @@ use Rattle.rept_questions.specs.Calls.{calls_lines}
 use Rattle.rept_questions.specs.Lost.{lost_byte, lost_register}
 use Rattle.rept_questions.specs.Trail.{byte_source, register_source}
 use Rattle.rept_questions.specs.Writers.{writers_before}
-use Rattle.rept_findings.specs.Texts.{at, memory_lines, note_text, pc_at, range_text, register_line, register_lines, step_lines, writer_line}
-use Rattle.rept_questions.specs.Texts.{IsExplained, IsFromByte, IsFromRegister, IsRegisterExplained, around_lines, at_line, find_line, stack_lines, visits_line, writers_lines}
+use Rattle.rept_findings.specs.Texts.{at, beyond_line, memory_lines, note_text, pc_at, premises_lines, range_text, register_line, register_lines, step_lines, writer_line}
+use Rattle.rept_questions.specs.Texts.{IsByteExplained, IsFromByte, IsFromRegister, IsRegisterExplained, around_lines, at_line, find_line, stack_lines, visits_line, writers_lines}
 
 -- `point C of N pc HEX`
 abbrev pub point_line : Shown → ThreadPoint → List ℕ
@@ -48,7 +47,7 @@ stores_line counts = codes "stores " ++ decimal counts.exact ++ codes " exact " 
 
 -- of x1 to x31 at each of the points of all threads, how many are known
 abbrev pub summary_lines : Shown → ℕ → List ℕ
-summary_lines s skipped = steps_line s.counts skipped ++ registers_line s.counts.registers (31 * s.points) ++ stores_line s.counts
+summary_lines s skipped = steps_line s.counts skipped ++ registers_line s.counts.registers (31 * s.points) ++ stores_line s.counts ++ beyond_line s.beyond
 
 -- the last one
 abbrev pub last_of : Shown → ℕ → ThreadPoint
@@ -86,6 +85,7 @@ IsAnswered s c question.Recent text = text ≡ recent_lines s c
 IsAnswered s c (question.FromRegister r) text = IsFromRegister s c r (register_source (s.rows c.thread) c.point r) text
 IsAnswered s c (question.FromByte a) text = IsFromByte s c a (byte_source s c a) text
 IsAnswered s c (question.Writers a) text = text ≡ writers_lines s c a (writers_before s a c)
+IsAnswered s c question.Premises text = text ≡ premises_lines s.beyond
 IsAnswered s c (question.Calls count) text = text ≡ calls_lines s c count
 IsAnswered s c (question.LostRegister r) text = text ≡ lost_register s c r (s.register (number s c) r)
 IsAnswered s c (question.LostByte a) text = text ≡ lost_byte s c a (s.byte (moment_at s c) a)
@@ -102,8 +102,8 @@ IsText t c (command.Reg r) text = text ≡ register_line t.shown (number t.shown
 IsText t c (command.Range r) text = text ≡ range_line t.shown (number t.shown c) r
 IsText t c (command.Mem address count) text = text ≡ memory_lines t.shown (moment_at t.shown c) address count
 IsText t c (command.Writer a) text = text ≡ writer_line t.shown (t.shown.writer (moment_at t.shown c) a)
-IsText t c (command.WhyReg r) text = IsRegisterExplained t (number t.shown c) r text
-IsText t c (command.WhyByte a) text = IsExplained t (moment_at t.shown c) (Byte a) (t.shown.byte (moment_at t.shown c) a) text
+IsText t c (command.WhyReg r) text = IsRegisterExplained t c r text
+IsText t c (command.WhyByte a) text = IsByteExplained t c a text
 IsText t c (command.List first count) text = text ≡ step_lines (t.shown.rows c.thread) first count
 IsText t c (command.Thread thread) text = text ≡ thread_lines t.shown c
 IsText t c command.Stack text = text ≡ stack_lines t.shown c

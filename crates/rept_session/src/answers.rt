@@ -4,7 +4,7 @@ ghost use Rattle.std.specs.Prelude.{◌≡◌, ℕ, ◌<◌, ◌≤◌, ◌++◌
 ghost use Rattle.rept_session.specs.Commands.{IsCommandWithin};
 ghost use Rattle.rept_session.specs.Session.{IsReply, cursor_of, ends, said_at};
 ghost use Rattle.rept_findings.specs.Shown.{IsThreadPoint, SameReasons, session_told};
-ghost use Rattle.rept_findings.specs.Texts.{register_line};
+ghost use Rattle.rept_findings.specs.Texts.{beyond_line, register_line};
 ghost use Rattle.rept_session.specs.Texts.{IsText, cursor_after, is_quit, last_of, point_after, point_line, range_line, refusal_line, registers_line, steps_line, stores_line, summary_lines, thread_lines};
 
 use crate::command::{BadCommand, Command};
@@ -13,7 +13,7 @@ use crate::questions::question_text;
 use crate::reply::Answer;
 use rept_findings::findings::{address_at, moment_of, number_of};
 use rept_findings::lines::{memory_text, register_texts, step_texts, writer_text};
-use rept_findings::pieces::{push_note, push_numbered, push_range, push_value};
+use rept_findings::pieces::{push_beyond, push_note, push_numbered, push_range, push_value};
 use rept_findings::{Findings, ThreadPoint};
 use rept_isa::Reg;
 use rept_questions::reasons::{why_byte, why_register};
@@ -187,14 +187,8 @@ fn text_of<F: Findings>(
         Command::Writer(address) => {
             writer_text(alloc, findings, moment_of(findings, at), *address)
         }
-        Command::WhyReg(register) => {
-            let point = number_of(findings, at);
-            why_register(alloc, findings, point, *register)
-        }
-        Command::WhyByte(address) => {
-            let moment = moment_of(findings, at);
-            why_byte(alloc, findings, moment, *address)
-        }
+        Command::WhyReg(register) => { why_register(alloc, findings, at, *register) }
+        Command::WhyByte(address) => { why_byte(alloc, findings, at, *address) }
         Command::List { first, count } => {
             step_texts(alloc, findings.rows(at.thread), *first, *count)
         }
@@ -295,6 +289,7 @@ fn summary_text<F: Findings>(alloc: Global, findings: &F, skipped: u32) -> Resul
     push_steps(&mut text, &counts, skipped)?;
     push_registers(&mut text, counts.registers, 31 * points)?;
     push_stores(&mut text, &counts)?;
+    push_beyond(&mut text, findings.beyond())?;
     Ok(text)
 }
 

@@ -34,6 +34,7 @@ from A        the steps that the byte at address A came from
 visits A      the points at which the path is at address A
 find R V      the points at which register R is known to be V
 summary       how much is known
+premises      what `infer` took for granted
 help          these lines
 quit          ends the session
 ? 1           no such command

@@ -28,6 +28,8 @@ pub enum Question {
     FromByte(u32),
     /// `writers A`: tells the steps that wrote the byte at an address, or may have, by instruction.
     Writers(u32),
+    /// `premises`: tells what was taken for granted beyond what a report takes.
+    Premises,
     /// `calls K`: tells the last calls before the cursor, so many at most, 16 where no number is
     /// given.
     Calls(u32),

@@ -9,6 +9,7 @@ use crate::help::help_text;
 use crate::question::Question;
 use rept_findings::findings::address_at;
 use rept_findings::lines::step_texts;
+use rept_findings::pieces::premises_text;
 use rept_findings::{Findings, ThreadPoint};
 use rept_questions::calls::calls_text;
 use rept_questions::lost::{byte_lost, register_lost};
@@ -42,6 +43,7 @@ pub fn question_text<F: Findings>(
         Question::FromRegister(register) => register_from(alloc, findings, at, register),
         Question::FromByte(address) => byte_from(alloc, findings, at, address),
         Question::Writers(address) => writers_text(alloc, findings, at, address),
+        Question::Premises => premises_text(alloc, findings.beyond()),
         Question::Calls(count) => calls_text(alloc, findings, at, count),
         Question::LostRegister(register) => register_lost(alloc, findings, at, register),
         Question::LostByte(address) => byte_lost(alloc, findings, at, address),

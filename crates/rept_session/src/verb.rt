@@ -86,6 +86,8 @@ fn lone_command(word: &[u8]) -> Option<Command>
         Some(Command::Quit)
     } else if is_word(word, b"at") {
         Some(Command::Ask(Question::At))
+    } else if is_word(word, b"premises") {
+        Some(Command::Ask(Question::Premises))
     } else if is_word(word, b"help") {
         Some(Command::Ask(Question::Help))
     } else {

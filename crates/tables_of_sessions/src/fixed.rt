@@ -6,7 +6,7 @@ ghost use Rattle.rept_elf.specs.Symbols.{symbol_of};
 ghost use Rattle.rept_report.specs.declared.writer.Writer.TheVariants as writers;
 
 use rept_elf::Symbol;
-use rept_findings::{Findings, Place, ThreadPlace, ThreadPoint};
+use rept_findings::{BeyondRule, Findings, KnownBeyond, Place, ThreadPlace, ThreadPoint};
 use rept_isa::{ImmOp, Instr, Reg, StepRow};
 use rept_partial::Range;
 use rept_reason::{Cell, Fact, RangePremise, Reason};
@@ -22,6 +22,7 @@ pub struct Fixed {
     pub range: Range,
     pub note: Option<(u32, u32)>,
     pub counts: Counts,
+    pub beyond: Option<KnownBeyond>,
 }
 
 impl Findings for Fixed {
@@ -29,7 +30,7 @@ impl Findings for Fixed {
     ghost use Rattle.rept_report.specs.declared.writer.Writer.TheVariants as writers;
     ghost use Rattle.rept_findings.specs.declared.place.Place.TheVariants as places;
 
-    ghost shown = { λ f. record { threads = 1; process = λ t. 1; rows = λ t. f.rows; end_pc = λ t. 65544; first = λ t. 0; points = 3; point = λ p. record { thread = 0; point = p }; moments = 3; moment = λ p. p; place = λ m. record { thread = 0; place = places.Point m }; register = λ point r. if point == 0 then None else Some 43981; range = λ point r. f.range; note = λ point r. f.note; byte = λ point a. if nat_lt a 16 then Some a else None; writer = λ point a. if nat_lt point 2 then writers.None else writers.MayWrite 1; is_inferred = λ p c. p == 2; code = λ a. if a == 65536 then Some 19 else None; counts = f.counts; symbol = λ a. if a == 65540 then Some (record { name = 102 ∷ 7 ∷ []; value = 65536 }) else None } };
+    ghost shown = { λ f. record { threads = 1; process = λ t. 1; rows = λ t. f.rows; end_pc = λ t. 65544; first = λ t. 0; points = 3; point = λ p. record { thread = 0; point = p }; moments = 3; moment = λ p. p; place = λ m. record { thread = 0; place = places.Point m }; register = λ point r. if point == 0 then None else Some 43981; range = λ point r. f.range; note = λ point r. f.note; byte = λ point a. if nat_lt a 16 then Some a else None; writer = λ point a. if nat_lt point 2 then writers.None else writers.MayWrite 1; is_inferred = λ p c. p == 2; beyond = f.beyond; code = λ a. if a == 65536 then Some 19 else None; counts = f.counts; symbol = λ a. if a == 65540 then Some (record { name = 102 ∷ 7 ∷ []; value = 65536 }) else None } };
 
     ghost reasons = { λ f fact why. Unit {0} };
 
@@ -118,6 +119,17 @@ impl Findings for Fixed {
             found.push(function_at(*address))?;
         }
         Ok(found)
+    }
+
+    fn beyond(&self) -> Option<KnownBeyond> {
+        self.beyond
+    }
+
+    fn rule(&self, _number: u32, cell: Cell) -> BeyondRule {
+        match cell {
+            Cell::Register(_) => BeyondRule::Class,
+            Cell::Byte(_) => BeyondRule::FirstMemory,
+        }
     }
 
     fn is_inferred(&self, number: u32, _cell: Cell) -> bool {
@@ -221,5 +233,6 @@ pub fn two_steps() -> Fixed
             exact: 4,
             inexact: 5,
         },
+        beyond: None,
     }
 }

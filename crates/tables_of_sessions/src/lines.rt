@@ -1,13 +1,14 @@
 //! Lines of a session: what they are, and their answers.
 
 use crate::fixed::two_steps;
-use rept_findings::{Findings, ThreadPoint};
+use rept_findings::{Findings, KnownBeyond, PremisesTaken, ThreadPoint};
 use rept_ports::{MemSink, MemSource};
 use rept_session::{Answer, answer_line, serve};
 use std::alloc::{AllocError, Global};
 use test_kit::Numbers;
 
-/// The answer to a line at a point of the two steps, where such bits are known of each register.
+/// The answer to a line at a point of the two steps, where such bits are known of each register, and
+/// then also seven values and six bytes beyond the report.
 fn asked(
     alloc: Global,
     note: Option<(u32, u32)>,
@@ -16,6 +17,18 @@ fn asked(
 ) -> Result<Answer, AllocError> {
     let mut findings = two_steps();
     findings.note = note;
+    if note.is_some() {
+        findings.beyond = Some(KnownBeyond {
+            registers: 7,
+            bytes: 6,
+            premises: PremisesTaken {
+                read_only: true,
+                answers: false,
+                first_memory: true,
+                fresh_pages: true,
+            },
+        });
+    }
     let cursor = ThreadPoint {
         thread: 0,
         point: point.min(2),

@@ -1,11 +1,13 @@
-use Rattle.std.proofs.Common.{◌≡◌, ◌≤◌, ◌+◌, ◌<◌, ℤ, ℕ, List, Some, length, to_z, of_z, w32, rules, refl, sym, subst, arith}
+use Rattle.std.proofs.Common.{◌≡◌, ◌≤◌, ◌+◌, ◌<◌, ℤ, ℕ, List, Some, length, to_z, of_z, w32, rules, refl, sym, subst, ◌∙◌, arith}
 use Rattle.std.proofs.lemmas.Result.{IfOk-weaker}
 use Rattle.rept_isa.specs.Numbers.{plus}
-use Rattle.rept_narrow.proofs.Sentences.{inside_rows}
+use Rattle.rept_narrow.proofs.Sentences.{inside_rows, same_some}
 use Rattle.rept_isa.specs.declared.instr.Instr.{Instr}
+use Rattle.rept_isa.specs.declared.row.StepRow.{StepRow}
 use Rattle.rept_alias.specs.Accesses.{call_hits}
 use Rattle.rept_narrow.specs.declared.lanes.held.Held.{Held}
 use Rattle.rept_narrow.specs.Lanes.{held_at}
+use Rattle.rept_narrow.specs.Admitted.{RowWrites}
 use Rattle.rept_narrow.specs.Stores.{IsAtomicAt}
 use Rattle.rept_narrow.proofs.Touching.{touched_written}
 use Rattle.rept_infer.proofs.Listing.{named_written}
@@ -34,3 +36,7 @@ returns-in-Ecall g c =
     let i = c.args.self.now.index in
     IfOk-weaker c.touched-in-Ecall.result _ _ (λ list lists story run image at h bytes.
     touched_written story run i row c.args.self.now.bytes.now.sweep.now.held list.items (call_hits c.call_access-access.result) at (λ a w. c.call_access-access.ensures story run row a image at c.in-Ecall.is h w) (λ a one e hit. lists a one (subst (λ (xs : List (ℕ × Held)). held_at xs a ≡ Some one) (sym c.held-in-Ecall.ensures) e) hit)) c.touched-in-Ecall.ensures
+
+pub returns-then-writes_none : goal.returns-then-writes_none
+returns-then-writes_none g c = λ story run image at h bytes a one is out row found w.
+    c.writes_none.ensures c.if-writes_none.true story run a at h (subst (λ (x : StepRow). RowWrites story run c.args.self.now.index x a) (same_some (sym found ∙ at)) w)
