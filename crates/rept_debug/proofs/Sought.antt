@@ -1,13 +1,12 @@
 -- A run that was found between two packets.
 use Rattle.std.proofs.Common.{◌≡◌, ◌≢◌, ◌⊎◌, ◌<◌, ◌≤◌, ◌-◌, ◌∙◌, ℕ, suc, List, length, Option, None, Some, Result, Ok, Err, inl, inr, refl, sym, subst, arith}
 use Rattle.std.specs.Prelude.{MatchOption}
-use Rattle.std.proofs.lemmas.Bool.{cases_lt}
 use Rattle.rept_steps.specs.declared.run.Run.{Run}
 use Rattle.rept_path.specs.declared.fault.PathFault.{PathFault}
 use Rattle.rept_path.specs.declared.fault.PathFault.TheVariants as fault
 use Rattle.rept_found.specs.Crash.{Crash}
 use Rattle.rept_opening.specs.TraceRun.{HasNoRunOf, IsRunOf, IsRunRead}
-use Rattle.rept_debug.specs.Begin.{AreBegun, BeginsAt, DoRunsGoOn, HasNoRun, HasNoStart, IsRefusedAt, IsTooLong, MayEndSearch, NeverBegins}
+use Rattle.rept_debug.specs.Begin.{AreBegun, BeginsAt, HasNoStart, IsRefusedAt, IsTooLong, NeverBegins}
 use Rattle.rept_debug.specs.declared.begin.RunFrom.{RunFrom}
 
 module _ (crash : Crash) (trace : List ℕ) where
@@ -52,46 +51,34 @@ module _ (crash : Crash) (trace : List ℕ) where
       )
       read
 
-  -- no run from a packet before one that is refused, if runs go on
-  before_low : (low i : ℕ) (e : PathFault) (run : Run) → IsRefusedAt crash trace low e → DoRunsGoOn crash trace → i ≤ low → low < length trace → IsRunOf crash trace i run → ⊥
-  before_low low i e run refused go before inside is = by (go.runs i low run before is)
-    where
-      by : MayEndSearch crash trace low → ⊥
-      by (inl (other, told)) = refused.none other told
-      by (inr (inl (count, has))) = refused.starts count has
-      by (inr (inr past)) = omega (arith, past, inside)
-
   -- a run that was found directly after a packet from which there is none
   pub next_to : (low high : ℕ) (e : PathFault) → IsTooLong crash trace 0 → IsRefusedAt crash trace low e → low < high → high - low ≤ 1 → (0 < length trace → high ≤ length trace) → BeginsAt crash trace 0 high
-  next_to low high e long refused after near inside =
+  next_to low high e long refused after near few =
       let next : high ≡ suc low = omega arith in
       inr (
         refl,
         long,
         record {
           before = low;
+          inside = λ some. (let bound = few some in omega (arith, bound, after));
           next = next;
-          long = refused.none;
-          first = λ go i below there run is. before_low low i e run refused go (omega arith) (let few = inside (omega arith) in omega (arith, few, after)) is;
+          fault = e;
+          refused = refused;
         },
       )
 
   -- where the next packet has no start
   pub fault_to_the_end : (low high : ℕ) (e : PathFault) → IsTooLong crash trace 0 → IsRefusedAt crash trace low e → low < high → high - low ≤ 1 → (0 < length trace → high ≤ length trace) → HasNoStart crash trace high → (e ≡ fault.OutOfMemory) ⊎ NeverBegins crash trace 0 e
-  fault_to_the_end low high e long refused after near inside none =
+  fault_to_the_end low high e long refused after near few none =
       let next : high ≡ suc low = omega arith in
       inr (inr (
         refl,
         long,
         record {
           from = low;
+          inside = λ some. (let bound = few some in omega (arith, bound, after));
           refused = refused;
           next = subst (HasNoStart crash trace) next none;
-          nowhere = λ go i below there run is.
-              elim (cases_lt i high) [
-                | inl early ↦ before_low low i e run refused go (omega arith) (let few = inside (omega arith) in omega (arith, few, after)) is
-                | inr late ↦ go.none high i late none run is
-              ];
         },
       ))
 

@@ -25,10 +25,6 @@ IsKind fault kind.Other = (fault ≢ OutOfMemory) × ((count : ℕ) → fault �
 abbrev pub HasNoStart : Crash → List ℕ → ℕ → Type 0
 HasNoStart crash trace from = ((count : ℕ) × HasNoRunOf crash trace from (NoStart count)) ⊎ (length trace ≤ from)
 
--- from the packet of this number on there is a run, or no start
-abbrev pub MayEndSearch : Crash → List ℕ → ℕ → Type 0
-MayEndSearch crash trace from = ((run : Run) × IsRunOf crash trace from run) ⊎ HasNoStart crash trace from
-
 -- from the packet of this number on there is no run
 abbrev pub HasNoRun : Crash → List ℕ → ℕ → Type 0
 HasNoRun crash trace from = (run : Run) → IsRunOf crash trace from run → ⊥
@@ -40,38 +36,30 @@ pub record IsRefusedAt (crash : Crash) (trace : List ℕ) (from : ℕ) (fault : 
   pub none : HasNoRun crash trace from
   pub starts : (count : ℕ) → HasNoRunOf crash trace from (NoStart count) → ⊥
 
--- Where there is a run from a packet on, there is one from each later packet on, or no start; and
--- where there is no start, there is no run from a later packet on.
-pub record DoRunsGoOn (crash : Crash) (trace : List ℕ) : Type 0 where
-  pub runs : (from later : ℕ) (run : Run) → from ≤ later → IsRunOf crash trace from run → MayEndSearch crash trace later
-  pub none : (from later : ℕ) → from ≤ later → HasNoStart crash trace from → HasNoRun crash trace later
-
--- if runs go on so, there is none from a packet of the trace before the one of this number
-abbrev pub HasNoRunBefore : Crash → List ℕ → ℕ → Type 0
-HasNoRunBefore crash trace from = DoRunsGoOn crash trace → (i : ℕ) → i < from → i < length trace → HasNoRun crash trace i
-
--- a packet from which there is a run, while there is none from the packet before it
+-- The run from the packet before this one is refused, and not for want of a start. A trace has no
+-- more packets than bytes.
 pub record IsFirstFitting (crash : Crash) (trace : List ℕ) (from : ℕ) : Type 0 where
   pub before : ℕ
+  pub inside : 0 < length trace → before < length trace
   pub next : from ≡ suc before
-  pub long : HasNoRun crash trace before
-  pub first : HasNoRunBefore crash trace from
+  pub fault : PathFault
+  pub refused : IsRefusedAt crash trace before fault
 
 -- the packet that is asked for; or, where that is the first one and the run from there has too many
--- steps, a later one, before which there is none
+-- steps, a later one, while the run from the packet before it is refused
 abbrev pub BeginsAt : Crash → List ℕ → ℕ → ℕ → Type 0
 BeginsAt crash trace asked from = (from ≡ asked) ⊎ ((asked ≡ 0) × IsTooLong crash trace 0 × IsFirstFitting crash trace from)
 
 -- The run from a packet on is refused for this fault, and from the next packet on there is no start.
 pub record IsFaultToTheEnd (crash : Crash) (trace : List ℕ) (fault : PathFault) : Type 0 where
   pub from : ℕ
+  pub inside : 0 < length trace → from < length trace
   pub refused : IsRefusedAt crash trace from fault
   pub next : HasNoStart crash trace (suc from)
-  pub nowhere : HasNoRunBefore crash trace (length trace)
 
 -- there is no run from the packet that is asked for, which isn't the first one, or whose fault
--- isn't that of too many steps; or it is the first one, its run has too many, and there is none
--- from a later one
+-- isn't that of too many steps; or it is the first one, its run has too many, and one from a later
+-- packet is refused, after which there is no start
 abbrev pub NeverBegins : Crash → List ℕ → ℕ → PathFault → Type 0
 NeverBegins crash trace asked fault =
     (HasNoRunOf crash trace asked fault × ((0 < asked) ⊎ ((packet : ℕ) → fault ≢ TooLong packet)))

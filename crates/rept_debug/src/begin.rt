@@ -24,11 +24,10 @@ pub struct RunFrom {
 }
 
 /// The run of a trace from the packet of this number on. From packet 0 on, where that run has more
-/// than 65,536 steps, the run from a later packet, while there is none from the packet before that
-/// one: nobody should find it by trial. It is refused only where there is no run from a packet on,
-/// by the fault that is given, and from the next packet on there is no start (`NoStart`). If each
-/// packet after one from which there is a run has one too, or no start, it is the first packet from
-/// which there is a run, and where it is refused there is none.
+/// than 65,536 steps, the run from a later packet: nobody should find it by trial. The run from the
+/// packet before that one is refused, and not for want of a start. It refuses only where the run
+/// from some packet has the fault that is given, and from the next packet on there is no start
+/// (`NoStart`).
 pub fn begin_run(
     alloc: Global,
     trace: &[u8],

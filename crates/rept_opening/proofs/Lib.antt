@@ -4,6 +4,7 @@ pub mod DeliveredLemmas
 pub mod LoadLemmas
 pub mod LoadingLemmas
 pub mod LoneLemmas
+pub mod LonePaths
 pub mod MappedLemmas
 pub mod Notes
 pub mod OrderLemmas

@@ -39,43 +39,43 @@ use Rattle.rept_reason.specs.Facts.{Knowledge}
 use Rattle.rept_opening.specs.True.{IsTrueAtPoints, first_at, lone_by}
 
 -- one thread with these rows in these slices, all of which is told
-abbrev lone : List StepRow → List Slice → Course
+abbrev pub lone : List StepRow → List Slice → Course
 lone rows slices = record { threads = record { steps = rows; slices = slices } ∷ []; untraced = None }
 
-some_none : {d : ℕ} → None ≡ Some d → ⊥
+pub some_none : {d : ℕ} → None ≡ Some d → ⊥
 some_none e = cc
 
 entry_whole : {b : Bool} → b ≡ true → b ≡ false → ⊥
 entry_whole t f = false≢true (sym f ∙ t)
 
 module _ (rows : List StepRow) (slices : List Slice) where
-  abbrev C : Course
+  abbrev pub C : Course
   C = lone rows slices
 
   -- the same in one slice
-  abbrev B : Course
+  abbrev pub B : Course
   B = lone rows (whole_slice (length rows) ∷ [])
 
   rows_same : (t : ℕ) → rows_of C t ≡ rows_of B t
   rows_same zero = refl
   rows_same (suc t) = refl
 
-  at_same : (r : Row) → row_at C r ≡ row_at B r
+  pub at_same : (r : Row) → row_at C r ≡ row_at B r
   at_same r = ap (λ (xs : List StepRow). slice_get xs r.step) (rows_same r.thread)
 
-  calls_same : (r : Row) → calls C r ≡ calls B r
+  pub calls_same : (r : Row) → calls C r ≡ calls B r
   calls_same r = ap is_call_row (at_same r)
 
-  row_from_one : (r : Row) → IsRow B r → IsRow C r
+  pub row_from_one : (r : Row) → IsRow B r → IsRow C r
   row_from_one r is = subst (λ (xs : List StepRow). r.step < length xs) (sym (rows_same r.thread)) is
 
-  row_to_one : (r : Row) → IsRow C r → IsRow B r
+  pub row_to_one : (r : Row) → IsRow C r → IsRow B r
   row_to_one r is = subst (λ (xs : List StepRow). r.step < length xs) (rows_same r.thread) is
 
-  event_from_one : (e : Event) → IsEvent B e → IsEvent C e
+  pub event_from_one : (e : Event) → IsEvent B e → IsEvent C e
   event_from_one e is = record { row = row_from_one e.row is.row; part = subst (λ (b : Bool). FitsRow b e.part) (sym (calls_same e.row)) is.part }
 
-  event_to_one : (e : Event) → IsEvent C e → IsEvent B e
+  pub event_to_one : (e : Event) → IsEvent C e → IsEvent B e
   event_to_one e is = record { row = row_to_one e.row is.row; part = subst (λ (b : Bool). FitsRow b e.part) (calls_same e.row) is.part }
 
   first_same : (r : Row) → first_event C r ≡ first_event B r
@@ -85,12 +85,12 @@ module _ (rows : List StepRow) (slices : List Slice) where
   last_same r = ap (λ (b : Bool). let e : Event = record { row = r; part = last_part b } in e) (calls_same r)
 
   module _ (h : History) where
-    tick_same : (m : Moment) → tick C h m ≡ tick B h m
+    pub tick_same : (m : Moment) → tick C h m ≡ tick B h m
     tick_same (before r) = ap h.place (first_same r)
     tick_same (after r) = ap (λ (e : Event). suc (h.place e)) (last_same r)
     tick_same at_end = refl
 
-    state_same : (t : ℕ) (m : Moment) → state_at C h t m ≡ state_at B h t m
+    pub state_same : (t : ℕ) (m : Moment) → state_at C h t m ≡ state_at B h t m
     state_same t m = ap (λ (k : ℕ). seen_by t (h.world k)) (tick_same m)
 
     occurs : (D : Ending) (r : Row) (m : Move) (p : Part) → Occurs B D r m p → Occurs C D r m p
@@ -121,7 +121,7 @@ module _ (rows : List StepRow) (slices : List Slice) where
     does D k (change untraced) x = absurd (some_none x.told.1)
     does D k nothing x = x
 
-  only_row : (r : Row) → IsRow C r → r.thread ≡ 0
+  pub only_row : (r : Row) → IsRow C r → r.thread ≡ 0
   only_row r is = by r.thread is
     where
       by : (t : ℕ) → r.step < length (rows_of C t) → t ≡ 0
@@ -178,7 +178,7 @@ module _ (rows : List StepRow) (slices : List Slice) where
       bytes_end = x.bytes_end;
     }
 
-    shows : (h : History) (run : ℕ → State) → ShowsRun B h run → ShowsRun C h run
+    pub shows : (h : History) (run : ℕ → State) → ShowsRun B h run → ShowsRun C h run
     shows h run x = record {
       registers = λ p below. ap (λ (k : ℕ). (h.world k).register 0) (tick_same h (moment_of_point C 0 p)) ∙ x.registers p below;
       memory_before = λ i below. ap (λ (k : ℕ). (h.world k).memory) (tick_same h (before (row_of 0 i))) ∙ x.memory_before i below;
@@ -186,7 +186,7 @@ module _ (rows : List StepRow) (slices : List Slice) where
       memory_end = x.memory_end;
     }
 
-  one_alone : IsAlone B
+  pub one_alone : IsAlone B
   one_alone = record { thread = thread_of_one rows; slice = whole_slice (length rows); only = refl; whole = refl; told = refl }
 
   pub lone_shared : (D : Ending) (run : ℕ → State) → IsSoundCourse C → IsSoundCourse B → SavesOne D → RunsAlone C D run → IsShared C D run
@@ -201,13 +201,13 @@ same_rows e = cc
 none_rows : {x : List StepRow} → None ≡ Some x → ⊥
 none_rows e = cc
 
-lone_course : (threads : List ThreadRows) (told : Option ℕ) (rows : List StepRow) → lone_by threads told ≡ Some rows → (slices : List Slice) × (◌≡◌ {A = Course} (record { threads = threads; untraced = told }) (lone rows slices))
+pub lone_course : (threads : List ThreadRows) (told : Option ℕ) (rows : List StepRow) → lone_by threads told ≡ Some rows → (slices : List Slice) × (◌≡◌ {A = Course} (record { threads = threads; untraced = told }) (lone rows slices))
 lone_course [] told rows e = absurd (none_rows e)
 lone_course (thread ∷ []) None rows e = (thread.slices, ap (λ (xs : List StepRow). lone xs thread.slices) (same_rows e))
 lone_course (thread ∷ []) (Some d) rows e = absurd (none_rows e)
 lone_course (thread ∷ other ∷ threads) told rows e = absurd (none_rows e)
 
-abbrev crash_with : Program → List ElfSegment → List (List ℕ) → Crash
+abbrev pub crash_with : Program → List ElfSegment → List (List ℕ) → Crash
 crash_with exe core notes = record { exe = exe; core = core; notes = notes }
 
 saves_first : (exe : Program) (core : List ElfSegment) (note : List ℕ) → SavesOne (ending_of (crash_with exe core (note ∷ [])))

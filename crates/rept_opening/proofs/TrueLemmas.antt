@@ -22,6 +22,7 @@ use Rattle.rept_opening.specs.Opened.{Opening, ReadsNotes, crash_at, crash_run}
 use Rattle.rept_opening.specs.TraceRun.{IsRunOf}
 use Rattle.rept_opening.specs.True.{IsTrue}
 use Rattle.rept_opening.proofs.LoneLemmas.{lone_run, lone_told}
+use Rattle.rept_opening.proofs.LonePaths.{lone_path}
 use Rattle.rept_opening.proofs.Notes.{some_said}
 use Rattle.rept_opening.proofs.OrderLemmas.{by_order}
 use Rattle.rept_opening.proofs.RunLemmas.{IsWhole, whole_run}
@@ -40,6 +41,7 @@ true_of {W} m trips paths crash run known whole report = record {
   };
   lone = λ rows one noted. record {
     shared = λ states x. lone_run m crash.exe crash.core crash.notes (course_of run) rows states whole.sound one noted x;
+    of_path = λ h x. lone_path m crash.exe crash.core crash.notes (course_of run) rows h whole.sound one noted x;
     told = λ scene states x.
         lone_told m (course_of run) (ending_of crash) known rows states whole.sound one (trips (course_of run) (ending_of crash) known whole.sound whole.some report) (lone_run m crash.exe crash.core crash.notes (course_of run) rows states whole.sound one noted x) scene;
   };
@@ -51,7 +53,7 @@ still_true : {W : Type 0} (m : Means W) (crash : Crash) (run : Run) (known : Kno
 still_true m crash run known t = record {
   threads = t.threads;
   alone = λ rows one. let a = t.alone rows one in record { shown = a.shown; holds = a.holds };
-  lone = λ rows one noted. let l = t.lone rows one noted in record { shared = l.shared; told = l.told };
+  lone = λ rows one noted. let l = t.lone rows one noted in record { shared = l.shared; of_path = l.of_path; told = l.told };
   order = t.order;
 }
 

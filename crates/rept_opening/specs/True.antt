@@ -5,10 +5,12 @@ use Rattle.std.specs.Prelude.{◌≡◌, ◌≤◌, ◌⊎◌, ℕ, true, false,
 use Rattle.rept_isa.specs.declared.row.StepRow.{StepRow}
 use Rattle.rept_machine.specs.State.{State}
 use Rattle.rept_moments.specs.Numbers.{numbers_of}
-use Rattle.rept_order.specs.Alone.{IsShared}
+use Rattle.rept_order.specs.Alone.{IsShared, ShowsRun}
+use Rattle.rept_order.specs.History.{History, IsExecution}
 use Rattle.rept_reason.specs.Facts.{Knowledge}
 use Rattle.rept_report.specs.OneThread.{ThreadPath}
 use Rattle.rept_runs.specs.Kind.{path_rows}
+use Rattle.rept_steps.specs.Course.{Course}
 use Rattle.rept_steps.specs.Runs.{course_of}
 use Rattle.rept_steps.specs.declared.run.Run.{Run}
 use Rattle.rept_steps.specs.declared.threads.ThreadRows.{ThreadRows}
@@ -55,11 +57,18 @@ pub record IsTrueAtPoints (s : Shown) (rows : List StepRow) (states : ℕ → St
   pub notes : (q r : ℕ) (n : ℕ × ℕ) → q ≤ length rows → s.note (number s (first_at q)) r ≡ Some n → bit_and ((states q).register r) n.0 ≡ n.1
   pub bytes : (q a v : ℕ) → q ≤ length rows → s.byte (moment_at s (first_at q)) a ≡ Some v → (states q).memory a ≡ v
 
--- Of a run of one thread, in however many slices, all of which is told: each execution of its steps
--- by themselves that ends in the crash is one of the run, with the same registers at each point and
--- the same memory at each moment; and what is told at points holds in it.
+-- the execution of the run is one of the path, with the same registers at each point and the same
+-- memory at each moment
+abbrev pub IsOfPath : {W : Type 0} → ThreadPath W → Course → History → Type 0
+IsOfPath P C h = (states : ℕ → State) × ExecutesPath P states × ShowsRun C h states
+
+-- Of a run of one thread, in however many slices, all of which is told: the executions of the run
+-- that end in the crash are those of its steps by themselves, in both directions, with the same
+-- registers at each point and the same memory at each moment; and what is told at points holds in
+-- each of them.
 pub record IsTrueLone {W : Type 0} (p : CrashRun W) (known : Knowledge) (rows : List StepRow) : Type 0 where
   pub shared : (states : ℕ → State) → ExecutesPath (path_by p rows) states → IsShared (course_of p.run) (ending_of p.crash) states
+  pub of_path : (h : History) → IsExecution (course_of p.run) (ending_of p.crash) h → IsOfPath (path_by p rows) (course_of p.run) h
   pub told : (scene : Scene) (states : ℕ → State) → ExecutesPath (path_by p rows) states → IsTrueAtPoints (shown_on (route_of p) known scene) rows states
 
 -- What a session tells of a report of the run holds in every execution of all threads that ends in
