@@ -7,6 +7,7 @@ mod made_run;
 mod mapped;
 pub mod process;
 mod study;
+mod terminal;
 mod top;
 
 pub use process::{answer, run};

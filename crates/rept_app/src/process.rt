@@ -15,11 +15,13 @@ ghost use Rattle.rept_opening.specs.declared.refusal.Refusal.TheVariants as refu
 ghost use Rattle.rept_app.specs.Process.Process.{Answers, AreWordsRead, process, words_read};
 
 use crate::rept;
+use crate::terminal::{ExplainingSink, PromptingSource, Terminals};
 use rept_opening::{ExitStatus, tell_no_memory};
 use rept_ports::{
     DiskFileStore, FileStore, Sink, Source, StdSink, StdSource, Unreadable, words_of,
 };
 use std::alloc::Global;
+use std::io::IsTerminal;
 use std::process::ExitCode;
 use std::{env, io};
 
@@ -72,10 +74,23 @@ pub fn answer<H: FileStore, S: Source, K: Sink>(
 }
 
 /// Runs the top call over the system's files and streams, on the words after the program's name.
-pub fn run<R: AllocGlobal + env::Env + std::fs::Files + Input + Print>(rt: &R) -> ExitCode {
+/// At a terminal it asks for each line on standard error, and explains each refusal there.
+pub fn run(rt: &HostRuntime) -> ExitCode {
     let words = words_of(rt.alloc(), env::args(rt));
+    let terminals = Terminals {
+        input: rt.stdin().is_terminal(),
+        output: rt.stdout().is_terminal(),
+    };
     let mut file_store = DiskFileStore::new(rt);
-    let mut source = StdSource::new(rt.reader());
-    let mut sink = StdSink::new(io::writer(rt));
+    let mut source = PromptingSource::new(
+        StdSource::new(rt.reader()),
+        StdSink::new(rt.stderr()),
+        terminals.input,
+    );
+    let mut sink = ExplainingSink::new(
+        StdSink::new(io::writer(rt)),
+        StdSink::new(rt.stderr()),
+        terminals,
+    );
     answer(rt.alloc(), words, &mut file_store, &mut source, &mut sink)
 }

@@ -11,7 +11,7 @@ section_of s = record { kind = s.kind; offset = s.offset; size = s.size; link = 
 
 -- the fields of a symbol
 abbrev pub entry_of : TableEntry → ElfSymbol
-entry_of s = record { name = s.name; value = s.value; size = s.size; info = s.info }
+entry_of s = record { name = s.name; value = s.value; size = s.size; info = s.info; section = s.section }
 
 -- the bytes of the two tables
 abbrev pub tables_of : SymbolBytes → SymbolTables

@@ -1,19 +1,21 @@
 -- The symbols of a file: TIS ELF 1.2, book I, "Symbol Table" and "String Table". A symbol has 16
 -- bytes. Only the first symbol table is looked at (the project's own).
-use Rattle.std.specs.Prelude.{ℕ, ◌+◌, ◌*◌, ◌/◌, ◌%◌, max, List, length, take, drop, slice_index, slice_get, Bool, ◌==◌, ◌&&◌, nat_le, nat_lt, Option}
+use Rattle.std.specs.Prelude.{ℕ, ◌+◌, ◌*◌, ◌/◌, ◌%◌, max, List, length, take, drop, slice_index, slice_get, Bool, false, not, ◌==◌, ◌&&◌, nat_le, nat_lt, Option, None, Some}
 use Rattle.std.specs.List.{find, position}
 use Rattle.std.specs.Option.{option_map, option_and_then}
-use Rattle.rept_elf.specs.Header.{word_at}
+use Rattle.std.specs.Str.{bytes_eq}
+use Rattle.rept_elf.specs.Header.{half_at, word_at}
 use Rattle.rept_elf.specs.Sections.{ElfSection, sections, contents, entries_from, is_symbol_table}
 use Rattle.rept_elf.specs.declared.symbol.Symbol.{Symbol}
 
 -- a symbol of a table: `st_name`, the offset of its name in the table of names, `st_value`,
--- `st_size` and `st_info`
+-- `st_size`, `st_info`, and `st_shndx`, the section that it is defined in
 pub record ElfSymbol : Type 0 where
   pub name : ℕ
   pub value : ℕ
   pub size : ℕ
   pub info : ℕ
+  pub section : ℕ
 
 -- the symbol at an offset of a symbol table
 abbrev pub symbol_from : List ℕ → ℕ → ElfSymbol
@@ -22,6 +24,7 @@ symbol_from table at = record {
   value = word_at table (at + 4);
   size = word_at table (at + 8);
   info = slice_index table (at + 12);
+  section = half_at table (at + 14);
 }
 
 -- the symbols of a table in order; fewer bytes than a symbol has are none
@@ -73,3 +76,21 @@ symbol_at file a = option_and_then (λ tables. function_in tables a) (symbol_tab
 -- the name and the value of a symbol of the code
 abbrev pub symbol_of : Symbol → FunctionSymbol
 symbol_of s = record { name = s.name.now; value = s.value }
+
+-- a name is this one
+abbrev pub is_this : List ℕ → Option (List ℕ) → Bool
+is_this sought None = false
+is_this sought (Some name) = bytes_eq name sought
+
+-- the symbol has this name, and an address of its own: its kind is `STT_NOTYPE`, `STT_OBJECT` or
+-- `STT_FUNC`, and its section isn't `SHN_UNDEF`
+abbrev pub is_named : List ℕ → List ℕ → ElfSymbol → Bool
+is_named names sought s = nat_le (s.info % 16) 2 && not (s.section == 0) && is_this sought (name_at names s.name)
+
+-- the address that the first such symbol of these tables has
+abbrev pub address_in : SymbolTables → List ℕ → Option ℕ
+address_in tables sought = option_map (λ s. s.value) (find (is_named tables.names sought) (symbols tables.entries))
+
+-- the address that a file gives to a name
+abbrev pub address_named : List ℕ → List ℕ → Option ℕ
+address_named file sought = option_and_then (λ tables. address_in tables sought) (symbol_tables file)

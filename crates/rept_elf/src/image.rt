@@ -11,7 +11,7 @@ use crate::entries::{entry, entry_count};
 use crate::fault::{ElfFault, Want};
 use crate::naming::find_symbols;
 use crate::segment::{PT_LOAD, Segment};
-use crate::symbol::{Symbol, find_symbol};
+use crate::symbol::{Symbol, find_address, find_symbol};
 use std::alloc::{AllocError, Global};
 
 /// An executable or a core file whose header and segments passed the checks. It borrows the file's
@@ -25,7 +25,7 @@ pub struct Image<'a> {
 impl<'a> Image<'a> {
     ghost use Rattle.rept_elf.specs.Image.{file_of, segments_of, segment_of};
     ghost use Rattle.rept_elf.specs.Segments.{part_of};
-    ghost use Rattle.rept_elf.specs.Symbols.{symbol_at, symbol_of};
+    ghost use Rattle.rept_elf.specs.Symbols.{address_named, symbol_at, symbol_of};
     ghost use Rattle.std.specs.Option.{option_map};
 
     /// The file of these bytes, as a file of the wanted kind. A fault comes exactly where it is
@@ -106,5 +106,15 @@ impl<'a> Image<'a> {
         ensures { IfOk result (λ found. map (option_map symbol_of) found.items ≡ map (symbol_at (file_of self.now)) vaddrs.now) }
     {
         find_symbols(alloc, self.bytes, vaddrs)
+    }
+
+    /// The address that the file gives to a name: `st_value` of the first symbol of the first
+    /// symbol table that has this name, is a function's, an object's or of no kind, and is defined.
+    /// None exactly where there is no such symbol, or where the section headers, the symbol table
+    /// or the table of its names isn't whole in the file.
+    pub fn address_named(&self, name: &[u8]) -> Option<u32>
+        ensures { result ≡ address_named (file_of self.now) name.now }
+    {
+        find_address(self.bytes, name)
     }
 }

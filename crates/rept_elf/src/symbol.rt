@@ -5,13 +5,20 @@ ghost use Rattle.std.specs.List.{find};
 ghost use Rattle.std.specs.Option.{option_and_then, option_map};
 ghost use Rattle.rept_elf.specs.Header.{header_size};
 ghost use Rattle.rept_elf.specs.SectionParts.{entry_of, tables_of};
-ghost use Rattle.rept_elf.specs.Symbols.{symbol_from, symbols, is_function_at as is_function_of, name_at as name_of, named as named_by, symbol_tables, symbol_at, symbol_of};
+ghost use Rattle.rept_elf.specs.Symbols.{address_in, address_named, symbol_from, symbols, is_function_at as is_function_of, is_named, is_this, name_at as name_of, named as named_by, symbol_tables, symbol_at, symbol_of};
 
-use crate::fields::{after, first_zero, word};
+use crate::fields::{after, first_zero, half, word};
 use crate::section::{contents, section_at, section_count, symbol_section};
 
 /// The kind of a symbol that is a function's, the low four bits of `st_info`.
 const STT_FUNC: u8 = 2;
+
+/// The kind of a symbol up to which it is named by a program: `STT_NOTYPE`, `STT_OBJECT`,
+/// `STT_FUNC`.
+const LAST_NAMED: u8 = STT_FUNC;
+
+/// The section of a symbol that the file doesn't define.
+const SHN_UNDEF: u16 = 0;
 
 /// The bytes of a symbol.
 pub const SYMBOL_SIZE: usize = 16;
@@ -37,6 +44,8 @@ pub struct TableEntry {
     pub size: u32,
     /// `st_info`, of which the low four bits are its kind.
     pub info: u8,
+    /// `st_shndx`: the section that it is defined in.
+    pub section: u16,
 }
 
 /// The bytes of a symbol table, and those of the table of its names.
@@ -58,6 +67,7 @@ pub fn table_entry(table: &[u8], at: usize) -> TableEntry
         value: word(table, at + 4),
         size: word(table, at + 8),
         info: table[at + 12],
+        section: half(table, at + 14),
     }
 }
 
@@ -125,4 +135,55 @@ pub fn find_symbol(bytes: &[u8], a: u32) -> Option<Symbol<'_>>
 {
     let tables = find_tables(bytes)?;
     named(tables.names, function_at(tables.entries, a))
+}
+
+/// Whether a name is the one that is sought.
+fn is_this(sought: &[u8], name: Option<&[u8]>) -> bool
+    ensures { result ≡ is_this sought.now (option_map (λ b. b.now) name.entry) }
+{
+    match name {
+        Some(name) => name == sought,
+        None => false,
+    }
+}
+
+/// Whether a symbol has this name, and an address of its own.
+fn is_named(names: &[u8], sought: &[u8], entry: &TableEntry) -> bool
+    ensures { result ≡ is_named names.now sought.now (entry_of entry.now) }
+{
+    entry.info % 16 <= LAST_NAMED
+        && entry.section != SHN_UNDEF
+        && is_this(sought, name_at(names, entry.name))
+}
+
+/// The first symbol of these tables that has this name.
+fn named_entry(tables: &SymbolBytes<'_>, sought: &[u8]) -> Option<TableEntry>
+    ensures { option_map entry_of result ≡ find (is_named tables.now.names.now sought.now) (symbols tables.now.entries.now) }
+{
+    for index in 0..tables.entries.len() / SYMBOL_SIZE {
+        let entry = table_entry(tables.entries, SYMBOL_SIZE * index);
+        if is_named(tables.names, sought, &entry) {
+            return Some(entry);
+        }
+    }
+    None
+}
+
+/// The address that these tables give to a name.
+fn address_in(tables: &SymbolBytes<'_>, sought: &[u8]) -> Option<u32>
+    ensures { result ≡ address_in (tables_of tables.now) sought.now }
+{
+    match named_entry(tables, sought) {
+        Some(entry) => Some(entry.value),
+        None => None,
+    }
+}
+
+/// The address that a file gives to a name.
+pub fn find_address(bytes: &[u8], sought: &[u8]) -> Option<u32>
+    requires { header_size ≤ length bytes.now }
+    ensures { result ≡ address_named bytes.now sought.now }
+{
+    let tables = find_tables(bytes)?;
+    address_in(&tables, sought)
 }
