@@ -1,5 +1,6 @@
 -- The files of a program, and what they hold. This project's own.
-use Rattle.std.specs.Prelude.{ℕ, List, true}
+use Rattle.std.specs.Prelude.{ℕ, List, true, Option, None}
+use Rattle.rept_elf.specs.Symbols as elf
 use Rattle.rept_maps.specs.Mapped.Mapped.{Mapping, mapped_word, mapped_half, mapped_byte, mapped_symbol}
 use Rattle.rept_dump.specs.Memory.{Contents, of_executable}
 
@@ -16,3 +17,8 @@ of_mappings ms = record { word = mapped_word ms; half = mapped_half ms; kept = m
 abbrev pub contents : Program → Contents
 contents (OneFile file) = of_executable file
 contents (MappedFiles ms) = of_mappings ms
+
+-- the address that a program gives to a name: that of its executable; mapped files give none
+abbrev pub address_named : Program → List ℕ → Option ℕ
+address_named (OneFile file) name = elf.address_named file name
+address_named (MappedFiles ms) name = None

@@ -42,7 +42,7 @@ impl<'a> Dump<'a> {
     ghost use Rattle.rept_maps.specs.Views.{desc_of};
     ghost use Rattle.rept_maps.specs.Mapped.Mapped.{mappings};
     ghost use Rattle.rept_dump.specs.Files.{program_of};
-    ghost use Rattle.rept_dump.specs.Program.{contents};
+    ghost use Rattle.rept_dump.specs.Program.{address_named, contents};
     ghost use Rattle.rept_dump.specs.Program.Program.{OneFile, MappedFiles};
     ghost use Rattle.rept_dump.specs.Dump.{exe_of, core_of, registers_of, said_of, threads_of, HasThreads, IsOfOne, AreRead, AreReadOfAll};
     ghost use Rattle.rept_dump.specs.Registers.{SaysOfAll};
@@ -231,6 +231,14 @@ impl<'a> Dump<'a> {
         ensures { IfOk result (λ found. map (option_map symbol_of) found.items ≡ map (contents (exe_of self.now)).symbol addresses.now) }
     {
         self.files.symbols(alloc, addresses)
+    }
+
+    /// The address that the executable gives to a name (`Image::address_named`). None exactly where
+    /// it gives none, as of files that the process had mapped.
+    pub fn address_named(&self, name: &[u8]) -> Option<u32>
+        ensures { result ≡ address_named (exe_of self.now) name.now }
+    {
+        self.files.address_named(name)
     }
 
     /// This dump, finding words of code near this address without a search among all segments.

@@ -35,6 +35,7 @@ pub fn byte_in(segment: &Segment<'_>, allowed: Allowed, a: u32) -> Option<u8>
 
 impl<'a> Executable<'a> {
     ghost use Rattle.rept_dump.specs.Files.{held_in, program_in};
+    ghost use Rattle.rept_dump.specs.Program.{address_named};
     ghost use Rattle.rept_dump.specs.Program.Program.{OneFile};
 
     /// The executable of this image.
@@ -88,6 +89,13 @@ impl<'a> Executable<'a> {
         ensures { IfOk result (λ found. map (option_map symbol_of) found.items ≡ map (held_in self.now).symbol addresses.now) }
     {
         self.code.symbols(alloc, addresses)
+    }
+
+    /// The address that the executable gives to a name.
+    pub fn address_named(&self, name: &[u8]) -> Option<u32>
+        ensures { result ≡ address_named (program_in self.now) name.now }
+    {
+        self.code.image().address_named(name)
     }
 
     /// The end of the image.

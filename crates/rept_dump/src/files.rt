@@ -20,7 +20,7 @@ pub enum Files<'a> {
 
 impl<'a> Files<'a> {
     ghost use Rattle.rept_dump.specs.Files.{program_of};
-    ghost use Rattle.rept_dump.specs.Program.{contents};
+    ghost use Rattle.rept_dump.specs.Program.{address_named, contents};
 
     /// Whether these are the files that the process had mapped.
     pub fn are_mapped(&self) -> bool
@@ -83,6 +83,16 @@ impl<'a> Files<'a> {
         match self {
             Files::Executable(executable) => executable.symbols(alloc, addresses),
             Files::Mapped(mapped) => mapped.symbols(alloc, addresses),
+        }
+    }
+
+    /// The address that these files give to a name; mapped files give none.
+    pub fn address_named(&self, name: &[u8]) -> Option<u32>
+        ensures { result ≡ address_named (program_of self.now) name.now }
+    {
+        match self {
+            Files::Executable(executable) => executable.address_named(name),
+            Files::Mapped(_) => None,
         }
     }
 
