@@ -42,6 +42,7 @@ mod learning;
 mod likeness;
 mod listing;
 mod looking;
+mod noting;
 mod refining;
 mod stopping;
 mod sweeping;

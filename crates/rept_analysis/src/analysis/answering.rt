@@ -28,7 +28,7 @@ use rept_isa::Reg;
 use rept_log::LastValues;
 use rept_reason::RowRules;
 use rept_report::paths::NumberChain;
-use rept_report::{Reaches, SoughtRows, Writer, last_writer, possible_writer};
+use rept_report::{ConflictKind, Reaches, SoughtRows, Writer, last_writer, possible_writer};
 use rept_span::Transfer;
 use rept_versions::ByteFacts;
 
@@ -48,6 +48,14 @@ impl<'a, P: Reaches + Drop, L: LastValues + Drop, B: ByteFacts, W: Transfer, R: 
         self.complete
     }
 
+    /// The conflict that was found, if one was.
+    pub(super) fn found_conflict(&self) -> Option<ConflictKind>
+        ensures value { result ≡ self.now.conflict }
+        ensures kept { IsKept (state_of (reader P.timeline L.values) W.sets W.moves R.rules B.store self.now) }
+    {
+        self.conflict
+    }
+
     /// The set of a register at a point, as it was filled last.
     fn filled(&self, point: u32, r: Reg) -> W
         requires point { point ≤ (P.timeline self.now.paths).legs.count }
@@ -60,7 +68,7 @@ impl<'a, P: Reaches + Drop, L: LastValues + Drop, B: ByteFacts, W: Transfer, R: 
     }
 
     /// Whether writers that aren't told, if there are any, lie wholly before a moment.
-    fn is_untraced_past(&self, moment: u32) -> bool
+    pub(super) fn is_untraced_past(&self, moment: u32) -> bool
         ensures { result ≡ (P.timeline self.now.paths).moments.untraced_past moment }
     {
         self.paths.is_untraced_past(moment)

@@ -519,7 +519,7 @@ impl<'a, P: Reaches + Drop, L: LastValues + Drop, B: ByteFacts, W: Transfer, R: 
         ensures down { IfOk result (λ ended. ended.1 < first) }
     {
         let former = self.strip(first - 1);
-        if !self.paths.is_untraced_past(former.last) {
+        if !self.is_untraced_past(former.last) {
             return Ok((false, 0));
         }
         if self.known_byte(former.last, a).is_some() || self.is_walled(a, former.last) {

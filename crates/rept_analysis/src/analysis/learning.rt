@@ -102,15 +102,8 @@ impl<'a, P: Reaches + Drop, L: LastValues + Drop, B: ByteFacts, W: Transfer, R: 
         }
     }
 
-    /// Keeps that something was learnt of a byte.
-    pub(super) fn note_byte(&mut self, a: u32)
-        ensures { self.new ≡ self.old }
-    {
-        self.recent.note(a);
-    }
-
     /// Adds a byte's value that follows, and says whether it was new.
-    pub(super) fn learn_byte(
+    pub(super) fn add_byte(
         &mut self,
         point: u32,
         a: u32,
@@ -132,10 +125,7 @@ impl<'a, P: Reaches + Drop, L: LastValues + Drop, B: ByteFacts, W: Transfer, R: 
         match self.tell_byte(point, a, value, keep) {
             Err(_) => Err(LearnError::OutOfMemory),
             Ok(LearnOutcome::Old) => Ok(false),
-            Ok(LearnOutcome::New) => {
-                self.note_byte(a);
-                Ok(true)
-            }
+            Ok(LearnOutcome::New) => Ok(true),
             Ok(LearnOutcome::Clash(known)) => {
                 let cell = Cell::Byte(a);
                 Err(LearnError::Clash {

@@ -136,11 +136,10 @@ impl<'a, P: Reaches + Drop, L: LastValues + Drop, B: ByteFacts, W: Transfer, R: 
         ensures again { (kind : ConflictKind) → self.old.conflict ≡ Some kind → (result ≡ Err (Stop.Conflict kind)) × ((state_of (reader P.timeline L.values) W.sets W.moves R.rules B.store self.new) ≡ (state_of (reader P.timeline L.values) W.sets W.moves R.rules B.store self.old)) }
         ensures settled { self.old.complete ≡ true → self.old.conflict ≡ None → IsOk result × ((state_of (reader P.timeline L.values) W.sets W.moves R.rules B.store self.new) ≡ (state_of (reader P.timeline L.values) W.sets W.moves R.rules B.store self.old)) }
     {
-        let _paths = &self.paths;
-        if let Some(kind) = self.conflict {
+        if let Some(kind) = self.found_conflict() {
             return Err(Stop::Conflict(kind));
         }
-        if self.complete {
+        if self.ended() {
             return Ok(());
         }
         self.run()
