@@ -90,9 +90,13 @@ impl<K: Sink, E: Sink> Sink for ExplainingSink<K, E> {
 /// line.
 fn explanation(line: &[u8], terminals: Terminals) -> &'static [u8] {
     if line.starts_with(b"? ") {
-        if terminals.input { meaning(line) } else { b"" }
+        if terminals.input {
+            meaning_of(line)
+        } else {
+            b""
+        }
     } else if terminals.output {
-        meaning(line)
+        meaning_of(line)
     } else {
         b""
     }
@@ -106,7 +110,7 @@ struct Meaning {
 }
 
 /// What a refusal mostly means. Of those that begin alike the longer one comes first.
-fn meaning(line: &[u8]) -> &'static [u8] {
+fn meaning_of(line: &[u8]) -> &'static [u8] {
     for meaning in &MEANINGS {
         if line.starts_with(meaning.start) {
             return meaning.words;
@@ -122,7 +126,7 @@ const MEANINGS: [Meaning; 26] = [
     },
     Meaning {
         start: b"? 2",
-        words: b"a word is no number\n",
+        words: b"a word is no number, and names no address of the program\n",
     },
     Meaning {
         start: b"? 3",

@@ -51,8 +51,10 @@ pub record Shown : Type 0 where
   -- the byte of code at an address, where the program has code, which is assumed not to change
   pub code : ℕ → Option ℕ
   pub counts : Counts
-  -- the function that has an address, where the files of the program name one
+  -- the function that has an address, where the files of the program name one, and the address of a
+  -- name
   pub symbol : ℕ → Option FunctionSymbol
+  pub address_named : List ℕ → Option ℕ
 
 -- a point that a thread has
 abbrev pub IsThreadPoint : Shown → ThreadPoint → Type 0

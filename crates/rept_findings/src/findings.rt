@@ -175,6 +175,10 @@ pub trait Findings {
     fn rule(&self, number: u32, cell: Cell) -> BeyondRule
         requires { number < places_of (shown self.now) cell };
 
+    /// The address that the program gives to a name.
+    fn address_named(&self, name: &[u8]) -> Option<u32>
+        ensures { result ≡ (shown self.now).address_named name.now };
+
     /// Whether the value of a register at a point, or of a byte at a moment, isn't one of the
     /// report, and was inferred beyond it: then it has no reason.
     fn is_inferred(&self, number: u32, cell: Cell) -> bool

@@ -19,7 +19,7 @@ use Rattle.rept_moments.specs.Seen.{seen, moment_in}
 use Rattle.rept_analysis.specs.Counts.{rows_below, calls_below, stores_below, known_below}
 use Rattle.rept_findings.specs.Shown.{SessionTold, Shown, session_told}
 use Rattle.rept_found.specs.Places.Places.{point_on, place_on}
-use Rattle.rept_dump.specs.Program.{contents}
+use Rattle.rept_dump.specs.Program.{address_named, contents}
 use Rattle.rept_found.specs.Trip.Trip.{Trip, setting_on}
 use Rattle.rept_found.specs.Trip.Alone.{trip_of}
 use Rattle.rept_found.specs.Trip.Last.{writer_found}
@@ -67,6 +67,7 @@ shown_on t K scene = record {
   code = code_byte t.course (contents scene.program);
   counts = counts_of (setting_on t) K;
   symbol = (contents scene.program).symbol;
+  address_named = address_named scene.program;
 }
 
 -- of a path: that of its one thread, all of which is told

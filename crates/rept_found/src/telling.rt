@@ -144,6 +144,10 @@ impl<'a, W: Transfer, R: RowRules> Findings for AnalysedCrash<'a, W, R> {
         BeyondRule::Value
     }
 
+    fn address_named(&self, name: &[u8]) -> Option<u32> {
+        self.dump.address_named(name)
+    }
+
     fn is_inferred(&self, _number: u32, _cell: Cell) -> bool {
         false
     }

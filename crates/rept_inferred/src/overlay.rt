@@ -172,6 +172,10 @@ impl<'a, F: Findings, K: KnownPath, P: PathPremises> Findings for InferredCrash<
         }
     }
 
+    fn address_named(&self, name: &[u8]) -> Option<u32> {
+        self.found.address_named(name)
+    }
+
     fn is_inferred(&self, number: u32, cell: Cell) -> bool {
         let known = match cell {
             Cell::Register(register) => self.found.reg(number, register).is_some(),

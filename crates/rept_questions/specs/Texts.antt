@@ -22,7 +22,8 @@ use Rattle.rept_findings.specs.declared.findings.BeyondRule.{BeyondRule}
 use Rattle.rept_findings.specs.declared.place.ThreadPoint.{ThreadPoint}
 use Rattle.rept_questions.specs.Spots.{point_text, points_where, spots_line}
 use Rattle.rept_questions.specs.Trail.{IsTrail, address_by, base_of, byte_source, bytes_read, is_constant, register_source, registers_read}
-use Rattle.rept_questions.specs.Writers.{is_sure_writer}
+use Rattle.rept_questions.specs.Writers.{is_sure_of_some}
+use Rattle.rept_questions.specs.declared.writers.SoughtBytes.{SoughtBytes}
 use Rattle.rept_findings.specs.Texts.{at, looked_line, pc_at, premise_line, rule_line, value_text, visible, writer_line, writer_text}
 
 -- ` NAME+0xOFFSET`: the function that has an address, and how far the address is from its first
@@ -236,13 +237,13 @@ is_of pc (Some row) = row.at == pc
 abbrev pub group_of : Shown → ℕ → ℕ → List ℕ → List ℕ
 group_of s thread pc steps = filter (λ k. is_of pc (slice_get (s.rows thread) k)) steps
 
-abbrev pub is_sure_row : Shown → ℕ → ThreadPoint → Option StepRow → Bool
-is_sure_row s a c None = false
-is_sure_row s a c (Some row) = is_sure_writer s a c
+abbrev pub is_sure_row : Shown → SoughtBytes → ThreadPoint → Option StepRow → Bool
+is_sure_row s b c None = false
+is_sure_row s b c (Some row) = is_sure_of_some s b c
 
--- a step of the thread is known to have written a byte
-abbrev pub is_sure_step : Shown → ℕ → ℕ → ℕ → Bool
-is_sure_step s a thread k = is_sure_row s a (at thread k) (slice_get (s.rows thread) k)
+-- a step of the thread is known to have written one of some bytes
+abbrev pub is_sure_step : Shown → SoughtBytes → ℕ → ℕ → Bool
+is_sure_step s b thread k = is_sure_row s b (at thread k) (slice_get (s.rows thread) k)
 
 -- ` steps K sure S oldest J`: how many steps there are, how many of them are sure, and the oldest
 abbrev pub group_counts : List ℕ → List ℕ → List ℕ
@@ -250,19 +251,19 @@ group_counts group sure =
     codes " steps " ++ decimal (length group) ++ (codes " sure " ++ decimal (length sure)) ++ (codes " oldest " ++ point_text (slice_get group (length group - 1))) ++ 10 ∷ []
 
 -- the line of an instruction, with the newest one of its steps
-abbrev pub group_line : Shown → ℕ → ℕ → ℕ → StepRow → List ℕ → List ℕ
-group_line s a thread j row group = named_row s j row ++ group_counts group (filter (is_sure_step s a thread) group)
+abbrev pub group_line : Shown → SoughtBytes → ℕ → ℕ → StepRow → List ℕ → List ℕ
+group_line s b thread j row group = named_row s j row ++ group_counts group (filter (is_sure_step s b thread) group)
 
 -- the line of an instruction, where this step is its newest one
-abbrev pub group_at : Shown → ℕ → ℕ → ℕ → StepRow → List ℕ → List ℕ
-group_at s a thread j row group = if is_value j (slice_get group 0) then group_line s a thread j row group else []
+abbrev pub group_at : Shown → SoughtBytes → ℕ → ℕ → StepRow → List ℕ → List ℕ
+group_at s b thread j row group = if is_value j (slice_get group 0) then group_line s b thread j row group else []
 
-abbrev pub group_by : Shown → ℕ → ℕ → List ℕ → ℕ → Option StepRow → List ℕ
-group_by s a thread steps j None = []
-group_by s a thread steps j (Some row) = group_at s a thread j row (group_of s thread row.at steps)
+abbrev pub group_by : Shown → SoughtBytes → ℕ → List ℕ → ℕ → Option StepRow → List ℕ
+group_by s b thread steps j None = []
+group_by s b thread steps j (Some row) = group_at s b thread j row (group_of s thread row.at steps)
 
-abbrev pub group_entry : Shown → ℕ → ℕ → List ℕ → ℕ → List ℕ
-group_entry s a thread steps j = group_by s a thread steps j (slice_get (s.rows thread) j)
+abbrev pub group_entry : Shown → SoughtBytes → ℕ → List ℕ → ℕ → List ℕ
+group_entry s b thread steps j = group_by s b thread steps j (slice_get (s.rows thread) j)
 
 -- `left out K`
 abbrev pub left_line : ℕ → List ℕ
@@ -272,9 +273,12 @@ left_line count = if count == 0 then [] else codes "left out " ++ decimal count 
 unfoldable pub newest_of : List ℕ → List ℕ
 newest_of steps = take 8192 steps
 
--- the instructions of the newest 8,192 steps, and how many more there are; where there is no step,
--- what is known of the last writer
-abbrev pub writers_lines : Shown → ThreadPoint → ℕ → List ℕ → List ℕ
-writers_lines s c a [] = writer_line s (s.writer (moment_at s c) a)
-writers_lines s c a (step ∷ steps) =
-    flat_map (group_entry s a c.thread (newest_of (step ∷ steps))) (newest_of (step ∷ steps)) ++ left_line (length (step ∷ steps) - length (newest_of (step ∷ steps)))
+-- where no step wrote the bytes: of one byte, what is known of its last writer
+abbrev pub unwritten_line : Shown → ThreadPoint → SoughtBytes → List ℕ
+unwritten_line s c b = if b.count == 1 then writer_line s (s.writer (moment_at s c) b.address) else codes "no step of the thread" ++ 10 ∷ []
+
+-- the instructions of the newest 8,192 steps, and how many more there are
+abbrev pub writers_lines : Shown → ThreadPoint → SoughtBytes → List ℕ → List ℕ
+writers_lines s c b [] = unwritten_line s c b
+writers_lines s c b (step ∷ steps) =
+    flat_map (group_entry s b c.thread (newest_of (step ∷ steps))) (newest_of (step ∷ steps)) ++ left_line (length (step ∷ steps) - length (newest_of (step ∷ steps)))

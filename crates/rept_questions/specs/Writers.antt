@@ -1,6 +1,6 @@
--- The steps of a thread that wrote a byte before a point, or may have. This project's own.
-use Rattle.std.specs.Prelude.{ℕ, ◌+◌, ◌-◌, ◌%◌, ◌^◌, List, [], ◌∷◌, Bool, true, false, ◌==◌, ◌&&◌, nat_lt, Option, None, Some, slice_get, if◌then◌else◌}
-use Rattle.std.specs.List.{filter}
+-- The steps of a thread that wrote one of some bytes before a point, or may have. This project's own.
+use Rattle.std.specs.Prelude.{ℕ, ◌+◌, ◌-◌, ◌%◌, ◌^◌, List, Bool, true, false, not, ◌==◌, ◌&&◌, ◌||◌, nat_lt, Option, None, Some, slice_get, if◌then◌else◌}
+use Rattle.std.specs.List.{filter, list_any, range_with_len}
 use Rattle.rept_report.specs.declared.writer.Writer.{Writer}
 use Rattle.rept_report.specs.declared.writer.Writer.TheVariants as writer
 use Rattle.rept_isa.specs.declared.instr.Instr.{Instr}
@@ -10,7 +10,9 @@ use Rattle.rept_isa.specs.declared.instr.StoreOp.TheVariants as stores
 use Rattle.rept_isa.specs.declared.row.StepRow.{StepRow}
 use Rattle.rept_isa.specs.Operands.{is_call}
 use Rattle.rept_findings.specs.Shown.{Shown, moment_at, number}
-use Rattle.rept_questions.specs.Trail.{address_by, base_of, falling, own_step}
+use Rattle.rept_findings.specs.Texts.{wrapped}
+use Rattle.rept_questions.specs.Trail.{address_by, base_of, falling}
+use Rattle.rept_questions.specs.declared.writers.SoughtBytes.{SoughtBytes}
 use Rattle.rept_findings.specs.declared.place.ThreadPoint.{ThreadPoint}
 
 -- two steps are one
@@ -64,34 +66,26 @@ touches s a c = row_touches s a c (slice_get (s.rows c.thread) c.point)
 abbrev pub is_writer : Shown → ℕ → ThreadPoint → Bool
 is_writer s a c = touches s a c && names s c (writer_after s a c)
 
--- the step that is told, where it is such a one
-abbrev pub kept_step : Shown → ℕ → ℕ → Option ℕ → List ℕ
-kept_step s a thread None = []
-kept_step s a thread (Some j) = if touches s a (record { thread = thread; point = j }) then j ∷ [] else []
+-- a step that stores or calls; no other may write memory
+abbrev pub is_store : Option StepRow → Bool
+is_store None = false
+is_store (Some row) = is_call row.instr || not (stored row.instr == 0)
 
+-- a step is one that wrote one of some bytes, or may have
+abbrev pub is_some_writer : Shown → SoughtBytes → ThreadPoint → Bool
+is_some_writer s b c = list_any (λ i. is_writer s (wrapped (b.address + i)) c) (range_with_len 0 b.count)
+
+abbrev pub writes_some : Shown → SoughtBytes → ThreadPoint → Bool
+writes_some s b c = is_store (slice_get (s.rows c.thread) c.point) && is_some_writer s b c
+
+-- the steps before a point that wrote one of some bytes, or may have, from the newest on
+abbrev pub writers_before : Shown → SoughtBytes → ThreadPoint → List ℕ
+writers_before s b c = filter (λ k. writes_some s b (record { thread = c.thread; point = k })) (falling c.point)
+
+-- a step is known to have written a byte
 abbrev pub is_sure_writer : Shown → ℕ → ThreadPoint → Bool
-is_sure_writer s a c = names_surely s c (writer_after s a c)
+is_sure_writer s a c = touches s a c && names_surely s c (writer_after s a c)
 
--- the steps before a point that wrote a byte, or may have, from the newest on
-abbrev pub writers_before : Shown → ℕ → ThreadPoint → List ℕ
-writers_before s a c = filter (λ k. is_writer s a (record { thread = c.thread; point = k })) (falling c.point)
-
--- a step of the thread that is told, for certain or not
-abbrev pub told_step : Shown → ThreadPoint → Writer → Option ℕ
-told_step s c (writer.Writes row) = own_step c (s.point row)
-told_step s c (writer.MayWrite row) = own_step c (s.point row)
-told_step s c writer.Several = None
-told_step s c writer.None = None
-
-abbrev pub is_untold : Writer → Bool
-is_untold writer.None = true
-is_untold _ = false
-
-abbrev pub below_step : ℕ → Option ℕ → ℕ
-below_step point None = point - 1
-below_step point (Some step) = step
-
--- where to look on for the writers before a point
-abbrev pub next_below : ℕ → Writer → Option ℕ → ℕ
-next_below point writer.None step = 0
-next_below point other step = below_step point step
+-- a step is known to have written one of some bytes
+abbrev pub is_sure_of_some : Shown → SoughtBytes → ThreadPoint → Bool
+is_sure_of_some s b c = list_any (λ i. is_sure_writer s (wrapped (b.address + i)) c) (range_with_len 0 b.count)

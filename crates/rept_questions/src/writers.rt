@@ -1,16 +1,15 @@
-//! The steps that wrote a byte, or may have, by instruction.
+//! The steps that wrote some bytes, or may have, by instruction.
 
-ghost use Rattle.std.specs.Prelude.{◌≡◌, ◌<◌, ◌++◌, length, slice_get, IfOk, IfSome, OnOk};
+ghost use Rattle.std.specs.Prelude.{◌≡◌, ◌<◌, ◌≤◌, ◌++◌, length, slice_get, IfOk, OnOk};
 ghost use Rattle.std.specs.Fmt.{decimal};
 ghost use Rattle.std.specs.List.{filter, flat_map};
 ghost use Rattle.rept_findings.specs.Shown.{IsThreadPoint};
-ghost use Rattle.rept_findings.specs.Texts.{at as at_of};
-ghost use Rattle.rept_questions.specs.Texts.{group_at, group_counts, group_entry, group_line, group_of, is_of, is_sure_step, is_value, left_line, newest_of, writers_lines};
-ghost use Rattle.rept_questions.specs.Writers.{is_step, is_untold, is_writer, kept_step, may_touch, names, names_surely, next_below, stored, stored_by, told_step, touches, writers_before};
+ghost use Rattle.rept_questions.specs.Texts.{group_at, group_counts, group_entry, group_line, group_of, is_of, is_sure_step, is_value, left_line, newest_of, unwritten_line, writers_lines};
+ghost use Rattle.rept_questions.specs.Writers.{is_some_writer, is_step, is_store, is_sure_of_some, is_sure_writer, is_writer, may_touch, names, names_surely, stored, stored_by, touches, writers_before, writes_some};
 
 use crate::rows::push_named_row;
 use crate::spots::{push_point, push_where};
-use crate::trail::{address_at, own_step};
+use crate::trail::address_at;
 use rept_findings::findings::{moment_of, number_of};
 use rept_findings::lines::writer_text;
 use rept_findings::{Findings, ThreadPoint};
@@ -22,36 +21,64 @@ use std::alloc::Global;
 /// The most steps of which the instructions are told.
 const MOST_STEPS: usize = 8192;
 
-/// A byte, and the thread whose steps may have written it.
-#[derive(Clone, Copy)]
-struct SoughtByte {
-    thread: u32,
-    address: u32,
+/// Bytes side by side, whose addresses are told modulo 2^32.
+#[derive(Clone, Copy, Debug)]
+pub struct SoughtBytes {
+    /// the address of the first byte
+    pub address: u32,
+    /// how many bytes, at most 256
+    pub count: u32,
 }
 
-/// The steps before a point that wrote the byte at an address, or may have, by instruction; where
-/// there is none what is known of its last writer.
+/// The steps before a point that wrote one of these bytes, or may have, by instruction: a line of
+/// each instruction, with its newest step. Where there is no step, of one byte what is known of its
+/// last writer.
 pub fn writers_text<F: Findings>(
     alloc: Global,
     findings: &F,
     at: ThreadPoint,
-    address: u32,
+    bytes: SoughtBytes,
 ) -> Result<Text, OutOfMemory>
     requires { IsThreadPoint (F.shown findings.now) at }
-    ensures { IfOk result (λ text. text ≡ writers_lines (F.shown findings.now) at address (writers_before (F.shown findings.now) address at)) }
+    ensures { IfOk result (λ text. text ≡ writers_lines (F.shown findings.now) at bytes (writers_before (F.shown findings.now) bytes at)) }
 {
-    let steps = steps_before(alloc, findings, at, address)?;
+    let steps = steps_before(alloc, findings, at, bytes)?;
     if steps.is_empty() {
-        return writer_text(alloc, findings, moment_of(findings, at), address);
+        return unwritten_text(alloc, findings, at, bytes);
     }
     let told = newest(steps.as_slice());
     let mut text = Text::new(alloc);
-    let sought = SoughtByte {
+    let sought = ThreadBytes {
         thread: at.thread,
-        address,
+        bytes,
     };
     push_groups(alloc, &mut text, findings, sought, told)?;
     push_left(&mut text, steps.len().saturating_sub(told.len()))?;
+    Ok(text)
+}
+
+/// Bytes, and the thread whose steps may have written them.
+#[derive(Clone, Copy)]
+struct ThreadBytes {
+    thread: u32,
+    bytes: SoughtBytes,
+}
+
+/// What is told of bytes that no step wrote.
+fn unwritten_text<F: Findings>(
+    alloc: Global,
+    findings: &F,
+    at: ThreadPoint,
+    bytes: SoughtBytes,
+) -> Result<Text, OutOfMemory>
+    requires { IsThreadPoint (F.shown findings.now) at }
+    ensures { IfOk result (λ text. text ≡ unwritten_line (F.shown findings.now) at bytes) }
+{
+    if bytes.count == 1 {
+        return writer_text(alloc, findings, moment_of(findings, at), bytes.address);
+    }
+    let mut text = Text::new(alloc);
+    text.push(b"no step of the thread\n")?;
     Ok(text)
 }
 
@@ -66,75 +93,65 @@ fn newest(steps: &[u32]) -> &[u32]
     }
 }
 
-/// The steps of a thread before a point that wrote a byte, or may have, from the newest on.
+/// The steps of a thread before a point that wrote one of these bytes, or may have, from the newest
+/// on.
 fn steps_before<F: Findings>(
     alloc: Global,
     findings: &F,
     at: ThreadPoint,
-    address: u32,
+    bytes: SoughtBytes,
 ) -> Result<Vec<u32>, OutOfMemory>
     requires { IsThreadPoint (F.shown findings.now) at }
-    ensures { IfOk result (λ steps. steps.items ≡ writers_before (F.shown findings.now) address at) }
+    ensures { IfOk result (λ steps. steps.items ≡ writers_before (F.shown findings.now) bytes at) }
 {
     let mut steps = Vec::new(alloc);
     let mut below = at.point;
     'back: while below > 0 {
+        below -= 1;
         let here = ThreadPoint {
             thread: at.thread,
             point: below,
         };
-        below = look_back(&mut steps, findings, here, address)?;
+        push_where(&mut steps, below, writes_some(findings, here, bytes))?;
     }
     Ok(steps)
 }
 
-/// Appends the step that is told at a point, where it may have written the byte, and answers where
-/// to look on.
-fn look_back<F: Findings>(
-    steps: &mut Vec<u32>,
-    findings: &F,
-    at: ThreadPoint,
-    address: u32,
-) -> Result<u32, OutOfMemory>
-    requires point { IsThreadPoint (F.shown findings.now) at }
-    requires some { 0 < at.point }
-    ensures same { IfOk result (λ below. steps.old.items ++ writers_before (F.shown findings.now) address at ≡ steps.new.items ++ writers_before (F.shown findings.now) address (at_of at.thread below)) }
-    ensures within { IfOk result (λ below. below < at.point) }
+/// Whether the step at a point wrote one of these bytes, or may have.
+fn writes_some<F: Findings>(findings: &F, at: ThreadPoint, bytes: SoughtBytes) -> bool
+    requires { IsThreadPoint (F.shown findings.now) at }
+    ensures { result ≡ writes_some (F.shown findings.now) bytes at }
 {
-    let before = ThreadPoint {
-        thread: at.thread,
-        point: at.point - 1,
-    };
-    if !touches(findings, before, address) {
-        return Ok(before.point);
+    let rows = findings.rows(at.thread);
+    if !is_store(rows, at.point) {
+        return false;
     }
-    let writer = findings.writer(moment_of(findings, at), address);
-    let step = told_step(findings, at, writer);
-    push_kept(steps, findings, at, step, address)?;
-    Ok(next_below(at.point, writer, step))
+    is_some_writer(findings, at, bytes)
 }
 
-/// Appends a step of the thread, where it may have written the byte.
-fn push_kept<F: Findings>(
-    steps: &mut Vec<u32>,
-    findings: &F,
-    at: ThreadPoint,
-    step: Option<u32>,
-    address: u32,
-) -> Result<(), OutOfMemory>
-    requires point { IsThreadPoint (F.shown findings.now) at }
-    requires step { IfSome step (λ step. step < at.point) }
-    ensures { OnOk result (steps.new.items ≡ steps.old.items ++ kept_step (F.shown findings.now) address at.thread step) }
+/// Whether a step stores or calls.
+fn is_store(rows: &[StepRow], step: u32) -> bool
+    ensures value { result ≡ is_store (slice_get rows.now step) }
+    ensures within { result ≡ true → step < length rows.now }
 {
-    let Some(step) = step else {
-        return Ok(());
-    };
-    let here = ThreadPoint {
-        thread: at.thread,
-        point: step,
-    };
-    push_where(steps, step, touches(findings, here, address))?;
-    Ok(())
+    match rows.get(step as usize) {
+        Some(row) => is_call(&row.instr) || stored(&row.instr) != 0,
+        None => false,
+    }
+}
+
+/// Whether a step wrote one of these bytes, or may have, as far as that is known after it.
+fn is_some_writer<F: Findings>(findings: &F, at: ThreadPoint, bytes: SoughtBytes) -> bool
+    requires point { IsThreadPoint (F.shown findings.now) at }
+    requires step { at.point < length ((F.shown findings.now).rows at.thread) }
+    ensures { result ≡ is_some_writer (F.shown findings.now) bytes at }
+{
+    for i in 0..bytes.count {
+        if is_writer(findings, at, bytes.address.wrapping_add(i)) {
+            return true;
+        }
+    }
+    false
 }
 
 /// Whether the step at a point calls, or stores to a byte as far as its address is known.
@@ -215,52 +232,16 @@ fn store_width(op: StoreOp) -> u32
     }
 }
 
-/// The step that is told, for certain or not, where it is one of this thread before this point.
-fn told_step<F: Findings>(findings: &F, at: ThreadPoint, writer: Writer) -> Option<u32>
-    ensures value { result ≡ told_step (F.shown findings.now) at writer }
-    ensures within { IfSome result (λ step. step < at.point) }
-{
-    match writer {
-        Writer::Writes(row) | Writer::MayWrite(row) => own_step(at, findings.point(row)),
-        Writer::Several | Writer::None => None,
-    }
-}
-
-/// Where to look on for the writers before a point.
-fn next_below(point: u32, writer: Writer, step: Option<u32>) -> u32
-    requires some { 0 < point }
-    requires step { IfSome step (λ step. step < point) }
-    ensures value { result ≡ next_below point writer step }
-    ensures within { result < point }
-{
-    if is_none(writer) {
-        return 0;
-    }
-    match step {
-        Some(step) => step,
-        None => point - 1,
-    }
-}
-
-fn is_none(writer: Writer) -> bool
-    ensures { result ≡ is_untold writer }
-{
-    match writer {
-        Writer::None => true,
-        _ => false,
-    }
-}
-
 /// The line of each instruction, at its newest step.
 fn push_groups<F: Findings>(
     alloc: Global,
     text: &mut Text,
     findings: &F,
-    sought: SoughtByte,
+    sought: ThreadBytes,
     steps: &[u32],
 ) -> Result<(), OutOfMemory>
     requires { sought.thread < (F.shown findings.now).threads }
-    ensures { OnOk result (text.new ≡ text.old ++ flat_map (group_entry (F.shown findings.now) sought.address sought.thread steps.now) steps.now) }
+    ensures { OnOk result (text.new ≡ text.old ++ flat_map (group_entry (F.shown findings.now) sought.bytes sought.thread steps.now) steps.now) }
 {
     for step in steps {
         push_entry(alloc, text, findings, sought, steps, *step)?;
@@ -273,12 +254,12 @@ fn push_entry<F: Findings>(
     alloc: Global,
     text: &mut Text,
     findings: &F,
-    sought: SoughtByte,
+    sought: ThreadBytes,
     steps: &[u32],
     step: u32,
 ) -> Result<(), OutOfMemory>
     requires { sought.thread < (F.shown findings.now).threads }
-    ensures { OnOk result (text.new ≡ text.old ++ group_entry (F.shown findings.now) sought.address sought.thread steps.now step) }
+    ensures { OnOk result (text.new ≡ text.old ++ group_entry (F.shown findings.now) sought.bytes sought.thread steps.now step) }
 {
     match findings.rows(sought.thread).get(step as usize) {
         Some(row) => push_group(alloc, text, findings, sought, steps, step, row),
@@ -290,13 +271,13 @@ fn push_group<F: Findings>(
     alloc: Global,
     text: &mut Text,
     findings: &F,
-    sought: SoughtByte,
+    sought: ThreadBytes,
     steps: &[u32],
     step: u32,
     row: &StepRow,
 ) -> Result<(), OutOfMemory>
     requires { sought.thread < (F.shown findings.now).threads }
-    ensures { OnOk result (text.new ≡ text.old ++ group_at (F.shown findings.now) sought.address sought.thread step row.now (group_of (F.shown findings.now) sought.thread row.now.at steps.now)) }
+    ensures { OnOk result (text.new ≡ text.old ++ group_at (F.shown findings.now) sought.bytes sought.thread step row.now (group_of (F.shown findings.now) sought.thread row.now.at steps.now)) }
 {
     let rows = findings.rows(sought.thread);
     let group = group_of(alloc, rows, row.at, steps)?;
@@ -312,13 +293,13 @@ fn push_line<F: Findings>(
     alloc: Global,
     text: &mut Text,
     findings: &F,
-    sought: SoughtByte,
+    sought: ThreadBytes,
     group: &[u32],
     step: u32,
     row: &StepRow,
 ) -> Result<(), OutOfMemory>
     requires { sought.thread < (F.shown findings.now).threads }
-    ensures { OnOk result (text.new ≡ text.old ++ group_line (F.shown findings.now) sought.address sought.thread step row.now group.now) }
+    ensures { OnOk result (text.new ≡ text.old ++ group_line (F.shown findings.now) sought.bytes sought.thread step row.now group.now) }
 {
     let sure = sure_of(alloc, findings, sought, group)?;
     push_named_row(alloc, text, findings, step, row)?;
@@ -362,15 +343,15 @@ fn is_first(steps: &[u32], step: u32) -> bool
     }
 }
 
-/// Those of the steps that are known to have written a byte.
+/// Those of the steps that are known to have written one of the bytes.
 fn sure_of<F: Findings>(
     alloc: Global,
     findings: &F,
-    sought: SoughtByte,
+    sought: ThreadBytes,
     steps: &[u32],
 ) -> Result<Vec<u32>, OutOfMemory>
     requires { sought.thread < (F.shown findings.now).threads }
-    ensures { IfOk result (λ sure. sure.items ≡ filter (is_sure_step (F.shown findings.now) sought.address sought.thread) steps.now) }
+    ensures { IfOk result (λ sure. sure.items ≡ filter (is_sure_step (F.shown findings.now) sought.bytes sought.thread) steps.now) }
 {
     let mut sure = Vec::new(alloc);
     for step in steps {
@@ -379,10 +360,10 @@ fn sure_of<F: Findings>(
     Ok(sure)
 }
 
-/// Whether a step of the thread is known to have written a byte.
-fn is_sure_step<F: Findings>(findings: &F, sought: SoughtByte, step: u32) -> bool
+/// Whether a step of the thread is known to have written one of the bytes.
+fn is_sure_step<F: Findings>(findings: &F, sought: ThreadBytes, step: u32) -> bool
     requires { sought.thread < (F.shown findings.now).threads }
-    ensures { result ≡ is_sure_step (F.shown findings.now) sought.address sought.thread step }
+    ensures { result ≡ is_sure_step (F.shown findings.now) sought.bytes sought.thread step }
 {
     if findings.rows(sought.thread).get(step as usize).is_none() {
         return false;
@@ -391,15 +372,40 @@ fn is_sure_step<F: Findings>(findings: &F, sought: SoughtByte, step: u32) -> boo
         thread: sought.thread,
         point: step,
     };
+    is_sure_of_some(findings, here, sought.bytes)
+}
+
+/// Whether a step is known to have written one of these bytes.
+fn is_sure_of_some<F: Findings>(findings: &F, at: ThreadPoint, bytes: SoughtBytes) -> bool
+    requires point { IsThreadPoint (F.shown findings.now) at }
+    requires step { at.point < length ((F.shown findings.now).rows at.thread) }
+    ensures { result ≡ is_sure_of_some (F.shown findings.now) bytes at }
+{
+    for i in 0..bytes.count {
+        if is_sure_writer(findings, at, bytes.address.wrapping_add(i)) {
+            return true;
+        }
+    }
+    false
+}
+
+/// Whether a step is known to have written a byte.
+fn is_sure_writer<F: Findings>(findings: &F, at: ThreadPoint, address: u32) -> bool
+    requires point { IsThreadPoint (F.shown findings.now) at }
+    requires step { at.point < length ((F.shown findings.now).rows at.thread) }
+    ensures { result ≡ is_sure_writer (F.shown findings.now) address at }
+{
+    let _rows = findings.rows(at.thread);
     let after = ThreadPoint {
-        thread: sought.thread,
-        point: step + 1,
+        thread: at.thread,
+        point: at.point + 1,
     };
-    names_surely(
-        findings,
-        here,
-        findings.writer(moment_of(findings, after), sought.address),
-    )
+    touches(findings, at, address)
+        && names_surely(
+            findings,
+            at,
+            findings.writer(moment_of(findings, after), address),
+        )
 }
 
 /// Whether a writer that is told is this step for certain.

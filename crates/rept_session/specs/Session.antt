@@ -1,6 +1,6 @@
 -- A whole session: a fold over the lines of its input, with a cursor, which is a point of a thread.
 -- This project's own.
-use Rattle.std.specs.Prelude.{◌≡◌, ℕ, List, [], ◌∷◌, ◌++◌, length, Bool, false, Result, Ok, Err, MatchBool}
+use Rattle.std.specs.Prelude.{◌≡◌, ℕ, List, [], ◌∷◌, ◌++◌, length, Bool, false, None, Result, Ok, Err, MatchBool}
 use Rattle.rept_session.specs.declared.command.Command.{Command}
 use Rattle.rept_session.specs.declared.command.BadCommand.{BadCommand}
 use Rattle.rept_session.specs.Commands.{command_of}
@@ -23,9 +23,9 @@ ends (Ok command) = is_quit command
 ends (Err refusal) = false
 
 -- whether a line ends the session, which it does at each cursor or at none (`quits_alike`): so it
--- is asked of a thread without steps
+-- is asked of a thread without steps, in a program without names
 abbrev pub is_quit_line : List ℕ → Bool
-is_quit_line line = ends (command_of 0 1 line)
+is_quit_line line = ends (command_of (λ name. None) 0 1 line)
 
 -- whether a text answers a line, at the cursor before it
 abbrev pub IsReply : SessionTold → ThreadPoint → Said → List ℕ → Type 0
@@ -34,7 +34,7 @@ IsReply t cursor (Err refusal) text = text ≡ refusal_line refusal
 
 -- what is said of a line at a cursor
 abbrev pub said_at : Shown → ThreadPoint → List ℕ → Said
-said_at s cursor line = command_of (length (s.rows cursor.thread)) s.threads line
+said_at s cursor line = command_of s.address_named (length (s.rows cursor.thread)) s.threads line
 
 -- the text is one for a first line, and one for the rest
 pub record IsDivided (text : List ℕ) (First Rest : List ℕ → Type 0) : Type 0 where

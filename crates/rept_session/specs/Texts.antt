@@ -84,7 +84,7 @@ IsAnswered s c question.Pc text = text ≡ pc_line s c
 IsAnswered s c question.Recent text = text ≡ recent_lines s c
 IsAnswered s c (question.FromRegister r) text = IsFromRegister s c r (register_source (s.rows c.thread) c.point r) text
 IsAnswered s c (question.FromByte a) text = IsFromByte s c a (byte_source s c a) text
-IsAnswered s c (question.Writers a) text = text ≡ writers_lines s c a (writers_before s a c)
+IsAnswered s c (question.Writers a count) text = text ≡ writers_lines s c (record { address = a; count = count }) (writers_before s (record { address = a; count = count }) c)
 IsAnswered s c question.Premises text = text ≡ premises_lines s.beyond
 IsAnswered s c (question.Calls count) text = text ≡ calls_lines s c count
 IsAnswered s c (question.LostRegister r) text = text ≡ lost_register s c r (s.register (number s c) r)

@@ -71,7 +71,8 @@ pub fn answer_line<F: Findings>(
     ensures same_reasons { SameReasons (F.reasons findings.old) (F.reasons findings.new) }
 {
     let last = findings.rows(cursor.thread).len() as u32;
-    match parse(line, last, findings.threads()) {
+    let threads = findings.threads();
+    match parse(findings, line, last, threads) {
         Ok(command) => answer(alloc, findings, skipped, cursor, &command),
         Err(refusal) => refuse(alloc, cursor, refusal),
     }

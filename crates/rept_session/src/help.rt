@@ -22,9 +22,9 @@ calls [K]     the last K calls before the cursor, and where they returned; 16 if
 reg R         the value of a register; of pc the address
 regs          the values of x1 to x31
 range R       the lowest and the highest value of a register
-mem A [LEN]   LEN bytes from address A on, 16 if not given
+mem A [LEN]   LEN bytes from address A on, 16 if not given; A is a number, NAME or NAME+NUMBER
 writer A      the last writer of the byte at address A
-writers A     the steps that wrote it or may have, by instruction
+writers A [N] the steps that wrote one of N bytes or may have, by instruction; N is 1 if not given
 why R         why a register has its value
 why A         why the byte at address A has its value
 lost R        what keeps a register from being known
@@ -38,7 +38,7 @@ premises      what `infer` took for granted
 help          these lines
 quit          ends the session
 ? 1           no such command
-? 2           a word is no number
+? 2           a word is no number, and names no address of the program
 ? 3           the command takes more words, or fewer
 ? 4           a word is no register
 ? 5           a number is past its limit

@@ -26,8 +26,14 @@ pub enum Question {
     FromRegister(Reg),
     /// `from A`: tells where the byte at an address came from.
     FromByte(u32),
-    /// `writers A`: tells the steps that wrote the byte at an address, or may have, by instruction.
-    Writers(u32),
+    /// `writers A LEN`: tells the steps that wrote one of these bytes, or may have, by instruction;
+    /// one byte where no number is given.
+    Writers {
+        /// the address of the first byte
+        address: u32,
+        /// how many bytes, 1 to 256
+        count: u32,
+    },
     /// `premises`: tells what was taken for granted beyond what a report takes.
     Premises,
     /// `calls K`: tells the last calls before the cursor, so many at most, 16 where no number is

@@ -16,7 +16,7 @@ use rept_questions::lost::{byte_lost, register_lost};
 use rept_questions::rows::{around_text, at_text};
 use rept_questions::spots::{find_text, visits_text};
 use rept_questions::trail_text::{byte_from, register_from};
-use rept_questions::writers::writers_text;
+use rept_questions::writers::{SoughtBytes, writers_text};
 use rept_word::{OutOfMemory, Text};
 use std::alloc::Global;
 
@@ -42,7 +42,9 @@ pub fn question_text<F: Findings>(
         Question::Recent => recent_text(alloc, findings, at),
         Question::FromRegister(register) => register_from(alloc, findings, at, register),
         Question::FromByte(address) => byte_from(alloc, findings, at, address),
-        Question::Writers(address) => writers_text(alloc, findings, at, address),
+        Question::Writers { address, count } => {
+            writers_text(alloc, findings, at, SoughtBytes { address, count })
+        }
         Question::Premises => premises_text(alloc, findings.beyond()),
         Question::Calls(count) => calls_text(alloc, findings, at, count),
         Question::LostRegister(register) => register_lost(alloc, findings, at, register),

@@ -3,3 +3,4 @@ pub mod Numerals
 pub mod Reading
 pub mod HartlogLemmas
 pub mod RecordingLemmas
+pub mod QemuLemmas

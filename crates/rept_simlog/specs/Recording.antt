@@ -1,3 +1,5 @@
 pub mod Logs
 pub mod Process
+pub mod Qemu
+pub mod QemuParts
 pub mod Worked

@@ -2,6 +2,7 @@
 
 mod logs;
 mod process;
+mod qemu;
 mod stop;
 mod work;
 

@@ -37,7 +37,7 @@ abbrev pub signal_text : ℕ → List ℕ
 signal_text signal = codes "signal " ++ decimal signal ++ 10 ∷ []
 
 unfoldable pub help_text : List ℕ
-help_text = codes "where | when | thread T | goto POINT | back COUNT | fwd COUNT | at | around [COUNT] | reg R | reg pc | regs | range R | mem ADDRESS [COUNT] | writer ADDRESS | writers ADDRESS | why R | why ADDRESS | lost R | lost ADDRESS | from R | from ADDRESS | visits ADDRESS | find R VALUE | list [STEP [COUNT]] | stack | calls [COUNT] | summary | premises | signal" ++ 10 ∷ []
+help_text = codes "where | when | thread T | goto POINT | back COUNT | fwd COUNT | at | around [COUNT] | reg R | reg pc | regs | range R | mem ADDRESS [COUNT] | writer ADDRESS | writers ADDRESS [COUNT] | why R | why ADDRESS | lost R | lost ADDRESS | from R | from ADDRESS | visits ADDRESS | find R VALUE | list [STEP [COUNT]] | stack | calls [COUNT] | summary | premises | signal" ++ 10 ∷ []
 
 -- the point before a row, where that is the thread's own and before this point
 abbrev pub own_before : ThreadPoint → ThreadPoint → Option ℕ

@@ -89,7 +89,7 @@ pub fn signal_text(alloc: Global, signal: u16) -> Result<Text, OutOfMemory>
 pub fn help_text() -> &'static [u8]
     ensures { result.now ≡ help_text }
 {
-    b"where | when | thread T | goto POINT | back COUNT | fwd COUNT | at | around [COUNT] | reg R | reg pc | regs | range R | mem ADDRESS [COUNT] | writer ADDRESS | writers ADDRESS | why R | why ADDRESS | lost R | lost ADDRESS | from R | from ADDRESS | visits ADDRESS | find R VALUE | list [STEP [COUNT]] | stack | calls [COUNT] | summary | premises | signal\n"
+    b"where | when | thread T | goto POINT | back COUNT | fwd COUNT | at | around [COUNT] | reg R | reg pc | regs | range R | mem ADDRESS [COUNT] | writer ADDRESS | writers ADDRESS [COUNT] | why R | why ADDRESS | lost R | lost ADDRESS | from R | from ADDRESS | visits ADDRESS | find R VALUE | list [STEP [COUNT]] | stack | calls [COUNT] | summary | premises | signal\n"
 }
 
 /// How gdb reads registers anew.

@@ -11,7 +11,7 @@ use rept_isa::{ImmOp, Instr, Reg, StepRow};
 use rept_partial::Range;
 use rept_reason::{Cell, Fact, RangePremise, Reason};
 use rept_report::{Counts, Writer};
-use rept_word::OutOfMemory;
+use rept_word::{OutOfMemory, is_word};
 use std::alloc::{AllocError, Global};
 
 /// The findings: x5 is known from point 1 on, the bytes below address 16 are their addresses, and
@@ -26,11 +26,12 @@ pub struct Fixed {
 }
 
 impl Findings for Fixed {
-    ghost use Rattle.std.specs.Prelude.{None, Some, [], ◌∷◌, nat_lt, ◌==◌, if◌then◌else◌};
+    ghost use Rattle.std.specs.Prelude.{None, Some, [], ◌∷◌, nat_lt, ◌==◌, codes, if◌then◌else◌};
+    ghost use Rattle.std.specs.Str.{bytes_eq};
     ghost use Rattle.rept_report.specs.declared.writer.Writer.TheVariants as writers;
     ghost use Rattle.rept_findings.specs.declared.place.Place.TheVariants as places;
 
-    ghost shown = { λ f. record { threads = 1; process = λ t. 1; rows = λ t. f.rows; end_pc = λ t. 65544; first = λ t. 0; points = 3; point = λ p. record { thread = 0; point = p }; moments = 3; moment = λ p. p; place = λ m. record { thread = 0; place = places.Point m }; register = λ point r. if point == 0 then None else Some 43981; range = λ point r. f.range; note = λ point r. f.note; byte = λ point a. if nat_lt a 16 then Some a else None; writer = λ point a. if nat_lt point 2 then writers.None else writers.MayWrite 1; is_inferred = λ p c. p == 2; beyond = f.beyond; code = λ a. if a == 65536 then Some 19 else None; counts = f.counts; symbol = λ a. if a == 65540 then Some (record { name = 102 ∷ 7 ∷ []; value = 65536 }) else None } };
+    ghost shown = { λ f. record { threads = 1; process = λ t. 1; rows = λ t. f.rows; end_pc = λ t. 65544; first = λ t. 0; points = 3; point = λ p. record { thread = 0; point = p }; moments = 3; moment = λ p. p; place = λ m. record { thread = 0; place = places.Point m }; register = λ point r. if point == 0 then None else Some 43981; range = λ point r. f.range; note = λ point r. f.note; byte = λ point a. if nat_lt a 16 then Some a else None; writer = λ point a. if nat_lt point 2 then writers.None else writers.MayWrite 1; is_inferred = λ p c. p == 2; beyond = f.beyond; code = λ a. if a == 65536 then Some 19 else None; counts = f.counts; symbol = λ a. if a == 65540 then Some (record { name = 102 ∷ 7 ∷ []; value = 65536 }) else None; address_named = λ name. if bytes_eq name (codes "ports") then Some 8 else None } };
 
     ghost reasons = { λ f fact why. Unit {0} };
 
@@ -129,6 +130,14 @@ impl Findings for Fixed {
         match cell {
             Cell::Register(_) => BeyondRule::Class,
             Cell::Byte(_) => BeyondRule::FirstMemory,
+        }
+    }
+
+    fn address_named(&self, name: &[u8]) -> Option<u32> {
+        if is_word(name, b"ports") {
+            Some(8)
+        } else {
+            None
         }
     }
 

@@ -122,7 +122,7 @@ impl Sessions {
             said.as_bytes()
         };
         match asked {
-            "command" => format!(in alloc; "{:?}", rept_session::parse(text, 9, 3)),
+            "command" => format!(in alloc; "{:?}", rept_session::parse(&two_steps(), text, 9, 3)),
             "request" => format!(in alloc; "{:?}", rept_remote::parse(text)),
             "at" => lines::at(alloc, None, said, n),
             "noted" => lines::at(alloc, Some((15, 9)), said, n),

@@ -37,7 +37,7 @@ impl Findings for TwoThreads {
     ghost use Rattle.rept_report.specs.declared.writer.Writer.TheVariants as writers;
     ghost use Rattle.rept_findings.specs.declared.place.Place.TheVariants as places;
 
-    ghost shown = { λ f. record { threads = 2; process = λ t. t + 1; rows = λ t. if t == 0 then f.first else f.second; end_pc = λ t. if t == 0 then 65552 else 65544; first = λ t. if t == 0 then 0 else 5; points = 8; point = λ p. if nat_lt p 5 then record { thread = 0; point = p } else record { thread = 1; point = p - 5 }; register = λ p r. if r == 5 then Some 131072 else if r == 6 then Some (if nat_lt p 5 then 9 else 8) else Some 0; range = λ p r. f.range; note = λ p r. None; moments = 8; moment = λ p. if p == 7 then 4 else p; place = λ m. if nat_lt m 4 then record { thread = 0; place = places.Point m } else if m == 4 then record { thread = 0; place = places.End } else if m == 7 then record { thread = 1; place = places.After 1 } else record { thread = 1; place = places.Point (m - 5) }; byte = λ m a. if a == 131072 then (if m == 3 then Some 9 else if m == 4 then Some 9 else if m == 7 then Some 8 else None) else None; writer = λ m a. if a == 131072 then (if m == 1 then writers.MayWrite 6 else if m == 5 then writers.MayWrite 1 else if m == 6 then writers.MayWrite 1 else writers.Several) else writers.Several; is_inferred = λ p c. false; beyond = None; code = λ a. None; counts = f.counts; symbol = λ a. None } };
+    ghost shown = { λ f. record { threads = 2; process = λ t. t + 1; rows = λ t. if t == 0 then f.first else f.second; end_pc = λ t. if t == 0 then 65552 else 65544; first = λ t. if t == 0 then 0 else 5; points = 8; point = λ p. if nat_lt p 5 then record { thread = 0; point = p } else record { thread = 1; point = p - 5 }; register = λ p r. if r == 5 then Some 131072 else if r == 6 then Some (if nat_lt p 5 then 9 else 8) else Some 0; range = λ p r. f.range; note = λ p r. None; moments = 8; moment = λ p. if p == 7 then 4 else p; place = λ m. if nat_lt m 4 then record { thread = 0; place = places.Point m } else if m == 4 then record { thread = 0; place = places.End } else if m == 7 then record { thread = 1; place = places.After 1 } else record { thread = 1; place = places.Point (m - 5) }; byte = λ m a. if a == 131072 then (if m == 3 then Some 9 else if m == 4 then Some 9 else if m == 7 then Some 8 else None) else None; writer = λ m a. if a == 131072 then (if m == 1 then writers.MayWrite 6 else if m == 5 then writers.MayWrite 1 else if m == 6 then writers.MayWrite 1 else writers.Several) else writers.Several; is_inferred = λ p c. false; beyond = None; code = λ a. None; counts = f.counts; symbol = λ a. None; address_named = λ name. None } };
 
     ghost reasons = { λ f fact why. Unit {0} };
 
@@ -162,6 +162,10 @@ impl Findings for TwoThreads {
 
     fn rule(&self, _number: u32, _cell: Cell) -> BeyondRule {
         BeyondRule::Value
+    }
+
+    fn address_named(&self, _name: &[u8]) -> Option<u32> {
+        None
     }
 
     fn is_inferred(&self, _number: u32, _cell: Cell) -> bool {

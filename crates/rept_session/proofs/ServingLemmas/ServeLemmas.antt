@@ -34,12 +34,12 @@ pub said_given : (s : Shown) (c : ThreadPoint) (l : List ℕ) → said_by s c (g
 said_given s c l = at (nat_lt 256 (length l)) refl
   where
     at : (b : Bool) → nat_lt 256 (length l) ≡ b → said_by s c (cond b None (Some l)) ≡ said_at s c l
-    at true e = sym (ap (λ (b : Bool). cond b (Err LongLine) (command_of_words (length (s.rows c.thread)) s.threads (words_in l))) e)
+    at true e = sym (ap (λ (b : Bool). cond b (Err LongLine) (command_of_words s.address_named (length (s.rows c.thread)) s.threads (words_in l))) e)
     at false e = refl
 
 -- whether it ends the session
 quit_at : (s : Shown) (c : ThreadPoint) (l : List ℕ) (b : Bool) → ends (said_at s c l) ≡ b → is_quit_line l ≡ b
-quit_at s c l b e = quits_alike 0 1 (length (s.rows c.thread)) s.threads l ∙ e
+quit_at s c l b e = quits_alike (λ name. None) 0 1 s.address_named (length (s.rows c.thread)) s.threads l ∙ e
 
 no_quit_more : (done : List (List ℕ)) (l : List ℕ) → has_quit done ≡ false → is_quit_line l ≡ false → has_quit (done ++ l ∷ []) ≡ false
 no_quit_more [] l h e = rw e refl

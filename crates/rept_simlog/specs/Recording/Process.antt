@@ -7,7 +7,7 @@ use Rattle.rept_ports.specs.declared.arguments.Unreadable.{Unreadable}
 use Rattle.rept_ports.specs.declared.arguments.Unreadable.TheVariants as unreadable
 use Rattle.rept_simlog.specs.declared.refusal.SimLogRefusal.TheVariants as one
 use Rattle.rept_simlog.specs.declared.hartlog.refusal.HartLogRefusal.TheVariants as several
-use Rattle.rept_simlog.specs.declared.recording.logs.LogRefusal.TheVariants.{OneHart, SeveralHarts}
+use Rattle.rept_simlog.specs.declared.recording.logs.LogRefusal.TheVariants.{OneHart, Qemu, SeveralHarts}
 use Rattle.rept_simlog.specs.Recording.Worked.{Inputs, WritesTrace, Ends}
 use Rattle.rept_simlog.specs.declared.recording.stop.RecordError.{RecordError}
 use Rattle.rept_simlog.specs.declared.recording.stop.RecordError.TheVariants as stop
@@ -28,6 +28,7 @@ pub record IsTraceWritten {T : Type 0} (from : Inputs) (out : PortMove Port) (re
 
 abbrev pub number_of_stop : RecordError → ℕ
 number_of_stop (stop.Refused (OneHart one.OutOfMemory)) = 11
+number_of_stop (stop.Refused (Qemu one.OutOfMemory)) = 11
 number_of_stop (stop.Refused (SeveralHarts several.OutOfMemory)) = 11
 number_of_stop (stop.Refused other) = 1
 number_of_stop stop.Usage = 2

@@ -45,6 +45,7 @@ impl RecordError {
     {
         match self {
             RecordError::Refused(LogRefusal::OneHart(crate::SimLogRefusal::OutOfMemory))
+            | RecordError::Refused(LogRefusal::Qemu(crate::SimLogRefusal::OutOfMemory))
             | RecordError::Refused(
                 LogRefusal::SeveralHarts(crate::hartlog::HartLogRefusal::OutOfMemory),
             )

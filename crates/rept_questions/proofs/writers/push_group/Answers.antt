@@ -18,5 +18,5 @@ returns-then-is_first g c =
     ap (λ (xs : List ℕ). is_value j (slice_get xs 0)) (sym (c.as_slice.ensures.value ∙ group)) ∙ sym c.is_first.ensures ∙ c.if-is_first.true
     in
     c.in_ok-push_line.ensures
-    ∙ ap (λ (xs : List ℕ). c.args.text.now ++ group_line s c.args.sought.address t j row xs) (c.as_slice-then-is_first.ensures.value ∙ group)
-    ∙ ap (λ (b : Bool). c.args.text.now ++ (if b then group_line s c.args.sought.address t j row (group_of s t row.at c.args.steps.now) else [])) (sym first)
+    ∙ ap (λ (xs : List ℕ). c.args.text.now ++ group_line s c.args.sought.bytes t j row xs) (c.as_slice-then-is_first.ensures.value ∙ group)
+    ∙ ap (λ (b : Bool). c.args.text.now ++ (if b then group_line s c.args.sought.bytes t j row (group_of s t row.at c.args.steps.now) else [])) (sym first)

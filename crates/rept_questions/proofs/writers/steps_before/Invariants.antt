@@ -5,7 +5,7 @@ use Rattle.rept_questions.proofs.writers.steps_before.Given as goal
 
 abbrev pub invariant-back : goal.invariant-back
 invariant-back g l = record {
-  same : writers_before (g.F.Findings.shown l.findings) l.address l.at ≡ l.steps.items ++ writers_before (g.F.Findings.shown l.findings) l.address (at l.at.thread l.below);
+  same : writers_before (g.F.Findings.shown l.findings) l.bytes l.at ≡ l.steps.items ++ writers_before (g.F.Findings.shown l.findings) l.bytes (at l.at.thread l.below);
   within : l.below ≤ l.at.point;
 }
 
