@@ -47,13 +47,18 @@ def registers():
     return [number_in(frame, name) for name in NAMES[1:]]
 
 
-def stack_bytes():
-    """The bytes at sp, as far as gdb can read them."""
-    stack = registers()[1]
+def bytes_at(address, count):
+    """Bytes, where gdb can read all of them."""
     try:
-        return bytes(gdb.selected_inferior().read_memory(stack, 16)).hex() if stack else ""
+        return bytes(gdb.selected_inferior().read_memory(address, count)).hex()
     except gdb.error:
         return ""
+
+
+def stack_bytes():
+    """The bytes at sp."""
+    stack = registers()[1]
+    return bytes_at(stack, 16) if stack else ""
 
 
 def frames():
@@ -80,6 +85,14 @@ def do_step(points):
         tell(["stepi", at], [point(), address()])
         run("reverse-stepi")
         tell(["reverse-stepi", at + 1], [point(), address()])
+
+
+def do_constants(plan):
+    """Bytes that can't be written, 16 from each address on."""
+    for at, places in plan:
+        move_to(at)
+        for place in places:
+            tell(["constants", at, place], bytes_at(place, 16))
 
 
 def do_break(places):

@@ -86,13 +86,25 @@ def several_threads(lines):
     return threads
 
 
-def segments(image):
-    """The loaded bytes of an ELF file, by their first address."""
+def loaded(image):
+    """The loaded bytes of an ELF file, by their first address, and whether they can be written."""
     first, count = unpack_from("<I", image, 28)[0], unpack_from("<H", image, 44)[0]
     for at in range(first, first + 32 * count, 32):
-        kind, offset, address, _, size = unpack_from("<5I", image, at)
+        kind, offset, address, _, size, _, flags = unpack_from("<7I", image, at)
         if kind == 1 and size:
-            yield address, image[offset:offset + size]
+            yield address, image[offset:offset + size], bool(flags & 2)
+
+
+def segments(image):
+    """The loaded bytes of an ELF file, by their first address."""
+    return ((address, data) for address, data, _ in loaded(image))
+
+
+def constants(name, size):
+    """Addresses of so many bytes of the executable each that can't be written."""
+    image = (CRASHES / name / "exe").read_bytes()
+    return [at for address, data, written in loaded(image) if not written
+            for at in range(address, address + len(data) - size + 1, size)]
 
 
 def jump_of(word):

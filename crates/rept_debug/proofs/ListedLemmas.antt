@@ -1,5 +1,6 @@
 -- From the files that a core file lists to the dialog over their crash.
 use Rattle.std.proofs.Common.{◌≡◌, ◌≤◌, ◌+◌, ℕ, List, Option, None, Some, IfSome, MatchOption, Result, Ok, Err, OnOk, MatchResult, inl, inr, refl, sym, ap, subst, ◌∙◌, arith}
+use Rattle.rept_elf.specs.Image.{file_of}
 use Rattle.rept_elf.specs.Segments.{segments}
 use Rattle.rept_elf.specs.declared.fault.ElfFault.{ElfFault}
 use Rattle.rept_maps.specs.declared.fault.MapFault.{MapFault}
@@ -26,6 +27,8 @@ use Rattle.rept_opening.specs.declared.refusal.Refusal.{Refusal}
 use Rattle.rept_opening.specs.declared.refusal.Refusal.TheVariants as refusal
 use Rattle.rept_opening.proofs.MappedLemmas.{over_files, parts_trace}
 use Rattle.rept_debug.specs.Debugged.{IsHeld, IsHeldMapped, IsHeldTrace, IsLoadFault, IsRefusedCrash, IsRefusedMapped, IsRefusedTrace, IsUnheld, NameStops, Streams}
+use Rattle.rept_stub.specs.CrashFiles.{AreFilesOf, program_of}
+use Rattle.rept_stub.specs.declared.files.ProcessFiles.{ProcessFiles}
 use Rattle.rept_debug.specs.declared.no_talk.GdbError.{GdbError}
 use Rattle.rept_debug.specs.declared.no_talk.GdbError.TheVariants as no_talk
 use Rattle.rept_debug.specs.declared.talk.GdbSession.{GdbSession}
@@ -36,8 +39,16 @@ module _ (ms : List Mapping) (b : CoreBytes) (dump : Dump) (notes : List (List �
   read_parts : ReadsNotes (parts_bytes ms b) notes
   read_parts = record { program_accepted = refl; core_accepted = accepted; noted = said }
 
-  pub held_parts : (io : Streams) (talk : GdbSession) → IsHeldTrace (crash_trace (crash_of dump notes) trace b.manner) io talk → IsHeld (parts_bytes ms b) io talk
-  held_parts io talk h = record { notes = notes; read = read_parts; held = subst (λ (t : CrashTrace). IsHeldTrace t io talk) (parts_trace (crash_of dump notes) ms b trace program core same) h }
+  pub held_parts : (files : ProcessFiles) (io : Streams) → file_of files.core ≡ b.core → program_of files.program ≡ MappedFiles ms → AreFilesOf files → (talk : GdbSession) → IsHeldTrace (crash_trace (crash_of dump notes) trace b.manner) files io talk → IsHeld (parts_bytes ms b) io talk
+  held_parts files io same_core same_program are talk h = record {
+    notes = notes;
+    read = read_parts;
+    files = files;
+    core = same_core;
+    program = same_program;
+    are = are;
+    held = subst (λ (t : CrashTrace). IsHeldTrace t files io talk) (parts_trace (crash_of dump notes) ms b trace program core same) h;
+  }
 
   pub refused_parts : (r : Refusal) → IsRefusedTrace (crash_trace (crash_of dump notes) trace b.manner) r → IsRefusedCrash (parts_bytes ms b) r
   refused_parts r h = inr (notes, read_parts, subst (λ (t : CrashTrace). IsRefusedTrace t r) (parts_trace (crash_of dump notes) ms b trace program core same) h)

@@ -1,5 +1,7 @@
 -- From an analysis that has ended to the dialog over it.
 use Rattle.std.proofs.Common.{◌≡◌, ◌⊎◌, ℕ, List, inl, inr, refl, sym, ap, subst, ◌∙◌}
+use Rattle.rept_elf.specs.Image.{file_of}
+use Rattle.rept_dump.specs.Program.Program.{OneFile}
 use Rattle.rept_dump.specs.declared.dump.Dump.{Dump}
 use Rattle.rept_path.specs.declared.fault.PathFault.{PathFault}
 use Rattle.rept_path.specs.declared.fault.PathFault.TheVariants as fault
@@ -21,11 +23,14 @@ use Rattle.rept_debug.specs.Debugged.{HoldsDialog, IsHeld, IsHeldTrace, IsNotice
 use Rattle.rept_debug.specs.Dialog.Greeting.{IsGreeting}
 use Rattle.rept_debug.specs.declared.dialog.conversation.SessionEnd.{SessionEnd}
 use Rattle.rept_debug.specs.declared.dialog.greeting.Greeting.{Greeting}
+use Rattle.rept_stub.specs.CrashFiles.{AreFilesOf, program_of}
 use Rattle.rept_debug.specs.declared.talk.GdbSession.{GdbSession}
+use Rattle.rept_debug.specs.declared.talk.OpenDialog.{OpenDialog}
+use Rattle.rept_stub.specs.declared.files.ProcessFiles.{ProcessFiles}
 
 -- what was asked over a run was answered over it
-pub talks_over : {W : Type 0} (p : CrashRun W) (s0 s1 s2 k0 k1 k2 : Port) (g : Greeting) (end : SessionEnd) → IsGreeting (move s0 s1) (move k0 k1) g → IsAsked (HoldsDialog g) p (move s1 s2) (move k1 k2) end → TalksOver p (move s0 s2) (move k0 k2) end
-talks_over p s0 s1 s2 k0 k1 k2 g end greeted h = record { account = h.account; report = h.report; talks = h.asked s0 k0 greeted }
+pub talks_over : {W : Type 0} (p : CrashRun W) (s0 s1 s2 k0 k1 k2 : Port) (d : OpenDialog) (end : SessionEnd) → IsGreeting (move s0 s1) (move k0 k1) d.greeting → IsAsked (HoldsDialog d) p (move s1 s2) (move k1 k2) end → TalksOver p d.files (move s0 s2) (move k0 k2) end
+talks_over p s0 s1 s2 k0 k1 k2 d end greeted h = record { account = h.account; report = h.report; talks = h.asked s0 k0 greeted }
 
 -- what was answered before a refusal stands
 pub still_greeted : (s0 s1 s2 k0 k1 k2 : Port) (g : Greeting) → s2 ≡ s1 → k2 ≡ k1 → IsGreeting (move s0 s1) (move k0 k1) g → MayGreet (move s0 s2) (move k0 k2)
@@ -43,16 +48,20 @@ module _ (t : CrashTrace) where
   pub run_refused : (from : ℕ) (run : Run) (r : Refusal) → IsRunOf t.crash t.trace from run → BeginsAt t.crash t.trace t.manner.from from → HasNoReport (run_in t run) r → IsRefusedTrace t r
   run_refused from run r is begins h = inr (inl (from, run, begins, is, h))
 
-  pub run_held : (io : Streams) (talk : GdbSession) (run : Run) → IsRunOf t.crash t.trace talk.from run → BeginsAt t.crash t.trace t.manner.from talk.from → IsNoticed t.manner.from talk.from io.errors → TalksOver (run_in t run) io.input io.output talk.end → IsHeldTrace t io talk
-  run_held io talk run is begins noticed over = record { run = run; is = is; begins = begins; noticed = noticed; over = over }
+  pub run_held : (files : ProcessFiles) (io : Streams) (talk : GdbSession) (run : Run) → IsRunOf t.crash t.trace talk.from run → BeginsAt t.crash t.trace t.manner.from talk.from → IsNoticed t.manner.from talk.from io.errors → TalksOver (run_in t run) files io.input io.output talk.end → IsHeldTrace t files io talk
+  run_held files io talk run is begins noticed over = record { run = run; is = is; begins = begins; noticed = noticed; over = over }
 
 -- what was held over the trace of a dump was held over its files
 module _ (exe core trace : List ℕ) (manner : OpenOptions) (dump : Dump) (is : IsDumpOf (is_several trace) exe core dump) where
-  pub held_at : (io : Streams) (talk : GdbSession) → IsHeldTrace (crash_trace (crash_of dump is.notes) trace manner) io talk → IsHeld (crash_bytes exe core trace manner) io talk
-  held_at io talk h = record {
+  pub held_at : (files : ProcessFiles) (io : Streams) (talk : GdbSession) → file_of files.core ≡ core → program_of files.program ≡ OneFile exe → AreFilesOf files → IsHeldTrace (crash_trace (crash_of dump is.notes) trace manner) files io talk → IsHeld (crash_bytes exe core trace manner) io talk
+  held_at files io talk same program are h = record {
     notes = is.notes;
     read = record { program_accepted = is.exe_accepted; core_accepted = is.core_accepted; noted = is.noted };
-    held = subst (λ (s : Crash). IsHeldTrace (crash_trace s trace manner) io talk) is.crash h;
+    files = files;
+    core = same;
+    program = program;
+    are = are;
+    held = subst (λ (s : Crash). IsHeldTrace (crash_trace s trace manner) files io talk) is.crash h;
   }
 
   pub refused_at : (r : Refusal) → IsRefusedTrace (crash_trace (crash_of dump is.notes) trace manner) r → IsRefusedCrash (crash_bytes exe core trace manner) r

@@ -3,6 +3,7 @@ use Rattle.std.specs.Prelude.{◌≡◌, ◌⊎◌, ℕ, suc, List, [], ◌∷�
 use Rattle.std.specs.Fmt.{decimal}
 use Rattle.std.specs.Io.KnownBytes.{Appends}
 use Rattle.rept_elf.specs.Header.{half_at}
+use Rattle.rept_elf.specs.Image.{file_of}
 use Rattle.rept_ports.specs.Causes.{OneFault, AppendsPrefix}
 use Rattle.rept_maps.specs.declared.fault.MapFault.{MapFault}
 use Rattle.rept_maps.specs.Mapfiles.Kept.{asked_names, loads_after}
@@ -17,7 +18,11 @@ use Rattle.rept_debug.specs.Dialog.Converse.{Parties, Converses, parties_over}
 use Rattle.rept_debug.specs.Dialog.Greeting.{IsGreeting}
 use Rattle.rept_debug.specs.Dialog.Onward.{GoesOn}
 use Rattle.rept_debug.specs.declared.dialog.conversation.SessionEnd.{SessionEnd}
+use Rattle.rept_stub.specs.CrashFiles.{AreFilesOf, program_of}
 use Rattle.rept_debug.specs.declared.dialog.greeting.Greeting.{Greeting}
+use Rattle.rept_debug.specs.declared.talk.OpenDialog.{OpenDialog}
+use Rattle.rept_stub.specs.declared.answers.Setting.{Setting}
+use Rattle.rept_stub.specs.declared.files.ProcessFiles.{ProcessFiles}
 use Rattle.rept_opening.specs.Forms.{core_image_fault}
 use Rattle.rept_opening.specs.Lines.{status_of}
 use Rattle.rept_opening.specs.Loading.{CrashBytes, CoreBytes, ComesTo, ComesToCore, Loading, core_loads_to, loading, loads_to}
@@ -68,35 +73,40 @@ IsNoticed asked from errors = ((from ≡ asked) × (errors.after ≡ errors.befo
 abbrev pub Notices : PortMove Port → Type 0
 Notices errors = (errors.after ≡ errors.before) ⊎ ((from : ℕ) × IsWritten from errors)
 
+-- what is told besides what a session tells: how many packets were left out, the signal, and what
+-- the files hold
+abbrev pub setting_of : ℕ → ℕ → ProcessFiles → Setting
+setting_of skipped signal files = record { skipped = skipped; signal = signal; files = files }
+
 -- who talks: what a session tells of an account of the run; the signal of the first thread's
--- register note (`pr_cursig` of `struct elf_prstatus`, at 12); and a debugger that stands at the
--- end
-abbrev pub dialog_over : {W : Type 0} → CrashRun W → RunAccount → Parties
-dialog_over p a = parties_over (told_in p a) (half_at (note_at p.crash 0) 12)
+-- register note (`pr_cursig` of `struct elf_prstatus`, at 12); what the files hold; and a debugger
+-- that stands at the end
+abbrev pub dialog_over : {W : Type 0} → CrashRun W → ProcessFiles → RunAccount → Parties
+dialog_over p files a = parties_over (told_in p a) (setting_of a.skipped (half_at (note_at p.crash 0) 12) files)
 
 -- a dialog that began before the report goes on over what a session tells, with the signal of the
--- crash
-abbrev pub HoldsDialog : Greeting → SessionTold → ℕ → PortMove Port → PortMove Port → SessionEnd → Type 0
-HoldsDialog g t signal source sink end = GoesOn (parties_over t signal) g source sink end
+-- crash and what its files hold
+abbrev pub HoldsDialog : OpenDialog → SessionTold → ℕ → PortMove Port → PortMove Port → SessionEnd → Type 0
+HoldsDialog d t signal source sink end = GoesOn (parties_over t (setting_of t.skipped signal d.files)) d.greeting source sink end
 
 -- What was read and answered where there is no dialog over a report: nothing; or all packets up to
 -- the first one that needs a report.
 abbrev pub MayGreet : PortMove Port → PortMove Port → Type 0
 MayGreet source sink = ((source.after ≡ source.before) × (sink.after ≡ sink.before)) ⊎ ((g : Greeting) × IsGreeting source sink g)
 
--- what arrived was answered over an account of the run
-pub record TalksOver {W : Type 0} (p : CrashRun W) (source sink : PortMove Port) (end : SessionEnd) : Type 0 where
+-- what arrived was answered over an account of the run, and over its files
+pub record TalksOver {W : Type 0} (p : CrashRun W) (files : ProcessFiles) (source sink : PortMove Port) (end : SessionEnd) : Type 0 where
   pub account : RunAccount
   pub report : IsAccountOf p account
-  pub talks : Converses (dialog_over p account) source sink end
+  pub talks : Converses (dialog_over p files account) source sink end
 
--- the run of a trace, and what was answered over it
-pub record IsHeldTrace (t : CrashTrace) (io : Streams) (talk : GdbSession) : Type 0 where
+-- the run of a trace, and what was answered over it and over the files of the crash
+pub record IsHeldTrace (t : CrashTrace) (files : ProcessFiles) (io : Streams) (talk : GdbSession) : Type 0 where
   pub run : Run
   pub is : IsRunOf t.crash t.trace talk.from run
   pub begins : BeginsAt t.crash t.trace t.manner.from talk.from
   pub noticed : IsNoticed t.manner.from talk.from io.errors
-  pub over : TalksOver (run_in t run) io.input io.output talk.end
+  pub over : TalksOver (run_in t run) files io.input io.output talk.end
 
 -- the trace tells no run; or it tells one, and that is refused
 abbrev pub IsRefusedTrace : CrashTrace → Refusal → Type 0
@@ -109,7 +119,11 @@ IsRefusedTrace t r =
 pub record IsHeld (bytes : CrashBytes) (io : Streams) (talk : GdbSession) : Type 0 where
   pub notes : List (List ℕ)
   pub read : ReadsNotes bytes notes
-  pub held : IsHeldTrace (trace_in bytes notes) io talk
+  pub files : ProcessFiles
+  pub core : file_of files.core ≡ bytes.core
+  pub program : program_of files.program ≡ bytes.program
+  pub are : AreFilesOf files
+  pub held : IsHeldTrace (trace_in bytes notes) files io talk
 
 -- the files are refused; or their trace is
 abbrev pub IsRefusedCrash : CrashBytes → Refusal → Type 0

@@ -6,13 +6,14 @@ ghost use Rattle.rept_opening.specs.Loading.{FileStoreMoves, crash_bytes, Faults
 ghost use Rattle.rept_opening.specs.Words.Words.{meaning_of};
 ghost use Rattle.rept_debug.specs.Debugged.{HasNoTalk, IsDebugged, IsHeld, IsRefusedCrash, MayGreet, Notices, streams};
 
+use crate::files::process_files;
 use crate::mapped::debug_mapped;
 use crate::no_talk::GdbError;
 use crate::talk::{GdbSession, debug_trace};
 use rept_amo::Atomic;
 use rept_found::{reports_are_true, trips_are_true};
 use rept_known::Both;
-use rept_opening::{CrashFiles, LoadedRequest, Refusal, crash_images, load_files, read_dump};
+use rept_opening::{CrashFiles, LoadedRequest, Refusal, load_files, read_dump};
 use rept_partial::Range;
 use rept_ports::{FileStore, Sink, Source};
 use rept_runs::is_several;
@@ -78,21 +79,19 @@ fn debug_files<S: Source, K: Sink, E: Sink>(
     ensures greeted { IfErr result (λ _. MayGreet (move (S.port input.old) (S.port input.new)) (move (K.port out.old) (K.port out.new))) }
     ensures noticed { IfErr result (λ _. Notices (move (E.port errors.old) (E.port errors.new))) }
 {
+    let exe = files.exe.as_slice();
+    let core = files.core.as_slice();
     let trace = files.trace.as_slice();
-    let dump = match read_dump(
-        files.exe.as_slice(),
-        files.core.as_slice(),
-        is_several(trace),
-    ) {
+    let dump = match read_dump(exe, core, is_several(trace)) {
         Ok(dump) => dump,
         Err(refusal) => return Err(refusal),
     };
-    let images = crash_images(files.exe.as_slice(), files.core.as_slice());
+    let process = process_files(exe, core);
     debug_trace(
         alloc,
         trace,
         &dump,
-        images,
+        process,
         files.manner,
         input,
         out,

@@ -5,6 +5,7 @@
 mod begin;
 mod debugging;
 pub mod dialog;
+mod files;
 mod mapped;
 mod no_talk;
 mod notice;

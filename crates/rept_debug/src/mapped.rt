@@ -16,9 +16,10 @@ use crate::talk::{GdbSession, debug_trace};
 use rept_dump::Dump;
 use rept_elf::Image;
 use rept_maps::{Images, Maps};
-use rept_opening::{CoreFiles, CrashImages, ListStop, Refusal, images_in, load_listed};
+use rept_opening::{CoreFiles, ListStop, Refusal, images_in, load_listed};
 use rept_ports::{FileStore, Sink, Source};
 use rept_runs::is_several;
+use rept_stub::mapped_files;
 use std::alloc::Global;
 
 /// Reads the core file and its list of mapped files, loads those, and answers a debugger over the
@@ -88,15 +89,12 @@ fn debug_images<S: Source, K: Sink, E: Sink>(
     let trace = files.trace.as_slice();
     match Dump::mapped(maps, images, core, is_several(trace)) {
         Ok(dump) => {
-            let images = CrashImages {
-                core,
-                executable: None,
-            };
+            let process = mapped_files(core, maps, images);
             debug_trace(
                 alloc,
                 trace,
                 &dump,
-                images,
+                process,
                 files.manner,
                 input,
                 out,

@@ -2,25 +2,25 @@
 
 ghost use Rattle.std.specs.Prelude.{◌≡◌, ◌<◌, ◌^◌, ℕ, List, length, IfOk, IfErr};
 ghost use Rattle.rept_runs.specs.Kind.{is_several};
-ghost use Rattle.std.specs.Option.{option_map};
-ghost use Rattle.rept_elf.specs.Image.{file_of, segments_of};
+ghost use Rattle.rept_elf.specs.Image.{segments_of};
 ghost use Rattle.rept_dump.specs.Dump.{core_of, exe_of};
 ghost use Rattle.rept_ports.specs.Port.{move};
 ghost use Rattle.rept_found.specs.Crash.{crash_of};
-ghost use Rattle.rept_opening.specs.Beyond.{executable_of};
 ghost use Rattle.rept_opening.specs.Reading.{AreNotesOf, HasNotes};
 ghost use Rattle.rept_opening.specs.Opened.{crash_trace};
 ghost use Rattle.rept_debug.specs.Debugged.{IsHeldTrace, IsRefusedTrace, MayGreet, Notices, streams};
+ghost use Rattle.rept_stub.specs.CrashFiles.{program_of};
 ghost use Rattle.rept_debug.specs.Debugged.{HoldsDialog};
 
 use crate::begin::begin_run;
 use crate::dialog::{Greeting, SessionEnd, go_on, greet};
+use crate::files::images_of;
 use crate::notice::noticed;
 use rept_dump::Dump;
 use rept_findings::Findings;
-use rept_opening::{Asking, Circumstances, CrashImages, OpenOptions, Refusal, open_report};
+use rept_opening::{Asking, Circumstances, OpenOptions, Refusal, open_report};
 use rept_ports::{Sink, Source};
-use rept_stub::Setting;
+use rept_stub::{ProcessFiles, Setting};
 use std::alloc::Global;
 
 /// A dialog that was held.
@@ -33,14 +33,14 @@ pub struct GdbSession {
 }
 
 /// Answers a debugger up to its first packet that needs a report; then rebuilds the run of a trace
-/// over the dump in which it ends, and goes on over its report. `images` are the files of the dump.
+/// over the dump in which it ends, and goes on over its report. `files` are those of the dump.
 /// A trace of several streams wants the registers of each thread. At a refusal what was answered
 /// before it stands.
 pub fn debug_trace<S: Source, K: Sink, E: Sink>(
     alloc: Global,
     trace: &[u8],
     dump: &Dump<'_>,
-    images: CrashImages<'_>,
+    files: ProcessFiles<'_>,
     manner: OpenOptions,
     input: &mut S,
     out: &mut K,
@@ -48,14 +48,15 @@ pub fn debug_trace<S: Source, K: Sink, E: Sink>(
 ) -> Result<GdbSession, Refusal>
     requires small { length trace.now < 2 ^ 32 }
     requires noted { HasNotes (is_several trace.now) dump.now }
-    requires core { segments_of images.core ≡ core_of dump.now }
-    requires exe { option_map file_of images.executable ≡ executable_of (exe_of dump.now) }
-    ensures held { (notes : List (List ℕ)) → AreNotesOf dump.now notes → IfOk result (IsHeldTrace (crash_trace (crash_of dump.now notes) trace.now manner) (streams (move (S.port input.old) (S.port input.new)) (move (K.port out.old) (K.port out.new)) (move (E.port errors.old) (E.port errors.new)))) }
+    requires core { segments_of files.core ≡ core_of dump.now }
+    requires exe { program_of files.program ≡ exe_of dump.now }
+    ensures held { (notes : List (List ℕ)) → AreNotesOf dump.now notes → IfOk result (IsHeldTrace (crash_trace (crash_of dump.now notes) trace.now manner) files.entry (streams (move (S.port input.old) (S.port input.new)) (move (K.port out.old) (K.port out.new)) (move (E.port errors.old) (E.port errors.new)))) }
     ensures refused { (notes : List (List ℕ)) → AreNotesOf dump.now notes → IfErr result (IsRefusedTrace (crash_trace (crash_of dump.now notes) trace.now manner)) }
     ensures greeted { IfErr result (λ _. MayGreet (move (S.port input.old) (S.port input.new)) (move (K.port out.old) (K.port out.new))) }
     ensures noticed { IfErr result (λ _. Notices (move (E.port errors.old) (E.port errors.new))) }
 {
-    let mut greeting = greet(alloc, input, out);
+    let greeting = greet(alloc, input, out);
+    let mut dialog = OpenDialog { greeting, files };
     let begun = match begin_run(alloc, trace, dump, manner.from) {
         Ok(begun) => begun,
         Err(fault) => return Err(Refusal::Path(fault)),
@@ -64,13 +65,13 @@ pub fn debug_trace<S: Source, K: Sink, E: Sink>(
         Ok(()) => {}
         Err(_) => return Err(Refusal::OutOfMemory),
     }
-    match open_report::<Greeting, S, K>(
+    match open_report::<OpenDialog<'_>, S, K>(
         alloc,
         manner.domain,
         &begun.run,
         dump,
-        images,
-        &mut greeting,
+        images_of(&files),
+        &mut dialog,
         input,
         out,
     ) {
@@ -82,7 +83,16 @@ pub fn debug_trace<S: Source, K: Sink, E: Sink>(
     }
 }
 
-impl Asking for Greeting {
+/// A dialog that began before the report, and the files of the crash.
+#[derive(Drop)]
+pub struct OpenDialog<'a> {
+    /// what was answered before
+    pub greeting: Greeting,
+    /// what the files hold
+    pub files: ProcessFiles<'a>,
+}
+
+impl<'a> Asking for OpenDialog<'a> {
     type End = SessionEnd;
 
     ghost asks = { HoldsDialog };
@@ -98,7 +108,8 @@ impl Asking for Greeting {
         let setting = Setting {
             skipped: circumstances.skipped,
             signal: circumstances.signal,
+            files: self.files,
         };
-        go_on(alloc, findings, setting, self, input, out)
+        go_on(alloc, findings, setting, &mut self.greeting, input, out)
     }
 }

@@ -1,12 +1,13 @@
 -- Where a row isn't named yet that is named later: it is named at each point since.
 use Rattle.std.proofs.Common.{◌≡◌, ℕ, suc, zero, ◌+◌, ◌<◌, ◌≤◌, inl, inr, Bool, true, false, not, cond, arith, refl, sym, ◌∙◌, ap, subst}
-use Rattle.std.specs.Prelude.{Option, Some, None}
-use Rattle.std.proofs.lemmas.Bool.{cases_lt}
+use Rattle.std.specs.Prelude.{Option, Some, None, ◌==◌, nat_lt, if◌then◌else◌}
+use Rattle.std.proofs.lemmas.Bool.{cases_lt, eqb-true, le-ltb}
 use Rattle.rept_findings.specs.LastWriters.{AreLastWriters, IsNamed, named_row, writer_at}
 use Rattle.rept_findings.specs.Shown.{IsThreadPoint, Shown}
 use Rattle.rept_findings.specs.Texts.{at}
 use Rattle.rept_findings.specs.declared.place.ThreadPoint.{ThreadPoint}
-use Rattle.rept_moves.specs.Halts.{last_below, names}
+use Rattle.rept_moves.specs.Halts.{before, last_below, later, names, point_before}
+use Rattle.rept_moves.specs.declared.halt.Written.{Written}
 use Rattle.rept_moves.proofs.Forward.{is_row_of, row_is}
 
 -- none passes
@@ -43,3 +44,47 @@ module _ (s : Shown) (c : ThreadPoint) (a row : ℕ) (last : AreLastWriters s c.
 
   pub here_named : names s (at c.thread c.point) a row ≡ true
   here_named = is_row_of (named_row (writer_at s c a)) row named
+
+-- a number that isn't after a write is no later one
+not_after : (write : Written) (p a : ℕ) → p ≤ write.point → later (Some write) (Some p) a ≡ Some write
+not_after write p a order = ap (λ b. cond b (Some (record { point = p; address = a })) (Some write)) (le-ltb write.point p order)
+
+-- nor is the last one that passes, where none after it does
+before_all : (test : ℕ → Bool) (n : ℕ) (write : Written) (a : ℕ) → ((k : ℕ) → write.point < k → k < n → test k ≡ false) → later (Some write) (last_below test n) a ≡ Some write
+before_all test zero write a none = refl
+before_all test (suc n) write a none =
+    let rest = before_all test n write a (λ k above below. none k above (omega arith)) in
+    elim (cases_lt write.point n) as (λ _. later (Some write) (last_below test (suc n)) a ≡ Some write) [
+      | inl after ↦ ap (λ b. later (Some write) (cond b (Some n) (last_below test n)) a) (none n after (omega arith)) ∙ rest
+      | inr up_to_it ↦ by_test (test n) refl rest up_to_it
+    ]
+  where
+    by_test : (b : Bool) → test n ≡ b → later (Some write) (last_below test n) a ≡ Some write → n ≤ write.point → later (Some write) (last_below test (suc n)) a ≡ Some write
+    by_test true is rest order = ap (λ b. later (Some write) (cond b (Some n) (last_below test n)) a) is ∙ not_after write n a order
+    by_test false is rest order = ap (λ b. later (Some write) (cond b (Some n) (last_below test n)) a) is ∙ rest
+
+-- a row that is named right after a write already isn't later
+pub no_later : (s : Shown) (c : ThreadPoint) (a row : ℕ) → AreLastWriters s c.thread a → IsThreadPoint s c → IsNamed s c a row → (write : Written) → write.point < c.point → names s (at c.thread (write.point + 1)) a row ≡ true
+    → later (Some write) (point_before s c a (Some row)) a ≡ Some write
+no_later s c a row last within named write order is = by_thread ((s.point row).thread == c.thread) refl
+  where
+    here : IsThreadPoint s (at c.thread (write.point + 1))
+    here = let top = within.1 in (within.0, omega (arith, top, order))
+
+    is_named : IsNamed s (at c.thread (write.point + 1)) a row
+    is_named = row_is (named_row (writer_at s (at c.thread (write.point + 1)) a)) row is
+
+    others : Option ℕ
+    others = last_below (λ p. not (names s (at c.thread p) a row)) c.point
+
+    own : (b : Bool) → nat_lt (s.point row).point c.point ≡ b → (s.point row).point ≤ write.point → later (Some write) (if b then Some (s.point row).point else None) a ≡ Some write
+    own true e low = not_after write (s.point row).point a low
+    own false e low = refl
+
+    by_thread : (b : Bool) → ((s.point row).thread == c.thread) ≡ b → later (Some write) (point_before s c a (Some row)) a ≡ Some write
+    by_thread true e =
+        let low = last.before row (write.point + 1) here (eqb-true (s.point row).thread c.thread e) is_named in
+        ap (λ b. later (Some write) (cond b (before c.point (s.point row).point) others) a) e ∙ own (nat_lt (s.point row).point c.point) refl (omega (arith, low))
+    by_thread false e =
+        ap (λ b. later (Some write) (cond b (before c.point (s.point row).point) others) a) e
+        ∙ before_all (λ p. not (names s (at c.thread p) a row)) c.point write a (λ k above below. named_from s c a row last within named (write.point + 1) is k (omega (arith, above)) below)

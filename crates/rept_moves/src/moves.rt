@@ -658,18 +658,6 @@ pub fn before(point: u32, row: u32) -> Option<u32>
     if row < point { Some(row) } else { None }
 }
 
-/// The last point before the last write of a byte that the report names.
-fn write_before<F: Findings>(findings: &F, at: ThreadPoint, address: u32) -> Option<u32>
-    requires { IsThreadPoint (F.shown findings.now) at }
-    ensures value { result ≡ write_before (F.shown findings.now) at address }
-    ensures within { IfSome result (λ found. found < at.point) }
-{
-    match named_row(writer_at(findings, at, address)) {
-        Some(row) => point_before(findings, at, address, row),
-        None => None,
-    }
-}
-
 /// The later of two points.
 fn later(best: Option<Written>, found: Option<u32>, address: u32) -> Option<Written>
     ensures value { result ≡ later best found address }
@@ -683,6 +671,64 @@ fn later(best: Option<Written>, found: Option<u32>, address: u32) -> Option<Writ
     }
 }
 
+/// Whether a row of another thread is named right after a point already. One question tells then
+/// that it isn't later than that point.
+fn was_named<F: Findings>(
+    findings: &F,
+    here: ThreadPoint,
+    point: u32,
+    address: u32,
+    row: u32,
+) -> bool
+    requires here { IsThreadPoint (F.shown findings.now) here }
+    requires point { point < here.point }
+    ensures { result ≡ true → names (F.shown findings.now) (at here.thread (point + 1)) address row ≡ true }
+{
+    findings.point(row).thread != here.thread
+        && names(findings, point_at(here, point + 1), address, row)
+}
+
+/// The later of a write and of the row that is named of a byte.
+fn later_row<F: Findings>(
+    findings: &F,
+    here: ThreadPoint,
+    best: Option<Written>,
+    address: u32,
+    row: u32,
+) -> Option<Written>
+    requires here { IsThreadPoint (F.shown findings.now) here }
+    requires best { IfSome best (λ write. write.point < here.point) }
+    requires last { AreLastWriters (F.shown findings.now) here.thread address }
+    requires named { IsNamed (F.shown findings.now) here address row }
+    ensures value { result ≡ later best (point_before (F.shown findings.now) here address (Some row)) address }
+    ensures within { IfSome result (λ write. write.point < here.point) }
+{
+    if let Some(write) = best {
+        if was_named(findings, here, write.point, address, row) {
+            return best;
+        }
+    }
+    later(best, point_before(findings, here, address, row), address)
+}
+
+/// The later of a write and the last one of a byte that the report names.
+fn with_write<F: Findings>(
+    findings: &F,
+    here: ThreadPoint,
+    best: Option<Written>,
+    address: u32,
+) -> Option<Written>
+    requires here { IsThreadPoint (F.shown findings.now) here }
+    requires best { IfSome best (λ write. write.point < here.point) }
+    ensures value { result ≡ later best (write_before (F.shown findings.now) here address) address }
+    ensures within { IfSome result (λ write. write.point < here.point) }
+{
+    match named_row(writer_at(findings, here, address)) {
+        Some(row) => later_row(findings, here, best, address, row),
+        None => best,
+    }
+}
+
 /// The last of the writes of these bytes that the report names before a point.
 fn last_write<F: Findings>(findings: &F, at: ThreadPoint, addresses: &[u32]) -> Option<Written>
     requires { IsThreadPoint (F.shown findings.now) at }
@@ -691,7 +737,7 @@ fn last_write<F: Findings>(findings: &F, at: ThreadPoint, addresses: &[u32]) -> 
 {
     let mut best = None;
     for address in addresses {
-        best = later(best, write_before(findings, at, *address), *address);
+        best = with_write(findings, at, best, *address);
     }
     best
 }

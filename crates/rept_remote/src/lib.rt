@@ -14,5 +14,5 @@ pub mod writer;
 pub use arrival::{Arrival, Ending};
 pub use check::digits_value;
 pub use reader::GdbPackets;
-pub use request::{CodeRange, GdbRequest, Movement, ThreadName, WatchKind, parse};
+pub use request::{CodeRange, GdbRequest, Movement, TargetObject, ThreadName, WatchKind, parse};
 pub use writer::push_packet;

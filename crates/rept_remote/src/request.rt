@@ -7,4 +7,4 @@ mod parser;
 pub mod request;
 
 pub use parser::parse;
-pub use request::{CodeRange, GdbRequest, Movement, ThreadName, WatchKind};
+pub use request::{CodeRange, GdbRequest, Movement, TargetObject, ThreadName, WatchKind};

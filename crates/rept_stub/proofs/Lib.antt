@@ -1,3 +1,4 @@
 pub mod Bytes
+pub mod Kept
 pub mod Listed
 pub mod Stands

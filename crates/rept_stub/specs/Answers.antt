@@ -12,9 +12,9 @@ use Rattle.rept_remote.specs.declared.request.request.GdbRequest.TheVariants as 
 use Rattle.rept_remote.specs.declared.request.request.Movement.{Movement}
 use Rattle.rept_remote.specs.declared.request.request.Movement.TheVariants as way
 use Rattle.rept_stub.specs.Consoles.{console_line}
-use Rattle.rept_stub.specs.Description.{description_text}
+use Rattle.rept_stub.specs.Files.{bytes_shown, object_text, offsets_reply}
 use Rattle.rept_moves.specs.Halts.{Wanted, continued, continued_back, is_unseen, stepped, stepped_back, stepped_within, wanted}
-use Rattle.rept_stub.specs.Replies.{bytes_told, decoded, error, memory_bytes, memory_digits, part_reply, register_reply, registers_reply, text_reply}
+use Rattle.rept_stub.specs.Replies.{decoded, error, memory_bytes, memory_digits, part_reply, register_reply, registers_reply, text_reply}
 use Rattle.rept_stub.specs.Monitoring.{asked_of, help_text, line_point, moved_words, signal_text, writers_text}
 use Rattle.rept_moves.specs.Spots.{Spots, Watch, is_small, region, watch_of, with_break, with_region, without_break, without_region}
 use Rattle.rept_stub.specs.Standing.{cursor_of, here, led, moving_thread, named_thread, put, selected, selected_moving}
@@ -24,7 +24,9 @@ use Rattle.rept_moves.specs.declared.halt.MoveEnd.{MoveEnd}
 use Rattle.rept_moves.specs.declared.halt.StopReason.{StopReason}
 use Rattle.rept_stub.specs.declared.monitoring.MonitorRequest.{MonitorRequest}
 use Rattle.rept_stub.specs.declared.monitoring.MonitorRequest.TheVariants as asked
+use Rattle.rept_stub.specs.declared.answers.Setting.{Setting}
 use Rattle.rept_stub.specs.declared.answers.Stand.{Stand}
+use Rattle.rept_stub.specs.declared.files.ProcessFiles.{ProcessFiles}
 
 -- to the next stop, or back to the last one
 abbrev pub is_far : Movement → Bool
@@ -91,7 +93,7 @@ spots_after spots _ = None
 
 -- answers that are always the same; one to a packet that isn't known is empty
 abbrev pub fixed_reply : GdbRequest → List ℕ
-fixed_reply request.Features = codes "PacketSize=1000;ReverseStep+;ReverseContinue+;qXfer:features:read+;QStartNoAckMode+;vContSupported+"
+fixed_reply request.Features = codes "PacketSize=1000;ReverseStep+;ReverseContinue+;qXfer:features:read+;qXfer:auxv:read+;qXfer:siginfo:read+;QStartNoAckMode+;vContSupported+"
 fixed_reply request.NoAcknowledgments = codes "OK"
 fixed_reply request.Moves = codes "vCont;c;C;s;S;r"
 fixed_reply request.MoreThreads = codes "l"
@@ -111,15 +113,20 @@ threads_still s stand request.Thread = thread_reply s stand.thread
 threads_still s stand request.Threads = threads_reply s
 threads_still s stand request = fixed_reply request
 
+-- the answer about registers and memory at the cursor of the selected thread
+abbrev pub cursor_reply : Shown → ProcessFiles → Stand → GdbRequest → List ℕ
+cursor_reply s files stand request.Registers = registers_reply s (here stand)
+cursor_reply s files stand (request.Register number) = register_reply s (here stand) number
+cursor_reply s files stand (request.Memory address count) = memory_digits (bytes_shown s files (here stand) address count)
+cursor_reply s files stand (request.Bytes address count) = memory_bytes (bytes_shown s files (here stand) address count)
+cursor_reply s files stand request = threads_still s stand request
+
 -- the answer where nothing moves or changes
-abbrev pub still_reply : Shown → ℕ → Stand → GdbRequest → List ℕ
-still_reply s signal stand request.Reason = reason_reply s signal (cursor_of stand stand.stopped)
-still_reply s signal stand request.Registers = registers_reply s (here stand)
-still_reply s signal stand (request.Register number) = register_reply s (here stand) number
-still_reply s signal stand (request.Memory address count) = memory_digits (bytes_told s (here stand) address count)
-still_reply s signal stand (request.Bytes address count) = memory_bytes (bytes_told s (here stand) address count)
-still_reply s signal stand (request.Description offset count) = part_reply description_text offset count
-still_reply s signal stand request = threads_still s stand request
+abbrev pub still_reply : Shown → Setting → Stand → GdbRequest → List ℕ
+still_reply s setting stand request.Reason = reason_reply s setting.signal (cursor_of stand stand.stopped)
+still_reply s setting stand request.Offsets = offsets_reply setting.files.load_address
+still_reply s setting stand (request.Part object offset count) = part_reply (object_text s setting.files (here stand) object) offset count
+still_reply s setting stand request = cursor_reply s setting.files stand request
 
 -- a line of the debugger's user, at a cursor: one of this project's own, or a line of a session
 abbrev pub IsLineAnswered : SessionTold → ℕ → ThreadPoint → List ℕ → MonitorRequest → List ℕ → Type 0
@@ -141,25 +148,25 @@ abbrev pub monitored : Shown → Stand → Option (List ℕ) → Stand
 monitored s stand None = stand
 monitored s stand (Some line) = led stand (line_point s (here stand) line (asked_of line))
 
--- the answer to a packet, where a debugger stands, and with the signal that ended the process
+-- a packet, where a debugger stands, and what is told besides what was found
 pub record Still : Type 0 where
-  pub signal : ℕ
+  pub setting : Setting
   pub stand : Stand
   pub packet : List ℕ
 
 -- the answer to a request that moves nothing
 abbrev pub changed_reply : Shown → Still → GdbRequest → Option Spots → List ℕ
 changed_reply s still request (Some spots) = codes "OK"
-changed_reply s still request None = still_reply s still.signal still.stand request
+changed_reply s still request None = still_reply s still.setting still.stand request
 
 abbrev pub IsAnswerTo : SessionTold → Still → GdbRequest → List ℕ → Type 0
-IsAnswerTo t still (request.Move way name) text = text ≡ move_reply t.shown still.signal still.stand way (moving_thread t.shown still.stand name)
-IsAnswerTo t still request.Monitor text = IsMonitored t still.signal (here still.stand) (decoded (drop 6 still.packet)) text
+IsAnswerTo t still (request.Move way name) text = text ≡ move_reply t.shown still.setting.signal still.stand way (moving_thread t.shown still.stand name)
+IsAnswerTo t still request.Monitor text = IsMonitored t still.setting.signal (here still.stand) (decoded (drop 6 still.packet)) text
 IsAnswerTo t still request text = text ≡ changed_reply t.shown still request (spots_after still.stand.spots request)
 
--- whether a text answers a packet; the signal is that which ended the process
-abbrev pub IsStubAnswer : SessionTold → ℕ → Stand → List ℕ → List ℕ → Type 0
-IsStubAnswer t signal stand packet text = IsAnswerTo t (record { signal = signal; stand = stand; packet = packet }) (request_of packet) text
+-- whether a text answers a packet
+abbrev pub IsStubAnswer : SessionTold → Setting → Stand → List ℕ → List ℕ → Type 0
+IsStubAnswer t setting stand packet text = IsAnswerTo t (record { setting = setting; stand = stand; packet = packet }) (request_of packet) text
 
 -- which threads are selected after a packet that is no move
 abbrev pub selected_by : Shown → Stand → GdbRequest → Stand

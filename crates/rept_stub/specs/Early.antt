@@ -3,6 +3,7 @@
 use Rattle.std.specs.Prelude.{ℕ, List, [], Option, None, Some, codes}
 use Rattle.rept_remote.specs.declared.request.request.GdbRequest.{GdbRequest}
 use Rattle.rept_remote.specs.declared.request.request.GdbRequest.TheVariants as request
+use Rattle.rept_remote.specs.declared.request.request.TargetObject.TheVariants as object
 use Rattle.rept_remote.specs.declared.request.request.ThreadName.{ThreadName}
 use Rattle.rept_remote.specs.declared.request.request.ThreadName.TheVariants as name
 use Rattle.rept_stub.specs.Answers.{fixed_reply}
@@ -22,7 +23,7 @@ early_reply request.NoAcknowledgments = Some (fixed_reply request.NoAcknowledgme
 early_reply request.Moves = Some (fixed_reply request.Moves)
 early_reply request.Attached = Some (fixed_reply request.Attached)
 early_reply request.Unknown = Some (fixed_reply request.Unknown)
-early_reply (request.Description offset count) = Some (part_reply description_text offset count)
+early_reply (request.Part object.Description offset count) = Some (part_reply description_text offset count)
 early_reply (request.SelectThread name) = early_selection name
 early_reply (request.SelectMoving name) = early_selection name
 early_reply _ = None

@@ -1,6 +1,8 @@
 pub mod Answers
 pub mod Consoles
+pub mod CrashFiles
 pub mod Description
+pub mod Files
 pub mod Monitoring
 pub mod Replies
 pub mod Signals

@@ -4,11 +4,10 @@ use Rattle.std.specs.Prelude.{ℕ, ◌+◌, ◌/◌, ◌%◌, ◌^◌, min, List
 use Rattle.std.specs.List.{flat_map, range_with_len}
 use Rattle.rept_word.specs.Hex.{hex_byte}
 use Rattle.rept_remote.specs.Escapes.{digits_value}
-use Rattle.rept_findings.specs.Shown.{Shown, moment_at, number}
+use Rattle.rept_findings.specs.Shown.{Shown, number}
 use Rattle.rept_findings.specs.declared.place.ThreadPoint.{ThreadPoint}
-use Rattle.rept_findings.specs.Texts.{pc_at, wrapped}
+use Rattle.rept_findings.specs.Texts.{pc_at}
 use Rattle.rept_moves.specs.declared.halt.StopReason.{StopReason}
-use Rattle.rept_moves.specs.Told.{byte_told}
 use Rattle.rept_stub.specs.Signals.{debugger_signal}
 use Rattle.rept_moves.specs.declared.halt.StopReason.TheVariants as stop
 
@@ -46,15 +45,6 @@ known_run [] = []
 known_run (None ∷ more) = []
 known_run (Some byte ∷ more) = byte ∷ known_run more
 
--- at most so many bytes from an address on at a moment, up to the first one that isn't told, and
--- at most 2000
-abbrev pub known_bytes : Shown → ℕ → ℕ → ℕ → List ℕ
-known_bytes s moment address count = known_run (map (λ i. byte_told s moment (wrapped (address + i))) (range_with_len 0 (min count 2000)))
-
--- those at a point of a thread
-abbrev pub bytes_told : Shown → ThreadPoint → ℕ → ℕ → List ℕ
-bytes_told s c address count = known_bytes s (moment_at s c) address count
-
 abbrev pub memory_digits : List ℕ → List ℕ
 memory_digits [] = error
 memory_digits bytes = digits_of bytes
@@ -76,10 +66,11 @@ stop_part stop.End = codes "replaylog:end;"
 abbrev pub signal_reply : Shown → ℕ → ThreadPoint → List ℕ
 signal_reply s signal c = if c.point == length (s.rows c.thread) then codes "T" ++ hex_byte (debugger_signal signal) else codes "T05"
 
--- a part of a text, and whether it is the last one; at most 4000 bytes
+-- a part of a text, and whether it is the last one; at most 2000 bytes, each of which may be sent as
+-- two
 abbrev pub part_reply : List ℕ → ℕ → ℕ → List ℕ
 part_reply text offset count =
-    if nat_le (length (drop offset text)) (min count 4000) then codes "l" ++ drop offset text else codes "m" ++ take (min count 4000) (drop offset text)
+    if nat_le (length (drop offset text)) (min count 2000) then codes "l" ++ drop offset text else codes "m" ++ take (min count 2000) (drop offset text)
 
 -- the bytes that pairs of digits are
 abbrev pub with_first : Option ℕ → Option (List ℕ) → Option (List ℕ)

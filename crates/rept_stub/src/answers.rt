@@ -3,15 +3,15 @@
 ghost use Rattle.std.specs.Prelude.{◌≡◌, ◌≤◌, ◌<◌, ◌++◌, [], drop, length, None, Some, option_map, IfOk, OnOk, OnErr, MatchBool};
 ghost use Rattle.rept_remote.specs.Request.Requests.{request_of};
 ghost use Rattle.rept_findings.specs.Shown.{IsThreadPoint, SameReasons, session_told};
-ghost use Rattle.rept_stub.specs.Answers.{IsLineAnswered, IsMonitored, IsStubAnswer, changed, changed_reply, fixed_reply, halt_by, is_far, line_before, monitored, move_line, move_reply, moved, selected_by, spots_after, stale_after, stand_after, still_reply, threads_still, watch_in};
+ghost use Rattle.rept_stub.specs.Answers.{IsLineAnswered, IsMonitored, IsStubAnswer, changed, changed_reply, cursor_reply, fixed_reply, halt_by, is_far, line_before, monitored, move_line, move_reply, moved, selected_by, spots_after, stale_after, stand_after, still_reply, threads_still, watch_in};
 ghost use Rattle.rept_stub.specs.Monitoring.{asked_of, line_point};
-ghost use Rattle.rept_stub.specs.Replies.{bytes_told, decoded, memory_bytes, memory_digits};
+ghost use Rattle.rept_stub.specs.Replies.{decoded};
 ghost use Rattle.rept_moves.specs.Spots.{region};
 ghost use Rattle.rept_stub.specs.Standing.{AreCursors, IsStandLawful, cursor_of, here, led, moving_thread, start_of};
 
 use crate::console::console_line;
 use crate::cursors::Cursors;
-use crate::description::description;
+use crate::files::{ProcessFiles, object_text, offsets};
 use crate::monitoring::{
     MonitorRequest, asked_of, help_text, point_in, push_moved, signal_text, writers_text,
 };
@@ -70,11 +70,13 @@ pub fn start<F: Findings>(alloc: Global, findings: &F) -> Result<Stand, OutOfMem
 
 /// What is told besides what was found.
 #[derive(Clone, Copy)]
-pub struct Setting {
+pub struct Setting<'a> {
     /// how many packets of the trace the path was read without
     pub skipped: u32,
     /// the signal that ended the process, by the number that Linux gives to it
     pub signal: u16,
+    /// what the files of the crash hold
+    pub files: ProcessFiles<'a>,
 }
 
 /// What is answered to a packet.
@@ -101,12 +103,12 @@ fn plain(alloc: Global, text: Text) -> PacketReply
 pub fn answer_packet<F: Findings>(
     alloc: Global,
     findings: &mut F,
-    setting: Setting,
+    setting: Setting<'_>,
     stand: &mut Stand,
     packet: &[u8],
 ) -> Result<PacketReply, OutOfMemory>
     requires { IsStandLawful (F.shown findings.old) stand.old }
-    ensures text { IfOk result (λ reply. IsStubAnswer (session_told (F.shown findings.old) setting.skipped (F.reasons findings.old)) setting.signal stand.old packet.now reply.text) }
+    ensures text { IfOk result (λ reply. IsStubAnswer (session_told (F.shown findings.old) setting.entry.skipped (F.reasons findings.old)) setting.entry stand.old packet.now reply.text) }
     ensures line { IfOk result (λ reply. reply.line ≡ line_before (F.shown findings.old) stand.old packet.now) }
     ensures stand { OnOk result (stand.new ≡ stand_after (F.shown findings.old) stand.old packet.now) }
     ensures within { IsStandLawful (F.shown findings.old) stand.new }
@@ -118,7 +120,7 @@ pub fn answer_packet<F: Findings>(
             answer_move(alloc, findings, setting.signal, stand, way, name)
         }
         GdbRequest::Monitor => reply_line(alloc, findings, setting, stand, packet),
-        _ => reply_other(alloc, findings, setting.signal, stand, packet),
+        _ => reply_other(alloc, findings, setting, stand, packet),
     }
 }
 
@@ -126,17 +128,17 @@ pub fn answer_packet<F: Findings>(
 fn reply_other<F: Findings>(
     alloc: Global,
     findings: &F,
-    signal: u16,
+    setting: Setting<'_>,
     stand: &mut Stand,
     packet: &[u8],
 ) -> Result<PacketReply, OutOfMemory>
     requires { IsStandLawful (F.shown findings.now) stand.old }
-    ensures text { IfOk result (λ reply. reply.text ≡ changed_reply (F.shown findings.now) (record { signal = signal; stand = stand.old; packet = packet.now }) (request_of packet.now) (spots_after stand.old.spots (request_of packet.now))) }
+    ensures text { IfOk result (λ reply. reply.text ≡ changed_reply (F.shown findings.now) (record { setting = setting.entry; stand = stand.old; packet = packet.now }) (request_of packet.now) (spots_after stand.old.spots (request_of packet.now))) }
     ensures line { IfOk result (λ reply. reply.line ≡ []) }
     ensures stand { OnOk result (stand.new ≡ changed (F.shown findings.now) stand.old (request_of packet.now) (spots_after stand.old.spots (request_of packet.now))) }
     ensures within { IsStandLawful (F.shown findings.now) stand.new }
 {
-    let text = answer_other(alloc, findings, signal, stand, packet)?;
+    let text = answer_other(alloc, findings, setting, stand, packet)?;
     Ok(plain(alloc, text))
 }
 
@@ -144,12 +146,12 @@ fn reply_other<F: Findings>(
 fn answer_other<F: Findings>(
     alloc: Global,
     findings: &F,
-    signal: u16,
+    setting: Setting<'_>,
     stand: &mut Stand,
     packet: &[u8],
 ) -> Result<Text, OutOfMemory>
     requires { IsStandLawful (F.shown findings.now) stand.old }
-    ensures text { IfOk result (λ text. text ≡ changed_reply (F.shown findings.now) (record { signal = signal; stand = stand.old; packet = packet.now }) (request_of packet.now) (spots_after stand.old.spots (request_of packet.now))) }
+    ensures text { IfOk result (λ text. text ≡ changed_reply (F.shown findings.now) (record { setting = setting.entry; stand = stand.old; packet = packet.now }) (request_of packet.now) (spots_after stand.old.spots (request_of packet.now))) }
     ensures stand { OnOk result (stand.new ≡ changed (F.shown findings.now) stand.old (request_of packet.now) (spots_after stand.old.spots (request_of packet.now))) }
     ensures within { IsStandLawful (F.shown findings.now) stand.new }
 {
@@ -158,7 +160,7 @@ fn answer_other<F: Findings>(
     if is_changed {
         return whole(alloc, b"OK");
     }
-    let text = still(alloc, findings, signal, stand, request)?;
+    let text = still(alloc, findings, setting, stand, request)?;
     select(findings, stand, request);
     Ok(text)
 }
@@ -260,12 +262,12 @@ fn select<F: Findings>(findings: &F, stand: &mut Stand, request: GdbRequest)
 fn reply_line<F: Findings>(
     alloc: Global,
     findings: &mut F,
-    setting: Setting,
+    setting: Setting<'_>,
     stand: &mut Stand,
     packet: &[u8],
 ) -> Result<PacketReply, OutOfMemory>
     requires { IsStandLawful (F.shown findings.old) stand.old }
-    ensures text { IfOk result (λ reply. IsMonitored (session_told (F.shown findings.old) setting.skipped (F.reasons findings.old)) setting.signal (here stand.old) (decoded (drop 6 packet.now)) reply.text) }
+    ensures text { IfOk result (λ reply. IsMonitored (session_told (F.shown findings.old) setting.entry.skipped (F.reasons findings.old)) setting.entry.signal (here stand.old) (decoded (drop 6 packet.now)) reply.text) }
     ensures line { IfOk result (λ reply. reply.line ≡ []) }
     ensures stand { OnOk result (stand.new ≡ monitored (F.shown findings.old) stand.old (decoded (drop 6 packet.now))) }
     ensures within { IsStandLawful (F.shown findings.old) stand.new }
@@ -281,12 +283,12 @@ fn reply_line<F: Findings>(
 fn answer_monitor<F: Findings>(
     alloc: Global,
     findings: &mut F,
-    setting: Setting,
+    setting: Setting<'_>,
     stand: &mut Stand,
     packet: &[u8],
 ) -> Result<Text, OutOfMemory>
     requires { IsStandLawful (F.shown findings.old) stand.old }
-    ensures text { IfOk result (IsMonitored (session_told (F.shown findings.old) setting.skipped (F.reasons findings.old)) setting.signal (here stand.old) (decoded (drop 6 packet.now))) }
+    ensures text { IfOk result (IsMonitored (session_told (F.shown findings.old) setting.entry.skipped (F.reasons findings.old)) setting.entry.signal (here stand.old) (decoded (drop 6 packet.now))) }
     ensures stand { OnOk result (stand.new ≡ monitored (F.shown findings.old) stand.old (decoded (drop 6 packet.now))) }
     ensures within { IsStandLawful (F.shown findings.old) stand.new }
     ensures same { F.shown findings.new ≡ F.shown findings.old }
@@ -345,12 +347,12 @@ fn told_at(at: ThreadPoint, text: Text) -> LineAnswer
 fn line_answer<F: Findings>(
     alloc: Global,
     findings: &mut F,
-    setting: Setting,
+    setting: Setting<'_>,
     at: ThreadPoint,
     line: &[u8],
 ) -> Result<LineAnswer, OutOfMemory>
     requires { IsThreadPoint (F.shown findings.old) at }
-    ensures text { IfOk result (λ said. IsLineAnswered (session_told (F.shown findings.old) setting.skipped (F.reasons findings.old)) setting.signal at line.now (asked_of line.now) said.text) }
+    ensures text { IfOk result (λ said. IsLineAnswered (session_told (F.shown findings.old) setting.entry.skipped (F.reasons findings.old)) setting.entry.signal at line.now (asked_of line.now) said.text) }
     ensures point { IfOk result (λ said. said.point ≡ line_point (F.shown findings.old) at line.now (asked_of line.now)) }
     ensures within { IfOk result (λ said. said.point ≤ length ((F.shown findings.old).rows at.thread)) }
     ensures same { F.shown findings.new ≡ F.shown findings.old }
@@ -470,7 +472,7 @@ pub fn fixed(request: GdbRequest) -> &'static [u8]
 {
     match request {
         GdbRequest::Features =>
-            b"PacketSize=1000;ReverseStep+;ReverseContinue+;qXfer:features:read+;QStartNoAckMode+;vContSupported+",
+            b"PacketSize=1000;ReverseStep+;ReverseContinue+;qXfer:features:read+;qXfer:auxv:read+;qXfer:siginfo:read+;QStartNoAckMode+;vContSupported+",
         GdbRequest::NoAcknowledgments | GdbRequest::Detach => b"OK",
         GdbRequest::Moves => b"vCont;c;C;s;S;r",
         GdbRequest::MoreThreads => b"l",
@@ -507,63 +509,53 @@ fn threads_still<F: Findings>(
 fn still<F: Findings>(
     alloc: Global,
     findings: &F,
-    signal: u16,
+    setting: Setting<'_>,
     stand: &Stand,
     request: GdbRequest,
 ) -> Result<Text, OutOfMemory>
     requires { IsStandLawful (F.shown findings.now) stand.now }
-    ensures { IfOk result (λ text. text ≡ still_reply (F.shown findings.now) signal stand.now request) }
+    ensures { IfOk result (λ text. text ≡ still_reply (F.shown findings.now) setting.entry stand.now request) }
 {
     match request {
         GdbRequest::Reason => {
             let stopped = cursor_of(findings, stand, stand.stopped);
-            reason(alloc, findings, signal, stopped)
+            reason(alloc, findings, setting.signal, stopped)
         }
-        GdbRequest::Registers => registers(alloc, findings, here(findings, stand)),
-        GdbRequest::Register(number) => register(alloc, findings, here(findings, stand), number),
-        GdbRequest::Memory(address, count) => memory(
-            alloc,
-            findings,
-            here(findings, stand),
-            address,
-            count,
-        ),
-        GdbRequest::Bytes(address, count) => bytes(
-            alloc,
-            findings,
-            here(findings, stand),
-            address,
-            count,
-        ),
-        GdbRequest::Description(offset, count) => part(alloc, description(), offset, count),
-        _ => threads_still(alloc, findings, stand, request),
+        GdbRequest::Offsets => offsets(alloc, setting.files.load_address),
+        GdbRequest::Part(object, offset, count) => {
+            let selected = here(findings, stand);
+            let text = object_text(findings, &setting.files, selected, object);
+            part(alloc, text, offset, count)
+        }
+        _ => at_cursor(alloc, findings, &setting.files, stand, request),
     }
 }
 
-fn memory<F: Findings>(
+/// The answer about registers and memory at the cursor of the selected thread.
+fn at_cursor<F: Findings>(
     alloc: Global,
     findings: &F,
-    at: ThreadPoint,
-    address: u32,
-    count: u32,
+    files: &ProcessFiles<'_>,
+    stand: &Stand,
+    request: GdbRequest,
 ) -> Result<Text, OutOfMemory>
-    requires { IsThreadPoint (F.shown findings.now) at }
-    ensures { IfOk result (λ text. text ≡ memory_digits (bytes_told (F.shown findings.now) at address count)) }
+    requires { IsStandLawful (F.shown findings.now) stand.now }
+    ensures { IfOk result (λ text. text ≡ cursor_reply (F.shown findings.now) files.now stand.now request) }
 {
-    let known = known_bytes(alloc, findings, moment_of(findings, at), address, count)?;
-    memory_digits(alloc, known.bytes())
-}
-
-fn bytes<F: Findings>(
-    alloc: Global,
-    findings: &F,
-    at: ThreadPoint,
-    address: u32,
-    count: u32,
-) -> Result<Text, OutOfMemory>
-    requires { IsThreadPoint (F.shown findings.now) at }
-    ensures { IfOk result (λ text. text ≡ memory_bytes (bytes_told (F.shown findings.now) at address count)) }
-{
-    let known = known_bytes(alloc, findings, moment_of(findings, at), address, count)?;
-    memory_bytes(alloc, known.bytes())
+    let at = here(findings, stand);
+    match request {
+        GdbRequest::Registers => registers(alloc, findings, at),
+        GdbRequest::Register(number) => register(alloc, findings, at, number),
+        GdbRequest::Memory(address, count) => {
+            let moment = moment_of(findings, at);
+            let shown = known_bytes(alloc, findings, files, moment, (address, count))?;
+            memory_digits(alloc, shown.bytes())
+        }
+        GdbRequest::Bytes(address, count) => {
+            let moment = moment_of(findings, at);
+            let shown = known_bytes(alloc, findings, files, moment, (address, count))?;
+            memory_bytes(alloc, shown.bytes())
+        }
+        _ => threads_still(alloc, findings, stand, request),
+    }
 }

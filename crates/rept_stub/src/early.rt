@@ -6,7 +6,7 @@ ghost use Rattle.rept_stub.specs.Early.{early_reply, early_selection};
 use crate::answers::fixed;
 use crate::description::description;
 use crate::pieces::{part, whole};
-use rept_remote::{GdbRequest, ThreadName};
+use rept_remote::{GdbRequest, TargetObject, ThreadName};
 use rept_word::{OutOfMemory, Text};
 use std::alloc::Global;
 
@@ -22,7 +22,7 @@ pub fn early_answer(alloc: Global, request: GdbRequest) -> Result<Option<Text>, 
         | GdbRequest::Moves
         | GdbRequest::Attached
         | GdbRequest::Unknown => Ok(Some(whole(alloc, fixed(request))?)),
-        GdbRequest::Description(offset, count) => {
+        GdbRequest::Part(TargetObject::Description, offset, count) => {
             Ok(Some(part(alloc, description(), offset, count)?))
         }
         GdbRequest::SelectThread(name) | GdbRequest::SelectMoving(name) => {

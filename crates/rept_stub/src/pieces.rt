@@ -4,8 +4,10 @@ ghost use Rattle.std.specs.Prelude.{◌≡◌, ◌++◌, ◌<◌, ◌+◌, min, 
 ghost use Rattle.std.specs.List.{flat_map, range_with_len};
 ghost use Rattle.rept_findings.specs.Shown.{IsThreadPoint};
 ghost use Rattle.rept_findings.specs.Texts.{wrapped};
-ghost use Rattle.rept_stub.specs.Replies.{big_word, decoded, digits_of, known_bytes, known_run, little_word, memory_bytes, memory_digits, part_reply, register_reply, registers_reply, signal_reply, stop_part, text_reply, value_digits};
+ghost use Rattle.rept_stub.specs.Files.{byte_shown, known_bytes};
+ghost use Rattle.rept_stub.specs.Replies.{big_word, decoded, digits_of, known_run, little_word, memory_bytes, memory_digits, part_reply, register_reply, registers_reply, signal_reply, stop_part, text_reply, value_digits};
 
+use crate::files::{ProcessFiles, constant_byte};
 use crate::signal::debugger_signal;
 use rept_findings::findings::{address_at, number_of};
 use rept_findings::{Findings, ThreadPoint};
@@ -19,7 +21,7 @@ use std::alloc::Global;
 const MOST_BYTES: u32 = 2000;
 
 /// The most bytes of a part of a text in one reply.
-const MOST_PART: u32 = 4000;
+const MOST_PART: u32 = 2000;
 
 /// A text that is known as a whole.
 pub fn whole(alloc: Global, words: &[u8]) -> Result<Text, OutOfMemory>
@@ -106,21 +108,39 @@ pub fn register<F: Findings>(
     Ok(text)
 }
 
-/// The bytes that are told from an address on at a moment, up to the first one that isn't.
+/// The byte that is shown at a moment: the one that is told, else the one that doesn't change.
+fn byte_shown<F: Findings>(
+    findings: &F,
+    files: &ProcessFiles<'_>,
+    moment: u32,
+    address: u32,
+) -> Option<u8>
+    requires { moment < (F.shown findings.now).moments }
+    ensures { result ≡ byte_shown (F.shown findings.now) files.now moment address }
+{
+    match byte_told(findings, moment, address) {
+        Some(byte) => Some(byte),
+        None => constant_byte(files, address),
+    }
+}
+
+/// The bytes that are shown at a moment, so many from an address on, up to the first one that
+/// isn't.
 pub fn known_bytes<F: Findings>(
     alloc: Global,
     findings: &F,
+    files: &ProcessFiles<'_>,
     moment: u32,
-    address: u32,
-    count: u32,
+    asked: (u32, u32),
 ) -> Result<Text, OutOfMemory>
     requires { moment < (F.shown findings.now).moments }
-    ensures { IfOk result (λ text. text ≡ known_bytes (F.shown findings.now) moment address count) }
+    ensures { IfOk result (λ text. text ≡ known_bytes (F.shown findings.now) files.now moment asked.0 asked.1) }
 {
+    let (address, count) = asked;
     let mut text = Text::new(alloc);
     let most = count.min(MOST_BYTES);
     for i in 0..most {
-        match byte_told(findings, moment, address.wrapping_add(i)) {
+        match byte_shown(findings, files, moment, address.wrapping_add(i)) {
             Some(byte) => text.push(&[byte])?,
             None => return Ok(text),
         }

@@ -2,13 +2,15 @@
 
 use crate::lines::ports;
 use rept_debug::converse;
+use rept_elf::{Image, Want};
 use rept_findings::Findings;
 use rept_ports::MemSource;
 use rept_remote::{Arrival, GdbPackets, push_packet};
-use rept_stub::Setting;
+use rept_stub::{ProcessFiles, ProgramImages, Setting};
 use rept_word::Text;
 use std::alloc::{AllocError, Global};
 use test_kit::Numbers;
+use test_kit::lines::files::{core_of_threads, executable};
 
 /// The packet of a text after the one of `OK`.
 pub fn framed(alloc: Global, text: &[u8]) -> Result<String, AllocError> {
@@ -43,16 +45,34 @@ pub fn push(alloc: Global, input: &mut Vec<u8>, text: &[u8]) -> Result<(), Alloc
     input.extend_from_slice(packet.bytes())
 }
 
-/// What a dialog whose write with this number fails writes, and how it ends.
+/// What a dialog whose write with this number fails writes, and how it ends: of a crash whose
+/// executable has two instructions at 0x30000, and was loaded at 0x957fb000, and whose core file has
+/// an auxiliary vector `auxv` and tells `signal` of the signal.
 pub fn dialog<F: Findings>(
     alloc: Global,
     findings: &mut F,
     input: &[u8],
     fail: u32,
 ) -> Result<String, AllocError> {
+    let core = core_of_threads(alloc, &[(1, 0x10000)])?;
+    let program = executable(alloc, 0x30000, &[0x2013, 0x6b])?;
+    let (Ok(core), Ok(program)) = (
+        Image::read(core.as_slice(), Want::Core),
+        Image::read(program.as_slice(), Want::Exec),
+    ) else {
+        return Err(AllocError);
+    };
+    let files = ProcessFiles {
+        core,
+        program: ProgramImages::Executable(program),
+        auxiliary_vector: b"auxv",
+        signal_info: b"signal",
+        load_address: Some(0x957f_b000),
+    };
     let setting = Setting {
         skipped: 0,
         signal: 11,
+        files,
     };
     let (mut source, mut sink) = ports(alloc, input, 0, fail)?;
     let ended = converse(alloc, findings, setting, &mut source, &mut sink);

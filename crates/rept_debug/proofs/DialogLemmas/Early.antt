@@ -10,12 +10,14 @@ use Rattle.rept_remote.specs.Reading.{PacketReader}
 use Rattle.rept_remote.specs.declared.arrival.Arrival.{Arrival}
 use Rattle.rept_remote.specs.declared.request.request.GdbRequest.{GdbRequest}
 use Rattle.rept_remote.specs.declared.request.request.GdbRequest.TheVariants as request
+use Rattle.rept_remote.specs.declared.request.request.TargetObject.TheVariants as object
 use Rattle.rept_remote.specs.declared.request.request.ThreadName.TheVariants as name
 use Rattle.rept_findings.specs.Shown.{SessionTold, Shown}
 use Rattle.rept_stub.specs.Answers.{IsAnswerTo, Still, line_by, line_before, stand_after, stand_by}
 use Rattle.rept_stub.specs.Early.{early_reply}
 use Rattle.rept_stub.specs.Standing.{is_alone, named_thread, selected, start_of}
 use Rattle.rept_stub.specs.Threads.{there_reply}
+use Rattle.rept_stub.specs.declared.answers.Setting.{Setting}
 use Rattle.rept_stub.specs.declared.answers.Stand.{Stand}
 use Rattle.rept_debug.specs.Dialog.Converse.{Broke, Converses, Parties, Progress, TalkEnded, parties_over, rules_of}
 use Rattle.rept_debug.specs.Dialog.Converse as dialogs
@@ -38,7 +40,7 @@ same_way : {X : Type 0} (b : Bool) (x : X) → (if b then x else x) ≡ x
 same_way true x = refl
 same_way false x = refl
 
-module _ (t : SessionTold) (signal : ℕ) where
+module _ (t : SessionTold) (setting : Setting) where
   abbrev start : Stand
   start = start_of t.shown (record { breaks = []; regions = [] })
 
@@ -47,7 +49,7 @@ module _ (t : SessionTold) (signal : ℕ) where
 
   -- an answer to a request that no report changes
   record Fits (bytes : List ℕ) (r : GdbRequest) (reply : List ℕ) : Type 0 where
-    answer : IsAnswerTo t (record { signal = signal; stand = start; packet = bytes }) r reply
+    answer : IsAnswerTo t (record { setting = setting; stand = start; packet = bytes }) r reply
     line : line_by t.shown start r ≡ []
     stays : stand_by t.shown start bytes r ≡ start
     written : written_to r [] reply ≡ packet_of reply
@@ -59,7 +61,7 @@ module _ (t : SessionTold) (signal : ℕ) where
   fits bytes request.Moves reply e = record { answer = inside e; line = refl; stays = refl; written = refl; last = refl }
   fits bytes request.Attached reply e = record { answer = inside e; line = refl; stays = refl; written = refl; last = refl }
   fits bytes request.Unknown reply e = record { answer = inside e; line = refl; stays = refl; written = refl; last = refl }
-  fits bytes (request.Description offset count) reply e = record { answer = inside e; line = refl; stays = refl; written = refl; last = refl }
+  fits bytes (request.Part object.Description offset count) reply e = record { answer = inside e; line = refl; stays = refl; written = refl; last = refl }
   fits bytes (request.SelectThread name.Any) reply e = record { answer = inside e ∙ sym (ap there_reply any); line = refl; stays = ap (selected start) any; written = refl; last = refl }
   fits bytes (request.SelectThread name.Selected) reply e = absurd (none_some e)
   fits bytes (request.SelectThread (name.One process)) reply e = absurd (none_some e)
@@ -68,6 +70,9 @@ module _ (t : SessionTold) (signal : ℕ) where
   fits bytes (request.SelectMoving name.Selected) reply e = absurd (none_some e)
   fits bytes (request.SelectMoving (name.One process)) reply e = absurd (none_some e)
   fits bytes (request.SelectMoving name.Unreadable) reply e = absurd (none_some e)
+  fits bytes (request.Part object.AuxiliaryVector offset count) reply e = absurd (none_some e)
+  fits bytes (request.Part object.SignalInfo offset count) reply e = absurd (none_some e)
+  fits bytes request.Offsets reply e = absurd (none_some e)
   fits bytes request.Reason reply e = absurd (none_some e)
   fits bytes request.Registers reply e = absurd (none_some e)
   fits bytes (request.Register n) reply e = absurd (none_some e)
@@ -98,7 +103,7 @@ module _ (t : SessionTold) (signal : ℕ) where
       ∙ ap (λ (text : List ℕ). record (after_packet t (full d) bytes reply) { last = text; is_over = false }) (sym (ap (λ (line : List ℕ). written_to (request_of bytes) line reply) f.line ∙ f.written))
       ∙ ap (λ (over : Bool). record (after_packet t (full d) bytes reply) { is_over = over }) (sym f.last)
 
-  full_turn : (d : EarlyDialog) (what : Arrived) (text : List ℕ) (new : EarlyDialog) → IsEarlyTurn d what text new → IsTurn t signal (full d) what text (full new)
+  full_turn : (d : EarlyDialog) (what : Arrived) (text : List ℕ) (new : EarlyDialog) → IsEarlyTurn d what text new → IsTurn t setting (full d) what text (full new)
   full_turn d (packet bytes) text new h =
       let f = fits bytes (request_of bytes) h.0 h.1 in (
         h.0,
@@ -111,12 +116,12 @@ module _ (t : SessionTold) (signal : ℕ) where
   full_turn d again text new h = (h.0, ap full h.1)
   full_turn d interrupt text new h = (h.0, ap full h.1)
 
-  full_talks : (read written : List ℕ) (d : EarlyDialog) → Greets read written d → Talks t signal (start_at t.shown) read written (full d)
+  full_talks : (read written : List ℕ) (d : EarlyDialog) → Greets read written d → Talks t setting (start_at t.shown) read written (full d)
   full_talks _ _ _ begun = full_begun
   full_talks _ _ _ (turn read written d got text what new h arrives is) = full_step read written (full d) got text what (full new) (full_talks read written d h) arrives (full_turn d what text new is)
 
   abbrev parties : Parties
-  parties = parties_over t signal
+  parties = parties_over t setting
 
   pub full_progress : (source sink : PortMove Port) (read : List ℕ) (d : EarlyDialog) → Progress early_rules source sink read d → Progress (rules_of parties) source sink read (full d)
   full_progress source sink read d h = record { written = h.written; talks = full_talks read h.written d h.talks; consumed = h.consumed; wrote = h.wrote; read_calm = h.read_calm; write_calm = h.write_calm }

@@ -17,6 +17,7 @@ use Rattle.rept_stub.specs.Monitoring.{asked_of}
 use Rattle.rept_stub.specs.Standing.{here}
 use Rattle.rept_stub.specs.declared.monitoring.MonitorRequest.{MonitorRequest}
 use Rattle.rept_stub.specs.declared.monitoring.MonitorRequest.TheVariants as asked
+use Rattle.rept_stub.specs.declared.answers.Setting.{Setting}
 use Rattle.rept_stub.specs.declared.answers.Stand.{Stand}
 use Rattle.rept_debug.specs.Dialog.Dialog.{IsTurn}
 use Rattle.rept_debug.specs.declared.dialog.turn.Dialog.{Dialog}
@@ -35,22 +36,22 @@ module _ (s : Shown) (skipped : ℕ) (old new : Fact → Because → Type 0) (sa
 
   answer_same : (still : Still) (r : GdbRequest) (text : List ℕ) → IsAnswerTo (session_told s skipped new) still r text → IsAnswerTo (session_told s skipped old) still r text
   answer_same still (request.Move way name) text h = h
-  answer_same still request.Monitor text h = monitored still.signal (here still.stand) _ text h
+  answer_same still request.Monitor text h = monitored still.setting.signal (here still.stand) _ text h
   answer_same still r text h = h
 
-  answered : (signal : ℕ) (stand : Stand) (bytes text : List ℕ) → IsStubAnswer (session_told s skipped new) signal stand bytes text → IsStubAnswer (session_told s skipped old) signal stand bytes text
-  answered signal stand bytes text h = answer_same (record { signal = signal; stand = stand; packet = bytes }) (request_of bytes) text h
+  answered : (setting : Setting) (stand : Stand) (bytes text : List ℕ) → IsStubAnswer (session_told s skipped new) setting stand bytes text → IsStubAnswer (session_told s skipped old) setting stand bytes text
+  answered setting stand bytes text h = answer_same (record { setting = setting; stand = stand; packet = bytes }) (request_of bytes) text h
 
-  pub turn_same : (signal : ℕ) (d : Dialog) (what : Arrived) (text : List ℕ) (next : Dialog) → IsTurn (session_told s skipped new) signal d what text next → IsTurn (session_told s skipped old) signal d what text next
-  turn_same signal d (packet bytes) text next h = (h.0, answered signal d.stand bytes h.0 h.1, h.2, h.3)
-  turn_same signal d broken text next h = h
-  turn_same signal d large text next h = h
-  turn_same signal d again text next h = h
-  turn_same signal d interrupt text next h = h
+  pub turn_same : (setting : Setting) (d : Dialog) (what : Arrived) (text : List ℕ) (next : Dialog) → IsTurn (session_told s skipped new) setting d what text next → IsTurn (session_told s skipped old) setting d what text next
+  turn_same setting d (packet bytes) text next h = (h.0, answered setting d.stand bytes h.0 h.1, h.2, h.3)
+  turn_same setting d broken text next h = h
+  turn_same setting d large text next h = h
+  turn_same setting d again text next h = h
+  turn_same setting d interrupt text next h = h
 
 -- the same of findings that stayed as they were
-pub turn_stays : (s s' : Shown) (skipped : ℕ) (old new : Fact → Because → Type 0) → s' ≡ s → SameReasons old new → (signal : ℕ) (d : Dialog) (what : Arrived) (text : List ℕ) (next : Dialog) → IsTurn (session_told s' skipped new) signal d what text next → IsTurn (session_told s skipped old) signal d what text next
-turn_stays s s' skipped old new e same signal d what text next h = turn_same s skipped old new same signal d what text next (subst (λ shown. IsTurn (session_told shown skipped new) signal d what text next) e h)
+pub turn_stays : (s s' : Shown) (skipped : ℕ) (old new : Fact → Because → Type 0) → s' ≡ s → SameReasons old new → (setting : Setting) (d : Dialog) (what : Arrived) (text : List ℕ) (next : Dialog) → IsTurn (session_told s' skipped new) setting d what text next → IsTurn (session_told s skipped old) setting d what text next
+turn_stays s s' skipped old new e same setting d what text next h = turn_same s skipped old new same setting d what text next (subst (λ shown. IsTurn (session_told shown skipped new) setting d what text next) e h)
 
 pub reasons_stay : (a b c : Fact → Because → Type 0) → SameReasons a b → SameReasons b c → SameReasons a c
 reasons_stay a b c h k fact why = (λ x. (k fact why).0 ((h fact why).0 x), λ x. (h fact why).1 ((k fact why).1 x))

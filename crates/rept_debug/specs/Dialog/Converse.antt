@@ -7,20 +7,21 @@ use Rattle.rept_remote.specs.Frames.{Arrived, Arrives}
 use Rattle.rept_remote.specs.Reading.{Stops, taking}
 use Rattle.rept_remote.specs.declared.arrival.Ending.{Ending}
 use Rattle.rept_findings.specs.Shown.{SessionTold}
+use Rattle.rept_stub.specs.declared.answers.Setting.{Setting}
 use Rattle.rept_debug.specs.Dialog.Dialog.{IsTurn, Talks, start_at}
 use Rattle.rept_debug.specs.declared.dialog.turn.Dialog.{Dialog}
 use Rattle.rept_debug.specs.declared.dialog.conversation.SessionEnd.{SessionEnd}
 use Rattle.rept_debug.specs.declared.dialog.conversation.SessionEnd.TheVariants as conversed
 
--- who talks: what is told, the signal that ended the process, and the dialog as it began
+-- who talks: what is told of what was found and besides it, and the dialog as it began
 pub record Parties : Type 1 where
   pub told : SessionTold
-  pub signal : ℕ
+  pub setting : Setting
   pub start : Dialog
 
 -- a dialog that begins over what is told
-abbrev pub parties_over : SessionTold → ℕ → Parties
-parties_over t signal = record { told = t; signal = signal; start = start_at t.shown }
+abbrev pub parties_over : SessionTold → Setting → Parties
+parties_over t setting = record { told = t; setting = setting; start = start_at t.shown }
 
 -- The rules of a dialog: what was read and written since it began, and where it is then; what is
 -- written at an arrival, and where it is after that.
@@ -30,7 +31,7 @@ pub record DialogRules (D : Type 0) : Type 1 where
 
 -- those of a dialog over what is told
 abbrev pub rules_of : Parties → DialogRules Dialog
-rules_of p = record { talks = Talks p.told p.signal p.start; turns = IsTurn p.told p.signal }
+rules_of p = record { talks = Talks p.told p.setting p.start; turns = IsTurn p.told p.setting }
 
 -- the bytes that were taken of an input and those that were written to an output, neither of which
 -- failed, are those of the arrivals so far and of what was written at each

@@ -11,6 +11,7 @@ use Rattle.rept_findings.specs.Shown.{SessionTold, Shown}
 use Rattle.rept_stub.specs.Answers.{IsStubAnswer, line_before, stand_after}
 use Rattle.rept_stub.specs.Replies.{digits_of, error}
 use Rattle.rept_stub.specs.Standing.{start_of}
+use Rattle.rept_stub.specs.declared.answers.Setting.{Setting}
 use Rattle.rept_debug.specs.declared.dialog.early.EarlyDialog.{EarlyDialog}
 use Rattle.rept_debug.specs.declared.dialog.turn.Dialog.{Dialog}
 
@@ -65,15 +66,15 @@ after_packet t d bytes reply = record {
 -- `k`, answered; one that is broken is refused. The last reply is written again where it is wished
 -- for and packets are acknowledged: without that gdb wishes for it at each time limit, and takes
 -- two replies for those to two packets.
-abbrev pub IsTurn : SessionTold → ℕ → Dialog → Arrived → List ℕ → Dialog → Type 0
-IsTurn t signal d (packet bytes) text new = (reply : List ℕ) × IsStubAnswer t signal d.stand bytes reply × (text ≡ sign d (codes "+") ++ written_to (request_of bytes) (line_before t.shown d.stand bytes) reply) × (new ≡ after_packet t d bytes reply)
-IsTurn t signal d broken text new = (text ≡ sign d (codes "-")) × (new ≡ d)
-IsTurn t signal d large text new = (text ≡ sign d (codes "+") ++ packet_of error) × (new ≡ record d { last = packet_of error })
-IsTurn t signal d again text new = (text ≡ sign d d.last) × (new ≡ d)
-IsTurn t signal d interrupt text new = (text ≡ []) × (new ≡ d)
+abbrev pub IsTurn : SessionTold → Setting → Dialog → Arrived → List ℕ → Dialog → Type 0
+IsTurn t setting d (packet bytes) text new = (reply : List ℕ) × IsStubAnswer t setting d.stand bytes reply × (text ≡ sign d (codes "+") ++ written_to (request_of bytes) (line_before t.shown d.stand bytes) reply) × (new ≡ after_packet t d bytes reply)
+IsTurn t setting d broken text new = (text ≡ sign d (codes "-")) × (new ≡ d)
+IsTurn t setting d large text new = (text ≡ sign d (codes "+") ++ packet_of error) × (new ≡ record d { last = packet_of error })
+IsTurn t setting d again text new = (text ≡ sign d d.last) × (new ≡ d)
+IsTurn t setting d interrupt text new = (text ≡ []) × (new ≡ d)
 
 -- what was read and written since a dialog began, and where it is then
-pub data Talks (t : SessionTold) (signal : ℕ) (start : Dialog) : List ℕ → List ℕ → Dialog → Type 0 where
-  begun : Talks t signal start [] [] start
+pub data Talks (t : SessionTold) (setting : Setting) (start : Dialog) : List ℕ → List ℕ → Dialog → Type 0 where
+  begun : Talks t setting start [] [] start
   turn : (read written : List ℕ) (d : Dialog) (got text : List ℕ) (what : Arrived) (new : Dialog)
-      → Talks t signal start read written d → Arrives got what → IsTurn t signal d what text new → Talks t signal start (read ++ got) (written ++ text) new
+      → Talks t setting start read written d → Arrives got what → IsTurn t setting d what text new → Talks t setting start (read ++ got) (written ++ text) new

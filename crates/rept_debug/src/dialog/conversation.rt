@@ -33,11 +33,11 @@ pub enum SessionEnd {
 pub fn converse<F: Findings, S: Source, K: Sink>(
     alloc: Global,
     findings: &mut F,
-    setting: Setting,
+    setting: Setting<'_>,
     input: &mut S,
     out: &mut K,
 ) -> SessionEnd
-    ensures talk { Converses (parties_over (session_told (F.shown findings.old) setting.skipped (F.reasons findings.old)) setting.signal) (move (S.port input.old) (S.port input.new)) (move (K.port out.old) (K.port out.new)) result }
+    ensures talk { Converses (parties_over (session_told (F.shown findings.old) setting.entry.skipped (F.reasons findings.old)) setting.entry) (move (S.port input.old) (S.port input.new)) (move (K.port out.old) (K.port out.new)) result }
     ensures same { F.shown findings.new ≡ F.shown findings.old }
     ensures same_reasons { SameReasons (F.reasons findings.old) (F.reasons findings.new) }
 {
@@ -51,12 +51,12 @@ pub fn converse<F: Findings, S: Source, K: Sink>(
 pub fn go_on<F: Findings, S: Source, K: Sink>(
     alloc: Global,
     findings: &mut F,
-    setting: Setting,
+    setting: Setting<'_>,
     greeting: &mut Greeting,
     input: &mut S,
     out: &mut K,
 ) -> SessionEnd
-    ensures talk { GoesOn (parties_over (session_told (F.shown findings.old) setting.skipped (F.reasons findings.old)) setting.signal) greeting.old (move (S.port input.old) (S.port input.new)) (move (K.port out.old) (K.port out.new)) result }
+    ensures talk { GoesOn (parties_over (session_told (F.shown findings.old) setting.entry.skipped (F.reasons findings.old)) setting.entry) greeting.old (move (S.port input.old) (S.port input.new)) (move (K.port out.old) (K.port out.new)) result }
     ensures same { F.shown findings.new ≡ F.shown findings.old }
     ensures same_reasons { SameReasons (F.reasons findings.old) (F.reasons findings.new) }
 {
@@ -89,13 +89,13 @@ struct WaitingDialog {
 fn answer_on<F: Findings, S: Source, K: Sink>(
     alloc: Global,
     findings: &mut F,
-    setting: Setting,
+    setting: Setting<'_>,
     waiting: WaitingDialog,
     input: &mut S,
     out: &mut K,
 ) -> SessionEnd
     requires within { IsStandLawful (F.shown findings.old) waiting.dialog.stand }
-    ensures talk { AnswersOn (parties_over (session_told (F.shown findings.old) setting.skipped (F.reasons findings.old)) setting.signal) waiting (move (S.port input.old) (S.port input.new)) (move (K.port out.old) (K.port out.new)) result }
+    ensures talk { AnswersOn (parties_over (session_told (F.shown findings.old) setting.entry.skipped (F.reasons findings.old)) setting.entry) waiting (move (S.port input.old) (S.port input.new)) (move (K.port out.old) (K.port out.new)) result }
     ensures same { F.shown findings.new ≡ F.shown findings.old }
     ensures same_reasons { SameReasons (F.reasons findings.old) (F.reasons findings.new) }
 {

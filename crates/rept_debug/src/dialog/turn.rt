@@ -53,13 +53,13 @@ pub fn begin<F: Findings>(
 pub fn take_turn<F: Findings>(
     alloc: Global,
     findings: &mut F,
-    setting: Setting,
+    setting: Setting<'_>,
     dialog: &mut Dialog,
     arrival: Arrival,
     carried: &[u8],
 ) -> Result<Text, OutOfMemory>
     requires { IsStandLawful (F.shown findings.old) dialog.old.stand }
-    ensures turn { IfOk result (λ text. IsTurn (session_told (F.shown findings.old) setting.skipped (F.reasons findings.old)) setting.signal dialog.old (arrived arrival carried.now) text dialog.new) }
+    ensures turn { IfOk result (λ text. IsTurn (session_told (F.shown findings.old) setting.entry.skipped (F.reasons findings.old)) setting.entry dialog.old (arrived arrival carried.now) text dialog.new) }
     ensures within { IsStandLawful (F.shown findings.old) dialog.new.stand }
     ensures same { F.shown findings.new ≡ F.shown findings.old }
     ensures same_reasons { SameReasons (F.reasons findings.old) (F.reasons findings.new) }
@@ -77,12 +77,12 @@ pub fn take_turn<F: Findings>(
 fn answer<F: Findings>(
     alloc: Global,
     findings: &mut F,
-    setting: Setting,
+    setting: Setting<'_>,
     dialog: &mut Dialog,
     carried: &[u8],
 ) -> Result<Text, OutOfMemory>
     requires { IsStandLawful (F.shown findings.old) dialog.old.stand }
-    ensures turn { IfOk result (λ text. IsTurn (session_told (F.shown findings.old) setting.skipped (F.reasons findings.old)) setting.signal dialog.old (packet carried.now) text dialog.new) }
+    ensures turn { IfOk result (λ text. IsTurn (session_told (F.shown findings.old) setting.entry.skipped (F.reasons findings.old)) setting.entry dialog.old (packet carried.now) text dialog.new) }
     ensures within { IsStandLawful (F.shown findings.old) dialog.new.stand }
     ensures same { F.shown findings.new ≡ F.shown findings.old }
     ensures same_reasons { SameReasons (F.reasons findings.old) (F.reasons findings.new) }

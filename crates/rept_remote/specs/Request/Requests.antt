@@ -15,6 +15,8 @@ use Rattle.rept_remote.specs.declared.request.request.WatchKind.TheVariants as k
 use Rattle.rept_remote.specs.declared.request.request.Movement.{Movement}
 use Rattle.rept_remote.specs.declared.request.request.Movement.TheVariants as way
 use Rattle.rept_remote.specs.declared.request.request.ThreadName.TheVariants as name
+use Rattle.rept_remote.specs.declared.request.request.TargetObject.{TargetObject}
+use Rattle.rept_remote.specs.declared.request.request.TargetObject.TheVariants as object
 use Rattle.rept_remote.specs.declared.request.parser.BreakOrWatch.{BreakOrWatch}
 use Rattle.rept_remote.specs.declared.request.parser.BreakOrWatch.TheVariants as spot
 
@@ -39,6 +41,7 @@ query_named packet =
     else if bytes_eq packet (codes "qsThreadInfo") then Some request.MoreThreads
     else if bytes_eq packet (codes "QStartNoAckMode") then Some request.NoAcknowledgments
     else if bytes_eq packet (codes "vCont?") then Some request.Moves
+    else if bytes_eq packet (codes "qOffsets") then Some request.Offsets
     else None
 
 abbrev pub has_prefix : List ℕ → List ℕ → Bool
@@ -132,15 +135,23 @@ abbrev pub lettered : List ℕ → GdbRequest
 lettered [] = request.Unknown
 lettered (letter ∷ rest) = numbered letter rest
 
--- a part of the description of the registers
-abbrev pub description : List ℕ
-description = codes "qXfer:features:read:target.xml:"
+-- the text of which a packet asks for a part, by how it begins
+abbrev pub object_of : List ℕ → Option TargetObject
+object_of packet =
+    if has_prefix packet (codes "qXfer:features:read:target.xml:") then Some object.Description
+    else if has_prefix packet (codes "qXfer:auxv:read::") then Some object.AuxiliaryVector
+    else if has_prefix packet (codes "qXfer:siginfo:read::") then Some object.SignalInfo
+    else None
 
-unfoldable pub is_part : List ℕ → Bool
-is_part packet = has_prefix packet description
+-- its offset and length stand after that
+abbrev pub part_or_lettered : List ℕ → Option TargetObject → GdbRequest
+part_or_lettered packet None = lettered packet
+part_or_lettered packet (Some object.Description) = with_pair (request.Part object.Description) (pair_of (drop 31 packet))
+part_or_lettered packet (Some object.AuxiliaryVector) = with_pair (request.Part object.AuxiliaryVector) (pair_of (drop 17 packet))
+part_or_lettered packet (Some object.SignalInfo) = with_pair (request.Part object.SignalInfo) (pair_of (drop 20 packet))
 
 abbrev pub numbered_or_part : List ℕ → GdbRequest
-numbered_or_part packet = if is_part packet then with_pair request.Description (pair_of (drop 31 packet)) else lettered packet
+numbered_or_part packet = part_or_lettered packet (object_of packet)
 
 abbrev pub named : List ℕ → Option GdbRequest
 named packet = option_or (move_named packet) (option_or (query_named packet) (option_or (move_begun packet) (option_or (query_begun packet) (option_or (thread_begun packet) (change_begun packet)))))

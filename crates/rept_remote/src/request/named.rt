@@ -46,6 +46,8 @@ pub fn query_named(packet: &[u8]) -> Option<GdbRequest>
         Some(GdbRequest::NoAcknowledgments)
     } else if is_word(packet, b"vCont?") {
         Some(GdbRequest::Moves)
+    } else if is_word(packet, b"qOffsets") {
+        Some(GdbRequest::Offsets)
     } else {
         None
     }

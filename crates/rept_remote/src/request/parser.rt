@@ -1,15 +1,15 @@
 //! Reading a packet as a request.
 
-ghost use Rattle.std.specs.Prelude.{◌≡◌, ◌≤◌, ℕ, length, true};
+ghost use Rattle.std.specs.Prelude.{◌≡◌, ℕ, drop};
 ghost use Rattle.rept_word.specs.Parsing.Numbers.{hexadecimal_of};
 ghost use Rattle.rept_remote.specs.Request.Numbers.{pair_of};
-ghost use Rattle.rept_remote.specs.Request.Requests.{is_part, lettered, named, numbered, numbered_or_part, request_of, request_at, with_number, with_pair, with_spot};
+ghost use Rattle.rept_remote.specs.Request.Requests.{lettered, named, numbered, numbered_or_part, request_of, request_at, object_of, with_number, with_pair, with_spot};
 
 use crate::request::named::{
     change_begun, move_begun, move_named, query_begun, query_named, thread_begun,
 };
 use crate::request::numbers::pair_of;
-use crate::request::request::{GdbRequest, WatchKind};
+use crate::request::request::{GdbRequest, TargetObject, WatchKind};
 use rept_word::hexadecimal;
 
 /// What a packet asks for. Each packet asks for something; what isn't known is `Unknown`.
@@ -44,31 +44,50 @@ fn named(packet: &[u8]) -> Option<GdbRequest>
     change_begun(packet)
 }
 
-/// A packet with numbers in it, or one that asks for a part of the description.
+/// A packet with numbers in it, or one that asks for a part of a text.
 fn numbered_or_part(packet: &[u8]) -> GdbRequest
     ensures { result ≡ numbered_or_part packet.now }
 {
-    if is_part(packet) {
-        part_of(&packet[31..])
-    } else {
-        lettered(packet)
+    match object_of(packet) {
+        Some(TargetObject::Description) => part_of(TargetObject::Description, after(packet, 31)),
+        Some(TargetObject::AuxiliaryVector) => part_of(
+            TargetObject::AuxiliaryVector,
+            after(packet, 17),
+        ),
+        Some(TargetObject::SignalInfo) => part_of(TargetObject::SignalInfo, after(packet, 20)),
+        None => lettered(packet),
     }
 }
 
-/// Whether a packet asks for a part of the description of the registers.
-#[tactic(auto, unfolding(crate::specs::Request::Requests::is_part))]
-fn is_part(packet: &[u8]) -> bool
-    ensures value { result ≡ is_part packet.now }
-    ensures long { result ≡ true → 31 ≤ length packet.now }
+/// The text of which a packet asks for a part, by how it begins.
+fn object_of(packet: &[u8]) -> Option<TargetObject>
+    ensures { result ≡ object_of packet.now }
 {
-    packet.starts_with(b"qXfer:features:read:target.xml:")
+    if packet.starts_with(b"qXfer:features:read:target.xml:") {
+        Some(TargetObject::Description)
+    } else if packet.starts_with(b"qXfer:auxv:read::") {
+        Some(TargetObject::AuxiliaryVector)
+    } else if packet.starts_with(b"qXfer:siginfo:read::") {
+        Some(TargetObject::SignalInfo)
+    } else {
+        None
+    }
 }
 
-fn part_of(rest: &[u8]) -> GdbRequest
-    ensures { result ≡ with_pair GdbRequest.Description (pair_of rest.now) }
+/// What comes after so many bytes of a packet.
+fn after(packet: &[u8], count: usize) -> &[u8]
+    ensures { result.now ≡ drop count packet.now }
+{
+    let start = packet.len().min(count);
+    &packet[start..]
+}
+
+/// A request for a part of a text, by what comes after its name.
+fn part_of(object: TargetObject, rest: &[u8]) -> GdbRequest
+    ensures { result ≡ with_pair (GdbRequest.Part object) (pair_of rest.now) }
 {
     match pair_of(rest) {
-        Some((offset, length)) => GdbRequest::Description(offset, length),
+        Some((offset, length)) => GdbRequest::Part(object, offset, length),
         None => GdbRequest::Unknown,
     }
 }

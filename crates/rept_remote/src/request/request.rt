@@ -46,6 +46,17 @@ pub enum Movement {
     ContinueBack,
 }
 
+/// A text that a debugger reads in parts.
+#[derive(Clone, Copy, Debug)]
+pub enum TargetObject {
+    /// `features:read:target.xml`: the description of the registers.
+    Description,
+    /// `auxv:read:`: the auxiliary vector, which the system gave to the process.
+    AuxiliaryVector,
+    /// `siginfo:read:`: what the system told of the signal that ended the process.
+    SignalInfo,
+}
+
 /// A request of a debugger. Addresses and counts are in bytes.
 #[derive(Clone, Copy, Debug)]
 pub enum GdbRequest {
@@ -78,8 +89,11 @@ pub enum GdbRequest {
     Watch(WatchKind, u32, u32),
     /// `z2 A,LEN`, `z4 A,LEN`: they are no longer.
     Unwatch(WatchKind, u32, u32),
-    /// `qXfer:features:read:target.xml:OFFSET,LEN`: a part of the description of the registers.
-    Description(u32, u32),
+    /// `qXfer:features:read:target.xml:OFFSET,LEN`, `qXfer:auxv:read::OFFSET,LEN`,
+    /// `qXfer:siginfo:read::OFFSET,LEN`: a part of a text, so many bytes from an offset on.
+    Part(TargetObject, u32, u32),
+    /// `qOffsets`: where the executable was loaded.
+    Offsets,
     /// `qRcmd,`: a line of a session, in pairs of digits.
     Monitor,
     /// `Hg`: a thread is selected for all that isn't a move.

@@ -30,8 +30,8 @@ returns-in-Ok-clause-held g c =
     let b = core_bytes (file_of c.args.core) c.args.files.now.trace.items c.args.files.now.manner in
     let io = streams (move (g.S.Source.port c.args.input.now) (g.S.Source.port c.debug_trace.new.input)) (move (g.K.Sink.port c.args.out.now) (g.K.Sink.port c.debug_trace.new.out)) (move (g.E.Sink.port c.args.errors.now) (g.E.Sink.port c.debug_trace.new.errors)) in
     let read = parts_noted b c.is_several.result (Ok c.in-Ok.dump) (kind_is c.is_several.result c.as_slice-trace.result.now b.trace c.is_several.ensures c.as_slice-trace.ensures.value) c.in-Ok.ensures.notes in
-    IfOk-weaker c.debug_trace.result (IsHeldTrace (crash_trace (crash_of c.in-Ok.dump read.notes) c.as_slice-trace.result.now c.args.files.now.manner) io) (IsHeld (parts_bytes ms b) io)
-    (held_parts ms b c.in-Ok.dump read.notes c.as_slice-trace.result.now c.in-Ok.ensures.files c.in-Ok.ensures.core c.as_slice-trace.ensures.value c.requires.accepted read.said.said io)
+    IfOk-weaker c.debug_trace.result (IsHeldTrace (crash_trace (crash_of c.in-Ok.dump read.notes) c.as_slice-trace.result.now c.args.files.now.manner) c.mapped_files-process.result io) (IsHeld (parts_bytes ms b) io)
+    (held_parts ms b c.in-Ok.dump read.notes c.as_slice-trace.result.now c.in-Ok.ensures.files c.in-Ok.ensures.core c.as_slice-trace.ensures.value c.requires.accepted read.said.said c.mapped_files-process.result io c.mapped_files-process.ensures.core c.mapped_files-process.ensures.program c.mapped_files-process.ensures.files)
     (c.debug_trace.ensures.held read.notes read.are)
 
 pub returns-in-Ok-clause-refused : goal.returns-in-Ok-clause-refused

@@ -18,12 +18,12 @@ pub dialog-preserved : goal.dialog-preserved
 dialog-preserved g c =
     let s = g.F.Findings.shown c.args.findings.now in
     let here = c.dialog.invariant in
-    let parties : Parties = parties_over (session_told s c.args.setting.skipped (g.F.Findings.reasons c.args.findings.now)) c.args.setting.signal in
+    let parties : Parties = parties_over (session_told s c.args.setting.skipped (g.F.Findings.reasons c.args.findings.now)) c.args.setting in
     let what = arrived c.dialog.arrival c.dialog.packets.carried in
-    let told_so : IsTurn (session_told (g.F.Findings.shown c.dialog.findings) c.args.setting.skipped (g.F.Findings.reasons c.dialog.findings)) c.args.setting.signal c.dialog.dialog what c.in-Ok.text c.take_turn.new.dialog =
-    subst (λ (bytes : List ℕ). IsTurn (session_told (g.F.Findings.shown c.dialog.findings) c.args.setting.skipped (g.F.Findings.reasons c.dialog.findings)) c.args.setting.signal c.dialog.dialog (arrived c.dialog.arrival bytes) c.in-Ok.text c.take_turn.new.dialog) c.carried.ensures c.in-Ok.ensures.turn in
-    let turned : IsTurn parties.told parties.signal c.dialog.dialog what c.in-Ok.text c.take_turn.new.dialog =
-    turn_stays s (g.F.Findings.shown c.dialog.findings) c.args.setting.skipped (g.F.Findings.reasons c.args.findings.now) (g.F.Findings.reasons c.dialog.findings) here.shown_stays here.reasons_stay c.args.setting.signal c.dialog.dialog what c.in-Ok.text c.take_turn.new.dialog told_so in
+    let told_so : IsTurn (session_told (g.F.Findings.shown c.dialog.findings) c.args.setting.skipped (g.F.Findings.reasons c.dialog.findings)) c.args.setting c.dialog.dialog what c.in-Ok.text c.take_turn.new.dialog =
+    subst (λ (bytes : List ℕ). IsTurn (session_told (g.F.Findings.shown c.dialog.findings) c.args.setting.skipped (g.F.Findings.reasons c.dialog.findings)) c.args.setting c.dialog.dialog (arrived c.dialog.arrival bytes) c.in-Ok.text c.take_turn.new.dialog) c.carried.ensures c.in-Ok.ensures.turn in
+    let turned : IsTurn parties.told parties.setting c.dialog.dialog what c.in-Ok.text c.take_turn.new.dialog =
+    turn_stays s (g.F.Findings.shown c.dialog.findings) c.args.setting.skipped (g.F.Findings.reasons c.args.findings.now) (g.F.Findings.reasons c.dialog.findings) here.shown_stays here.reasons_stay c.args.setting c.dialog.dialog what c.in-Ok.text c.take_turn.new.dialog told_so in
     let wrote = subst (λ (bytes : List ℕ). Appends (g.K.Sink.port c.dialog.out).bytes (g.K.Sink.port c.write_all.new.sink).bytes bytes) c.bytes.ensures c.in-Ok-write_all.ensures.ok in
     let taken = arrives_next c.dialog.packets c.next.new.self (g.S.Source.port c.dialog.input) (g.S.Source.port c.next.new.source) c.in-Ok-next.arrival c.in-Ok-next.ensures in
     record {
@@ -48,12 +48,12 @@ pub returns-in-Err-write_all-clause-talk : goal.returns-in-Err-write_all-clause-
 returns-in-Err-write_all-clause-talk g c = λ input output h.
     let s = g.F.Findings.shown c.args.findings.now in
     let here = c.dialog.invariant in
-    let parties : Parties = parties_over (session_told s c.args.setting.skipped (g.F.Findings.reasons c.args.findings.now)) c.args.setting.signal in
+    let parties : Parties = parties_over (session_told s c.args.setting.skipped (g.F.Findings.reasons c.args.findings.now)) c.args.setting in
     let what = arrived c.dialog.arrival c.dialog.packets.carried in
-    let told_so : IsTurn (session_told (g.F.Findings.shown c.dialog.findings) c.args.setting.skipped (g.F.Findings.reasons c.dialog.findings)) c.args.setting.signal c.dialog.dialog what c.in-Ok.text c.take_turn.new.dialog =
-    subst (λ (bytes : List ℕ). IsTurn (session_told (g.F.Findings.shown c.dialog.findings) c.args.setting.skipped (g.F.Findings.reasons c.dialog.findings)) c.args.setting.signal c.dialog.dialog (arrived c.dialog.arrival bytes) c.in-Ok.text c.take_turn.new.dialog) c.carried.ensures c.in-Ok.ensures.turn in
-    let turned : IsTurn parties.told parties.signal c.dialog.dialog what c.in-Ok.text c.take_turn.new.dialog =
-    turn_stays s (g.F.Findings.shown c.dialog.findings) c.args.setting.skipped (g.F.Findings.reasons c.args.findings.now) (g.F.Findings.reasons c.dialog.findings) here.shown_stays here.reasons_stay c.args.setting.signal c.dialog.dialog what c.in-Ok.text c.take_turn.new.dialog told_so in
+    let told_so : IsTurn (session_told (g.F.Findings.shown c.dialog.findings) c.args.setting.skipped (g.F.Findings.reasons c.dialog.findings)) c.args.setting c.dialog.dialog what c.in-Ok.text c.take_turn.new.dialog =
+    subst (λ (bytes : List ℕ). IsTurn (session_told (g.F.Findings.shown c.dialog.findings) c.args.setting.skipped (g.F.Findings.reasons c.dialog.findings)) c.args.setting c.dialog.dialog (arrived c.dialog.arrival bytes) c.in-Ok.text c.take_turn.new.dialog) c.carried.ensures c.in-Ok.ensures.turn in
+    let turned : IsTurn parties.told parties.setting c.dialog.dialog what c.in-Ok.text c.take_turn.new.dialog =
+    turn_stays s (g.F.Findings.shown c.dialog.findings) c.args.setting.skipped (g.F.Findings.reasons c.args.findings.now) (g.F.Findings.reasons c.dialog.findings) here.shown_stays here.reasons_stay c.args.setting c.dialog.dialog what c.in-Ok.text c.take_turn.new.dialog told_so in
     let wrote = subst (λ (bytes : List ℕ). AppendsPrefix (g.K.Sink.port c.dialog.out).bytes (g.K.Sink.port c.write_all.new.sink).bytes bytes) c.bytes.ensures c.in-Err-write_all.ensures.err in
     let cause = c.in-Err-write_all.ensures.cause in
     broke (rules_of parties) (longer parties) input (g.S.Source.port c.dialog.input) output (g.K.Sink.port c.dialog.out) c.dialog.dialog c.dialog.packets c.dialog.arrival (here.waits input output h) (g.K.Sink.port c.write_all.new.sink) c.in-Ok.text c.take_turn.new.dialog turned wrote (record { rose = cause.failed; later = cause.later; once = cause.once })
@@ -62,12 +62,12 @@ pub returns-then-dialog-clause-talk : goal.returns-then-dialog-clause-talk
 returns-then-dialog-clause-talk g c = λ input output h.
     let s = g.F.Findings.shown c.args.findings.now in
     let here = c.dialog.invariant in
-    let parties : Parties = parties_over (session_told s c.args.setting.skipped (g.F.Findings.reasons c.args.findings.now)) c.args.setting.signal in
+    let parties : Parties = parties_over (session_told s c.args.setting.skipped (g.F.Findings.reasons c.args.findings.now)) c.args.setting in
     let what = arrived c.dialog.arrival c.dialog.packets.carried in
-    let told_so : IsTurn (session_told (g.F.Findings.shown c.dialog.findings) c.args.setting.skipped (g.F.Findings.reasons c.dialog.findings)) c.args.setting.signal c.dialog.dialog what c.in-Ok.text c.take_turn.new.dialog =
-    subst (λ (bytes : List ℕ). IsTurn (session_told (g.F.Findings.shown c.dialog.findings) c.args.setting.skipped (g.F.Findings.reasons c.dialog.findings)) c.args.setting.signal c.dialog.dialog (arrived c.dialog.arrival bytes) c.in-Ok.text c.take_turn.new.dialog) c.carried.ensures c.in-Ok.ensures.turn in
-    let turned : IsTurn parties.told parties.signal c.dialog.dialog what c.in-Ok.text c.take_turn.new.dialog =
-    turn_stays s (g.F.Findings.shown c.dialog.findings) c.args.setting.skipped (g.F.Findings.reasons c.args.findings.now) (g.F.Findings.reasons c.dialog.findings) here.shown_stays here.reasons_stay c.args.setting.signal c.dialog.dialog what c.in-Ok.text c.take_turn.new.dialog told_so in
+    let told_so : IsTurn (session_told (g.F.Findings.shown c.dialog.findings) c.args.setting.skipped (g.F.Findings.reasons c.dialog.findings)) c.args.setting c.dialog.dialog what c.in-Ok.text c.take_turn.new.dialog =
+    subst (λ (bytes : List ℕ). IsTurn (session_told (g.F.Findings.shown c.dialog.findings) c.args.setting.skipped (g.F.Findings.reasons c.dialog.findings)) c.args.setting c.dialog.dialog (arrived c.dialog.arrival bytes) c.in-Ok.text c.take_turn.new.dialog) c.carried.ensures c.in-Ok.ensures.turn in
+    let turned : IsTurn parties.told parties.setting c.dialog.dialog what c.in-Ok.text c.take_turn.new.dialog =
+    turn_stays s (g.F.Findings.shown c.dialog.findings) c.args.setting.skipped (g.F.Findings.reasons c.args.findings.now) (g.F.Findings.reasons c.dialog.findings) here.shown_stays here.reasons_stay c.args.setting c.dialog.dialog what c.in-Ok.text c.take_turn.new.dialog told_so in
     let wrote = subst (λ (bytes : List ℕ). Appends (g.K.Sink.port c.dialog.out).bytes (g.K.Sink.port c.write_all.new.sink).bytes bytes) c.bytes.ensures c.in-Ok-write_all.ensures.ok in
     let w = here.waits input output h in
     record {
@@ -81,12 +81,12 @@ pub returns-in-Err-next-clause-talk : goal.returns-in-Err-next-clause-talk
 returns-in-Err-next-clause-talk g c = λ input output h.
     let s = g.F.Findings.shown c.args.findings.now in
     let here = c.dialog.invariant in
-    let parties : Parties = parties_over (session_told s c.args.setting.skipped (g.F.Findings.reasons c.args.findings.now)) c.args.setting.signal in
+    let parties : Parties = parties_over (session_told s c.args.setting.skipped (g.F.Findings.reasons c.args.findings.now)) c.args.setting in
     let what = arrived c.dialog.arrival c.dialog.packets.carried in
-    let told_so : IsTurn (session_told (g.F.Findings.shown c.dialog.findings) c.args.setting.skipped (g.F.Findings.reasons c.dialog.findings)) c.args.setting.signal c.dialog.dialog what c.in-Ok.text c.take_turn.new.dialog =
-    subst (λ (bytes : List ℕ). IsTurn (session_told (g.F.Findings.shown c.dialog.findings) c.args.setting.skipped (g.F.Findings.reasons c.dialog.findings)) c.args.setting.signal c.dialog.dialog (arrived c.dialog.arrival bytes) c.in-Ok.text c.take_turn.new.dialog) c.carried.ensures c.in-Ok.ensures.turn in
-    let turned : IsTurn parties.told parties.signal c.dialog.dialog what c.in-Ok.text c.take_turn.new.dialog =
-    turn_stays s (g.F.Findings.shown c.dialog.findings) c.args.setting.skipped (g.F.Findings.reasons c.args.findings.now) (g.F.Findings.reasons c.dialog.findings) here.shown_stays here.reasons_stay c.args.setting.signal c.dialog.dialog what c.in-Ok.text c.take_turn.new.dialog told_so in
+    let told_so : IsTurn (session_told (g.F.Findings.shown c.dialog.findings) c.args.setting.skipped (g.F.Findings.reasons c.dialog.findings)) c.args.setting c.dialog.dialog what c.in-Ok.text c.take_turn.new.dialog =
+    subst (λ (bytes : List ℕ). IsTurn (session_told (g.F.Findings.shown c.dialog.findings) c.args.setting.skipped (g.F.Findings.reasons c.dialog.findings)) c.args.setting c.dialog.dialog (arrived c.dialog.arrival bytes) c.in-Ok.text c.take_turn.new.dialog) c.carried.ensures c.in-Ok.ensures.turn in
+    let turned : IsTurn parties.told parties.setting c.dialog.dialog what c.in-Ok.text c.take_turn.new.dialog =
+    turn_stays s (g.F.Findings.shown c.dialog.findings) c.args.setting.skipped (g.F.Findings.reasons c.args.findings.now) (g.F.Findings.reasons c.dialog.findings) here.shown_stays here.reasons_stay c.args.setting c.dialog.dialog what c.in-Ok.text c.take_turn.new.dialog told_so in
     let wrote = subst (λ (bytes : List ℕ). Appends (g.K.Sink.port c.dialog.out).bytes (g.K.Sink.port c.write_all.new.sink).bytes bytes) c.bytes.ensures c.in-Ok-write_all.ensures.ok in
     let w = here.waits input output h in
     let so_far = on_turn (rules_of parties) (longer parties) input (g.S.Source.port c.dialog.input) output (g.K.Sink.port c.dialog.out) c.dialog.dialog c.dialog.packets c.dialog.arrival w (g.K.Sink.port c.write_all.new.sink) c.in-Ok.text c.take_turn.new.dialog turned wrote c.in-Ok-write_all.ensures.cause.calm in
