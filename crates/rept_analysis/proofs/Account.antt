@@ -4,11 +4,11 @@ use Rattle.rept_reason.specs.Facts.{Knowledge}
 use Rattle.rept_report.specs.Setting.{HasLaws}
 use Rattle.rept_report.specs.Conflicts.{IsQuiet}
 use Rattle.rept_report.specs.Implied.{with_implied, IsClosed}
-use Rattle.rept_analysis.specs.State.{AnalysisState, along}
-use Rattle.rept_analysis.specs.Kept.{is_among, answers, IsFinished, IsKept}
+use Rattle.rept_facts.specs.State.{AnalysisState, along}
+use Rattle.rept_facts.specs.Kept.{is_among, answers, IsFinished, IsKept}
 use Rattle.rept_analysis.specs.Logged.{IsLogOf}
-use Rattle.rept_analysis.proofs.Learning.{trace_known}
-use Rattle.rept_analysis.proofs.Reported.{settled_closed}
+use Rattle.rept_facts.proofs.Learning.{trace_known}
+use Rattle.rept_facts.proofs.Reported.{settled_closed}
 
 pub log_of : {W : Type 0} (s : AnalysisState W) → HasLaws (along s.path) → IsKept s → IsFinished s → IsLogOf (along s.path) (answers s) s.known.log
 log_of s laws kept finished =

@@ -5,14 +5,14 @@ use Rattle.rept_reason.specs.declared.fact.Cell.{Cell}
 use Rattle.rept_reason.specs.declared.fact.Cell.TheVariants.{Register, Byte}
 use Rattle.rept_reason.specs.Facts.{IsCell}
 use Rattle.rept_report.specs.Setting.{IsInstant}
-use Rattle.rept_analysis.specs.State.{AnalysisState, Subject, all_known, along}
-use Rattle.rept_analysis.specs.Inferring.{Knows, Grows, HasNews}
-use Rattle.rept_analysis.specs.Inferring.HasNews.{fact, address, anew}
-use Rattle.rept_analysis.specs.Kept.{is_among}
-use Rattle.rept_analysis.specs.Measure.{registers_unknown, bytes_unknown, measure}
-use Rattle.rept_analysis.specs.Sums.{count_true, sum_to}
-use Rattle.rept_analysis.proofs.Sums.{count_le, count_less, sum_le, sum_less}
-use Rattle.rept_analysis.proofs.Reported.{among_contains, contains_among}
+use Rattle.rept_facts.specs.State.{AnalysisState, Subject, all_known, along}
+use Rattle.rept_facts.specs.Inferring.{Knows, Grows, HasNews}
+use Rattle.rept_facts.specs.Inferring.HasNews.{fact, address, anew}
+use Rattle.rept_facts.specs.Kept.{is_among}
+use Rattle.rept_facts.specs.Measure.{registers_unknown, bytes_unknown, measure}
+use Rattle.rept_facts.specs.Sums.{count_true, sum_to}
+use Rattle.rept_facts.proofs.Sums.{count_le, count_less, sum_le, sum_less}
+use Rattle.rept_facts.proofs.Reported.{among_contains, contains_among}
 
 none_before : (x y : Option ℕ) → ((v : ℕ) → x ≡ Some v → y ≡ Some v) → is_none y ≡ true → is_none x ≡ true
 none_before None y h e = refl

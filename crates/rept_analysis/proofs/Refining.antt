@@ -3,7 +3,7 @@ use Rattle.std.proofs.lemmas.Bool.{cases_eq}
 use Rattle.rept_reason.specs.declared.fact.Fact.{Fact}
 use Rattle.rept_reason.specs.declared.fact.Cell.TheVariants.{Register, Byte}
 use Rattle.rept_report.proofs.Told.{same_some}
-use Rattle.rept_analysis.proofs.Stopping.{answered, byte_from, logged_derived}
+use Rattle.rept_facts.proofs.Stopping.{answered, byte_from, logged_derived}
 use Rattle.std.proofs.Common.{◌≡◌, ◌≤◌, arith, inl, inr, ℕ, true, Some, None, Result, Ok, Err, refl, sym, subst, ◌∙◌}
 use Rattle.std.specs.Prelude.{⊤, OnOk, IsOk, ◌⊎◌}
 use Rattle.rept_report.specs.declared.conflict.ConflictKind.{ConflictKind}
@@ -12,12 +12,12 @@ use Rattle.rept_report.specs.Closure.{InClosure, ClosureHas, IsConsistent, IsRep
 use Rattle.rept_report.specs.Why.{fact_of}
 use Rattle.rept_report.specs.Soundness.{AlwaysHolds, IsSound, HasNoExecution}
 use Rattle.rept_report.proofs.Soundness.{closure_sound, conflict_sound, report_sound}
-use Rattle.rept_analysis.specs.declared.stop.Stop.{Stop}
-use Rattle.rept_analysis.specs.declared.stop.Stop.TheVariants.{Conflict, OutOfMemory}
-use Rattle.rept_analysis.specs.State.{AnalysisState, Subject, along}
-use Rattle.rept_analysis.specs.Answers.{byte_answer}
-use Rattle.rept_analysis.specs.Kept.{register_answer, answers, IsKept}
-use Rattle.rept_analysis.specs.Refined.{KeepsAnswers, KeepsKnown, IsEnded, IsStopped, IsPaused, Outcome}
+use Rattle.rept_facts.specs.declared.stop.Stop.{Stop}
+use Rattle.rept_facts.specs.declared.stop.Stop.TheVariants.{Conflict, OutOfMemory}
+use Rattle.rept_facts.specs.State.{AnalysisState, Subject, along}
+use Rattle.rept_facts.specs.Answers.{byte_answer}
+use Rattle.rept_facts.specs.Kept.{register_answer, answers, IsKept}
+use Rattle.rept_facts.specs.Refined.{KeepsAnswers, KeepsKnown, IsEnded, IsStopped, IsPaused, Outcome}
 
 module _ {W : Type 0} (old new : AnalysisState W) where
   pub path_of : (r : Result ⊤ Stop) → Outcome old new r → new.path ≡ old.path

@@ -26,8 +26,8 @@ use Rattle.rept_report.specs.declared.conflict.ConflictKind.{ConflictKind}
 use Rattle.rept_report.specs.Given.{Given, setting_by}
 use Rattle.rept_report.specs.Setting.{Setting}
 use Rattle.rept_timeline.specs.declared.run_paths.RunPaths.{RunPaths}
-use Rattle.rept_analysis.specs.State.{Subject as Read, Whole, given_of, path_of, setting_of}
-use Rattle.rept_analysis.specs.Kept.{answers}
+use Rattle.rept_facts.specs.State.{Subject as Read, Whole, given_of, path_of, setting_of}
+use Rattle.rept_facts.specs.Kept.{answers}
 use Rattle.rept_analysis.specs.Logged.{IsLogOf}
 use Rattle.rept_found.specs.Trip.Alone.{registers_alone, trip_of}
 use Rattle.rept_found.specs.Trip.Trip.{Trip, thread_on, given_on, setting_on}

@@ -18,8 +18,8 @@ use Rattle.rept_report.specs.Writers.{IsCandidate, IsWriter}
 use Rattle.rept_report.proofs.WriterLaws.{one_writer}
 use Rattle.rept_report.specs.OneThread.{ThreadPath, path_setting}
 use Rattle.rept_moments.proofs.Apart.{legs_seen}
-use Rattle.rept_analysis.specs.Counts.{rows_below}
-use Rattle.rept_analysis.proofs.Counting.{count_full}
+use Rattle.rept_facts.specs.Counts.{rows_below}
+use Rattle.rept_facts.proofs.Counting.{count_full}
 use Rattle.rept_found.specs.Places.Places.{thread_point, point_named, point_on, named_on, place_on}
 use Rattle.rept_found.proofs.PlacesLemmas.Naming.{past_points}
 use Rattle.rept_found.specs.Trip.Alone.{trip_of}

@@ -1,6 +1,6 @@
 -- Why an analysis stops.
 use Rattle.std.proofs.Common.{◌≡◌, Result, Err, ◌∙◌, ap}
-use Rattle.rept_analysis.specs.declared.stop.Stop.{Stop}
+use Rattle.rept_facts.specs.declared.stop.Stop.{Stop}
 
 -- a stop of the analysis is one of the search
 pub stop_at : {A B : Type 0} (e : Stop) (stop : Stop) (r : Result A Stop) → r ≡ Err e → ◌≡◌ {A = Result B Stop} (Err e) (Err stop) → r ≡ Err stop

@@ -14,7 +14,7 @@ use Rattle.rept_report.specs.Setting.{Setting}
 use Rattle.rept_report.specs.Spots.{Spot, spot}
 use Rattle.rept_report.specs.Writers.{IsLastCandidate, HasNoCandidate, IsWriter}
 use Rattle.rept_report.proofs.WriterLaws.{one_writer}
-use Rattle.rept_analysis.specs.Counts.{IsCounted}
+use Rattle.rept_facts.specs.Counts.{IsCounted}
 use Rattle.rept_findings.specs.LastWriters.{AreLastWriters, named_row}
 use Rattle.rept_found.specs.Trip.Trip.{Trip, setting_on}
 use Rattle.rept_found.specs.Trip.Last.{writer_found}

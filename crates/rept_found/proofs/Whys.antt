@@ -7,9 +7,9 @@ use Rattle.rept_reason.specs.declared.fact.Cell.TheVariants.{Register, Byte}
 use Rattle.rept_reason.specs.Facts.{Knowledge}
 use Rattle.rept_report.specs.Setting.{Setting}
 use Rattle.rept_report.specs.Why.{Because, IsReason}
-use Rattle.rept_analysis.specs.State.{AnalysisState}
-use Rattle.rept_analysis.specs.Kept.{answers}
-use Rattle.rept_analysis.specs.Reasoned.{KeepsAll}
+use Rattle.rept_facts.specs.State.{AnalysisState}
+use Rattle.rept_facts.specs.Kept.{answers}
+use Rattle.rept_facts.specs.Reasoned.{KeepsAll}
 use Rattle.rept_findings.specs.Shown.{known_value}
 use Rattle.rept_found.specs.Trip.Trip.{Trip}
 use Rattle.rept_found.specs.Crash.{Scene}

@@ -16,7 +16,7 @@ use Rattle.rept_report.specs.Views.{bounds}
 use Rattle.rept_report.specs.Why.{IsReason}
 use Rattle.rept_report.specs.OneThread.{ThreadPath}
 use Rattle.rept_moments.specs.Seen.{seen, moment_in}
-use Rattle.rept_analysis.specs.Counts.{rows_below, calls_below, stores_below, known_below}
+use Rattle.rept_facts.specs.Counts.{rows_below, calls_below, stores_below, known_below}
 use Rattle.rept_findings.specs.Shown.{SessionTold, Shown, session_told}
 use Rattle.rept_found.specs.Places.Places.{point_on, place_on}
 use Rattle.rept_dump.specs.Program.{address_named, contents}

@@ -11,8 +11,8 @@ use Rattle.rept_report.specs.Closure.{IsReport}
 use Rattle.rept_report.specs.Setting.{way_of}
 use Rattle.rept_timeline.specs.Times.{time_of}
 use Rattle.rept_versions.specs.OnLine.{LineParts, store}
-use Rattle.rept_analysis.specs.State.{AnalysisState, Whole, Reader, reader, given_of, state_of}
-use Rattle.rept_analysis.specs.Kept.{answers}
+use Rattle.rept_facts.specs.State.{AnalysisState, Whole, Reader, reader, given_of, state_of}
+use Rattle.rept_facts.specs.Kept.{answers}
 use Rattle.rept_analysis.specs.Logged.{IsLogOf}
 use Rattle.rept_found.specs.Trip.Trip.{Trip, given_on, setting_on}
 use Rattle.rept_found.specs.Crash.{Means, ThreadEnd, Scene, trip_by}

@@ -6,17 +6,18 @@ ghost use Rattle.rept_report.specs.Soundness.{HasNoExecution};
 ghost use Rattle.rept_report.specs.declared.conflict.ConflictKind.{ConflictKind};
 ghost use Rattle.rept_found.specs.Trip.Executed.{HasNoHistory};
 ghost use Rattle.rept_found.specs.Trip.Trip.{setting_on};
-ghost use Rattle.rept_analysis.specs.Kept.{answers};
+ghost use Rattle.rept_facts.specs.Kept.{answers};
 ghost use Rattle.rept_analysis.specs.Logged.{IsLogOf};
-ghost use Rattle.rept_analysis.specs.State.{IsLined, path_of, reader, setting_of, state_of};
+ghost use Rattle.rept_facts.specs.State.{IsLined, path_of, reader, setting_of, state_of};
 ghost use Rattle.rept_found.specs.Crash.{means};
 ghost use Rattle.rept_found.specs.View.{IsFoundIn, read_in, scene_in, trip_in};
 
 use crate::ends::{RunEnds, ThreadEnds};
 use crate::prepared::Prepared;
-use rept_analysis::{Analysis, Stop};
+use rept_analysis::Analysis;
 use rept_dump::Dump;
 use rept_extents::RunRows;
+use rept_facts::Stop;
 use rept_log::LastValues;
 use rept_reason::RowRules;
 use rept_report::Reaches;
@@ -43,9 +44,9 @@ impl<'a, W: Transfer, R: RowRules> Model for AnalysedCrash<'a, W, R> {
 
     ghost Value = { CrashView W R };
 
-    ghost view = { λ f. record { analysis = f.analysis; ends = f.ends.now; program = exe_of f.dump.now; core = core_of f.dump.now } };
+    ghost view = { λ f. record { analysis = f.analysis.propagation.facts; ends = f.ends.now; program = exe_of f.dump.now; core = core_of f.dump.now } };
 
-    ghost invariant = { λ f. (f.analysis.complete ≡ true) × IsOfRun (record { analysis = f.analysis; ends = f.ends.now; program = exe_of f.dump.now; core = core_of f.dump.now }) × IsCourseOf f.ends.now.course f.paths.now.ways };
+    ghost invariant = { λ f. (f.analysis.propagation.facts.complete ≡ true) × IsOfRun (record { analysis = f.analysis.propagation.facts; ends = f.ends.now; program = exe_of f.dump.now; core = core_of f.dump.now }) × IsCourseOf f.ends.now.course f.paths.now.ways };
 }
 
 /// Learns all that follows. Where each moment leads on to the one of the next number alone, as of
@@ -82,14 +83,14 @@ pub fn search<'a, W: Transfer, R: RowRules>(
 fn refined<'a, P: Reaches + Drop, L: LastValues + Drop, B: ByteFacts, W: Transfer, R: RowRules>(
     analysis: Analysis<'a, P, L, B, W, R>,
 ) -> Result<Analysis<'a, P, L, B, W, R>, Stop>
-    ensures path { IfOk result (λ a. path_of (reader P.timeline L.values) W.sets W.moves R.rules a ≡ path_of (reader P.timeline L.values) W.sets W.moves R.rules analysis.entry) }
-    ensures complete { IfOk result (λ a. a.complete ≡ true) }
-    ensures report { IfOk result (λ a. IsReport (setting_of (reader P.timeline L.values) W.sets W.moves R.rules a) (answers (state_of (reader P.timeline L.values) W.sets W.moves R.rules B.store a))) }
-    ensures log { IfOk result (λ a. IsLogOf (setting_of (reader P.timeline L.values) W.sets W.moves R.rules a) (answers (state_of (reader P.timeline L.values) W.sets W.moves R.rules B.store a)) a.known.log) }
-    ensures conflict { (kind : ConflictKind) → result ≡ Err (Stop.Conflict kind) → ClosureHas (setting_of (reader P.timeline L.values) W.sets W.moves R.rules analysis.entry) kind }
-    ensures impossible { (kind : ConflictKind) → result ≡ Err (Stop.Conflict kind) → HasNoExecution (setting_of (reader P.timeline L.values) W.sets W.moves R.rules analysis.entry) }
-    ensures joins { B.JOINS ≡ true → IsLined (P.timeline analysis.entry.paths) → result ≡ Err Stop.OutOfMemory → ⊥ }
-    ensures exact { B.JOINS ≡ true → IsLined (P.timeline analysis.entry.paths) → IsConsistent (setting_of (reader P.timeline L.values) W.sets W.moves R.rules analysis.entry) → IsOk result }
+    ensures path { IfOk result (λ a. path_of (reader P.timeline L.values) W.sets W.moves R.rules a.propagation.facts ≡ path_of (reader P.timeline L.values) W.sets W.moves R.rules analysis.entry.propagation.facts) }
+    ensures complete { IfOk result (λ a. a.propagation.facts.complete ≡ true) }
+    ensures report { IfOk result (λ a. IsReport (setting_of (reader P.timeline L.values) W.sets W.moves R.rules a.propagation.facts) (answers (state_of (reader P.timeline L.values) W.sets W.moves R.rules B.store a.propagation.facts))) }
+    ensures log { IfOk result (λ a. IsLogOf (setting_of (reader P.timeline L.values) W.sets W.moves R.rules a.propagation.facts) (answers (state_of (reader P.timeline L.values) W.sets W.moves R.rules B.store a.propagation.facts)) a.propagation.facts.known.log) }
+    ensures conflict { (kind : ConflictKind) → result ≡ Err (Stop.Conflict kind) → ClosureHas (setting_of (reader P.timeline L.values) W.sets W.moves R.rules analysis.entry.propagation.facts) kind }
+    ensures impossible { (kind : ConflictKind) → result ≡ Err (Stop.Conflict kind) → HasNoExecution (setting_of (reader P.timeline L.values) W.sets W.moves R.rules analysis.entry.propagation.facts) }
+    ensures joins { B.JOINS ≡ true → IsLined (P.timeline analysis.entry.propagation.facts.paths) → result ≡ Err Stop.OutOfMemory → ⊥ }
+    ensures exact { B.JOINS ≡ true → IsLined (P.timeline analysis.entry.propagation.facts.paths) → IsConsistent (setting_of (reader P.timeline L.values) W.sets W.moves R.rules analysis.entry.propagation.facts) → IsOk result }
 {
     let mut analysis = analysis;
     match analysis.refine() {

@@ -37,9 +37,9 @@ impl<'a, W: Transfer, R: RowRules> Model for Prepared<'a, W, R> {
 
     ghost Value = { CrashView W R };
 
-    ghost view = { λ p. record { analysis = p.analysis; ends = p.ends.now; program = exe_of p.dump.now; core = core_of p.dump.now } };
+    ghost view = { λ p. record { analysis = p.analysis.propagation.facts; ends = p.ends.now; program = exe_of p.dump.now; core = core_of p.dump.now } };
 
-    ghost invariant = { λ p. IsOfRun (record { analysis = p.analysis; ends = p.ends.now; program = exe_of p.dump.now; core = core_of p.dump.now }) × IsCourseOf p.ends.now.course p.paths.now.ways };
+    ghost invariant = { λ p. IsOfRun (record { analysis = p.analysis.propagation.facts; ends = p.ends.now; program = exe_of p.dump.now; core = core_of p.dump.now }) × IsCourseOf p.ends.now.course p.paths.now.ways };
 }
 
 /// Takes the memory with which learning what follows begins, from the paths of a sound run, the

@@ -2,8 +2,8 @@
 
 ghost use Rattle.std.specs.Prelude.{◌≡◌, ◌≤◌, true, Some};
 ghost use Rattle.rept_reason.specs.Facts.{register_known};
-ghost use Rattle.rept_analysis.specs.Kept.{answers};
-ghost use Rattle.rept_analysis.specs.State.{reader, state_of};
+ghost use Rattle.rept_facts.specs.Kept.{answers};
+ghost use Rattle.rept_facts.specs.State.{reader, state_of};
 
 use crate::code::code_byte;
 use crate::found::AnalysedCrash;
@@ -27,7 +27,7 @@ impl<'a, W: Transfer, R: RowRules> AnalysedCrash<'a, W, R> {
     ghost use Rattle.rept_moments.specs.Courses.{seen_in, IsCourseOf};
     ghost use Rattle.rept_moments.specs.Points.{points_in};
     ghost use Rattle.rept_report.specs.Moments.{AreMoments};
-    ghost use Rattle.rept_analysis.specs.Kept.{answers};
+    ghost use Rattle.rept_facts.specs.Kept.{answers};
     ghost use Rattle.rept_found.specs.Telling.{shown_on};
     ghost use Rattle.rept_found.specs.Crash.{means};
     ghost use Rattle.rept_found.specs.View.{scene_in, set_in, state_in, trip_in};
@@ -54,7 +54,7 @@ impl<'a, W: Transfer, R: RowRules> AnalysedCrash<'a, W, R> {
 
 impl<'a, W: Transfer, R: RowRules> Findings for AnalysedCrash<'a, W, R> {
     ghost use Rattle.rept_report.specs.Why.{IsReason};
-    ghost use Rattle.rept_analysis.specs.Kept.{answers};
+    ghost use Rattle.rept_facts.specs.Kept.{answers};
     ghost use Rattle.rept_found.specs.Trip.Trip.{setting_on};
     ghost use Rattle.rept_found.specs.Telling.{shown_on};
     ghost use Rattle.rept_found.specs.Crash.{means};
@@ -163,8 +163,8 @@ fn known_register<P: Reaches + Drop, L: LastValues + Drop, B: ByteFacts, W: Tran
     point: u32,
     register: Reg,
 ) -> Option<u32>
-    requires { point ≤ (P.timeline analysis.now.paths).legs.count }
-    ensures { analysis.now.complete ≡ true → result ≡ register_known (answers (state_of (reader P.timeline L.values) W.sets W.moves R.rules B.store analysis.now)) point register }
+    requires { point ≤ (P.timeline analysis.now.propagation.facts.paths).legs.count }
+    ensures { analysis.now.propagation.facts.complete ≡ true → result ≡ register_known (answers (state_of (reader P.timeline L.values) W.sets W.moves R.rules B.store analysis.now.propagation.facts)) point register }
 {
     analysis.account();
     analysis.reg(point, register).as_exact()

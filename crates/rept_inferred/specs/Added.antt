@@ -6,7 +6,7 @@ use Rattle.rept_isa.specs.declared.instr.Instr.{Instr}
 use Rattle.rept_isa.specs.declared.instr.Instr.TheVariants.{Load}
 use Rattle.rept_isa.specs.declared.row.StepRow.{StepRow}
 use Rattle.rept_isa.specs.Numbers.{beside, plus}
-use Rattle.rept_analysis.specs.Sums.{count_true, sum_to}
+use Rattle.rept_facts.specs.Sums.{count_true, sum_to}
 use Rattle.rept_known.specs.declared.both.Both.{Both}
 use Rattle.rept_known.specs.Both.{both_sets}
 use Rattle.rept_infer.specs.Holding.{Holding}

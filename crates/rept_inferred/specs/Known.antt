@@ -2,7 +2,7 @@
 use Rattle.std.specs.Prelude.{ℕ, nat_lt, if◌then◌else◌, Option, None, Some}
 use Rattle.rept_known.specs.declared.both.Both.{Both}
 use Rattle.rept_known.specs.Both.{both_sets}
-use Rattle.rept_analysis.specs.Kept.{answers}
+use Rattle.rept_facts.specs.Kept.{answers}
 use Rattle.rept_findings.specs.Shown.{Shown}
 use Rattle.rept_found.specs.Crash.{Means}
 use Rattle.rept_found.specs.Telling.{shown_on}

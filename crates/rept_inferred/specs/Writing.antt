@@ -8,7 +8,7 @@ use Rattle.rept_isa.specs.declared.instr.Instr.TheVariants.{Store}
 use Rattle.rept_isa.specs.declared.row.StepRow.{StepRow}
 use Rattle.rept_isa.specs.Numbers.{word}
 use Rattle.rept_machine.specs.Arithmetic.{store_width}
-use Rattle.rept_analysis.specs.Sums.{count_true}
+use Rattle.rept_facts.specs.Sums.{count_true}
 use Rattle.rept_known.specs.declared.both.Both.{Both}
 use Rattle.rept_known.specs.Both.{both_has, both_sets}
 use Rattle.rept_report.specs.declared.counts.Counts.{Counts}

@@ -1,7 +1,7 @@
 //! How much was inferred beyond a report.
 
 ghost use Rattle.std.specs.Prelude.{◌≡◌, ◌+◌, ◌*◌, ◌<◌, ◌≤◌, length};
-ghost use Rattle.rept_analysis.specs.Sums.{sum_to};
+ghost use Rattle.rept_facts.specs.Sums.{sum_to};
 ghost use Rattle.rept_infer.specs.Path.{path_reader, told_in};
 ghost use Rattle.rept_inferred.specs.Added.{added_at, bytes_added, is_added, is_byte_added, load_added, row_added, step_added, value_by};
 

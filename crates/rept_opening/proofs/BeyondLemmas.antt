@@ -24,7 +24,7 @@ use Rattle.rept_report.specs.Closure.{IsReport}
 use Rattle.rept_report.specs.OneThread.{ThreadPath, path_setting}
 use Rattle.rept_report.specs.Setting.{Setting, way_of}
 use Rattle.rept_report.specs.Why.{IsReason}
-use Rattle.rept_analysis.specs.Kept.{answers}
+use Rattle.rept_facts.specs.Kept.{answers}
 use Rattle.rept_findings.specs.Shown.{SessionTold, Shown, session_told}
 use Rattle.rept_found.specs.Trip.Trip.{Trip, setting_on}
 use Rattle.rept_found.specs.Crash.{Crash, Means, crash_of, means, means_beyond, note_at, path_of, route, scene_of}

@@ -16,7 +16,7 @@ use Rattle.rept_report.specs.Closure.{ClosureHas}
 use Rattle.rept_report.specs.OneThread.{path_setting}
 use Rattle.rept_report.specs.Setting.{Setting}
 use Rattle.rept_report.specs.declared.conflict.ConflictKind.{ConflictKind}
-use Rattle.rept_analysis.specs.Kept.{answers}
+use Rattle.rept_facts.specs.Kept.{answers}
 use Rattle.rept_found.specs.Trip.Executed.{HasNoHistory}
 use Rattle.rept_found.specs.Trip.Trip.{Trip, setting_on}
 use Rattle.rept_found.specs.Crash.{Crash, Means, Scene, crash_of, note_at, path_of, scene_of, setting, route}

@@ -12,8 +12,8 @@ ghost use Rattle.rept_opening.specs.TraceRun.{FitsDump};
 
 use crate::refusal::Refusal;
 use rept_amo::Atomic;
-use rept_analysis::Stop;
 use rept_dump::Dump;
+use rept_facts::Stop;
 use rept_found::{AnalysedCrash, ThreadEnds, name_conflict, prepare, reports_are_true, search};
 use rept_span::Transfer;
 use rept_steps::Run;

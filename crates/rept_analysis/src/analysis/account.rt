@@ -2,8 +2,8 @@
 
 ghost use Rattle.std.specs.Prelude.{◌≡◌, ◌≤◌, ◌<◌, ℕ, Some, true};
 ghost use Rattle.rept_reason.specs.Facts.{register_known};
-ghost use Rattle.rept_analysis.specs.State.{setting_of, state_of, reader};
-ghost use Rattle.rept_analysis.specs.Kept.{answers, register_answer};
+ghost use Rattle.rept_facts.specs.State.{setting_of, state_of, reader};
+ghost use Rattle.rept_facts.specs.Kept.{answers, register_answer};
 ghost use Rattle.rept_analysis.specs.Logged.{IsLogOf};
 
 use super::Analysis;
@@ -24,11 +24,11 @@ impl<'a, P: Reaches + Drop, L: LastValues + Drop, B: ByteFacts, W: Transfer, R: 
     /// For callers whose contracts speak of the report: what `reg` answers of registers is what the
     /// report has, once all is learnt, and the facts were learnt one by one. The call does nothing.
     pub fn account(&self)
-        ensures few { (P.timeline self.now.paths).legs.count ≤ 66560 }
-        ensures last { (p r v : ℕ) → L.values self.now.last p r ≡ Some v → r < 32 }
-        ensures registers { self.now.complete ≡ true → (p r : ℕ) → register_answer (state_of (reader P.timeline L.values) W.sets W.moves R.rules B.store self.now) p r ≡ register_known (answers (state_of (reader P.timeline L.values) W.sets W.moves R.rules B.store self.now)) p r }
-        ensures log { self.now.complete ≡ true → IsLogOf (setting_of (reader P.timeline L.values) W.sets W.moves R.rules self.now) (answers (state_of (reader P.timeline L.values) W.sets W.moves R.rules B.store self.now)) self.now.known.log }
+        ensures few { (P.timeline self.now.propagation.facts.paths).legs.count ≤ 66560 }
+        ensures last { (p r v : ℕ) → L.values self.now.propagation.facts.last p r ≡ Some v → r < 32 }
+        ensures registers { self.now.propagation.facts.complete ≡ true → (p r : ℕ) → register_answer (state_of (reader P.timeline L.values) W.sets W.moves R.rules B.store self.now.propagation.facts) p r ≡ register_known (answers (state_of (reader P.timeline L.values) W.sets W.moves R.rules B.store self.now.propagation.facts)) p r }
+        ensures log { self.now.propagation.facts.complete ≡ true → IsLogOf (setting_of (reader P.timeline L.values) W.sets W.moves R.rules self.now.propagation.facts) (answers (state_of (reader P.timeline L.values) W.sets W.moves R.rules B.store self.now.propagation.facts)) self.now.propagation.facts.known.log }
     {
-        let _ended = self.ended();
+        let _ended = self.propagation.facts.ended();
     }
 }

@@ -1,17 +1,16 @@
 //! How much an analysis answers.
 
-ghost use Rattle.std.specs.Prelude.{◌≡◌, ◌+◌, ◌*◌, ◌<◌, ◌≤◌, ℕ, length, true, is_some, slice_get};
-ghost use Rattle.rept_reason.specs.Facts.{told, register_known, register_fact};
+ghost use Rattle.std.specs.Prelude.{◌≡◌, ◌+◌, ◌*◌, ◌<◌, ◌≤◌, true, is_some};
+ghost use Rattle.rept_reason.specs.Facts.{told};
 ghost use Rattle.rept_report.specs.Log.{oldest};
-ghost use Rattle.rept_analysis.specs.State.{setting_of, state_of, reader};
-ghost use Rattle.rept_analysis.specs.Kept.{answers};
+ghost use Rattle.rept_facts.specs.State.{setting_of, state_of, reader};
+ghost use Rattle.rept_facts.specs.Kept.{answers};
 ghost use Rattle.rept_isa.specs.Operands.{is_call};
-ghost use Rattle.rept_analysis.specs.Counts.{base_of, is_store, row_is, rows_below, calls_below, stores_below, known_at, known_below, IsCounted};
+ghost use Rattle.rept_facts.specs.Counts.{base_of, is_store, row_is, rows_below, calls_below, stores_below, known_at, known_below, IsCounted};
 
 use super::Analysis;
 use rept_isa::{Instr, Reg, is_call, reads, register};
 use rept_log::LastValues;
-use rept_partial::Flat;
 use rept_reason::RowRules;
 use rept_report::{Counts, Paths, Reaches};
 use rept_span::Transfer;
@@ -35,24 +34,15 @@ impl<'a, P: Reaches + Drop, L: LastValues + Drop, B: ByteFacts, W: Transfer, R: 
     W,
     R,
 > {
-    /// Whether the value of a register other than x0 is answered.
-    fn is_told(&self, point: u32, r: Reg) -> bool
-        requires { point ≤ (P.timeline self.now.paths).legs.count }
-        ensures { result ≡ is_some (register_fact (told (oldest self.now.shown self.now.known.log)) point r) }
-    {
-        let _paths = &self.paths;
-        r.number() != 0 && self.known.is_known_below(self.shown, point, r)
-    }
-
     /// How many registers other than x0 are answered at a point.
     fn told_at(&self, point: u32) -> u32
-        requires { point ≤ (P.timeline self.now.paths).legs.count }
-        ensures value { result ≡ known_at (told (oldest self.now.shown self.now.known.log)) point 32 }
+        requires { point ≤ (P.timeline self.now.propagation.facts.paths).legs.count }
+        ensures value { result ≡ known_at (told (oldest self.now.propagation.facts.shown self.now.propagation.facts.known.log)) point 32 }
         ensures few { result ≤ 32 }
     {
         let mut sum = 0;
         for r in 0..32u8 {
-            if self.is_told(point, register(r)) {
+            if self.propagation.facts.is_told(point, register(r)) {
                 sum += 1;
             }
         }
@@ -61,9 +51,9 @@ impl<'a, P: Reaches + Drop, L: LastValues + Drop, B: ByteFacts, W: Transfer, R: 
 
     /// How many are at all points.
     fn told(&self) -> u32
-        ensures { result ≡ known_below (told (oldest self.now.shown self.now.known.log)) ((P.timeline self.now.paths).legs.count + 1) }
+        ensures { result ≡ known_below (told (oldest self.now.propagation.facts.shown self.now.propagation.facts.known.log)) ((P.timeline self.now.propagation.facts.paths).legs.count + 1) }
     {
-        let count = self.count();
+        let count = self.propagation.facts.count();
         let mut sum = 0;
         for point in 0..count + 1 {
             sum += self.told_at(point);
@@ -73,16 +63,16 @@ impl<'a, P: Reaches + Drop, L: LastValues + Drop, B: ByteFacts, W: Transfer, R: 
 
     /// Whether a row leads from a point.
     fn is_row(&self, i: u32) -> bool
-        ensures { result ≡ is_some ((P.timeline self.now.paths).legs.row i) }
+        ensures { result ≡ is_some ((P.timeline self.now.propagation.facts.paths).legs.row i) }
     {
-        self.row(i).is_some()
+        self.propagation.facts.row(i).is_some()
     }
 
     /// How many rows there are.
     fn steps(&self) -> u32
-        ensures { result ≡ rows_below (P.timeline self.now.paths).legs ((P.timeline self.now.paths).legs.count) }
+        ensures { result ≡ rows_below (P.timeline self.now.propagation.facts.paths).legs ((P.timeline self.now.propagation.facts.paths).legs.count) }
     {
-        let count = self.count();
+        let count = self.propagation.facts.count();
         let mut sum = 0;
         for i in 0..count {
             if self.is_row(i) {
@@ -94,9 +84,9 @@ impl<'a, P: Reaches + Drop, L: LastValues + Drop, B: ByteFacts, W: Transfer, R: 
 
     /// Whether row i, if there is one, is an environment call.
     fn is_call_row(&self, i: u32) -> bool
-        ensures { result ≡ row_is ((P.timeline self.now.paths).legs.row i) is_call }
+        ensures { result ≡ row_is ((P.timeline self.now.propagation.facts.paths).legs.row i) is_call }
     {
-        match self.row(i) {
+        match self.propagation.facts.row(i) {
             None => false,
             Some(row) => is_call(&row.instr),
         }
@@ -104,9 +94,9 @@ impl<'a, P: Reaches + Drop, L: LastValues + Drop, B: ByteFacts, W: Transfer, R: 
 
     /// How many rows are environment calls.
     fn calls(&self) -> u32
-        ensures { result ≡ calls_below (P.timeline self.now.paths).legs ((P.timeline self.now.paths).legs.count) }
+        ensures { result ≡ calls_below (P.timeline self.now.propagation.facts.paths).legs ((P.timeline self.now.propagation.facts.paths).legs.count) }
     {
-        let count = self.count();
+        let count = self.propagation.facts.count();
         let mut sum = 0;
         for i in 0..count {
             if self.is_call_row(i) {
@@ -116,27 +106,15 @@ impl<'a, P: Reaches + Drop, L: LastValues + Drop, B: ByteFacts, W: Transfer, R: 
         sum
     }
 
-    /// Whether the value of a register before row i is answered.
-    fn is_base_known(&self, i: u32, r: Reg) -> bool
-        requires { i ≤ (P.timeline self.now.paths).legs.count }
-        ensures { result ≡ is_some (register_known (told (oldest self.now.shown self.now.known.log)) i r) }
-    {
-        let _paths = &self.paths;
-        match self.known.known_below(self.shown, i, r) {
-            Flat::Known(_) => true,
-            Flat::Unknown => false,
-        }
-    }
-
     /// Whether row i is a store whose base is known, or isn't.
     fn is_store(&self, known: bool, i: u32) -> bool
-        requires { i < (P.timeline self.now.paths).legs.count }
-        ensures { result ≡ row_is ((P.timeline self.now.paths).legs.row i) (is_store known (told (oldest self.now.shown self.now.known.log)) i) }
+        requires { i < (P.timeline self.now.propagation.facts.paths).legs.count }
+        ensures { result ≡ row_is ((P.timeline self.now.propagation.facts.paths).legs.row i) (is_store known (told (oldest self.now.propagation.facts.shown self.now.propagation.facts.known.log)) i) }
     {
-        match self.row(i) {
+        match self.propagation.facts.row(i) {
             None => false,
             Some(row) => match base(&row.instr) {
-                Some(r) => self.is_base_known(i, r) == known,
+                Some(r) => self.propagation.facts.is_base_known(i, r) == known,
                 None => false,
             },
         }
@@ -144,9 +122,9 @@ impl<'a, P: Reaches + Drop, L: LastValues + Drop, B: ByteFacts, W: Transfer, R: 
 
     /// How many rows are such stores.
     fn stores(&self, known: bool) -> u32
-        ensures { result ≡ stores_below (P.timeline self.now.paths).legs (told (oldest self.now.shown self.now.known.log)) known ((P.timeline self.now.paths).legs.count) }
+        ensures { result ≡ stores_below (P.timeline self.now.propagation.facts.paths).legs (told (oldest self.now.propagation.facts.shown self.now.propagation.facts.known.log)) known ((P.timeline self.now.propagation.facts.paths).legs.count) }
     {
-        let count = self.count();
+        let count = self.propagation.facts.count();
         let mut sum = 0;
         for i in 0..count {
             if self.is_store(known, i) {
@@ -158,10 +136,10 @@ impl<'a, P: Reaches + Drop, L: LastValues + Drop, B: ByteFacts, W: Transfer, R: 
 
     /// How many rows there are, of which kind, and how much is answered.
     pub fn counts(&self) -> Counts
-        ensures shown { IsCounted (setting_of (reader P.timeline L.values) W.sets W.moves R.rules self.now) (told (oldest self.now.shown self.now.known.log)) result }
-        ensures ended { self.now.complete ≡ true → IsCounted (setting_of (reader P.timeline L.values) W.sets W.moves R.rules self.now) (answers (state_of (reader P.timeline L.values) W.sets W.moves R.rules B.store self.now)) result }
+        ensures shown { IsCounted (setting_of (reader P.timeline L.values) W.sets W.moves R.rules self.now.propagation.facts) (told (oldest self.now.propagation.facts.shown self.now.propagation.facts.known.log)) result }
+        ensures ended { self.now.propagation.facts.complete ≡ true → IsCounted (setting_of (reader P.timeline L.values) W.sets W.moves R.rules self.now.propagation.facts) (answers (state_of (reader P.timeline L.values) W.sets W.moves R.rules B.store self.now.propagation.facts)) result }
     {
-        let _ended = self.ended();
+        let _ended = self.propagation.facts.ended();
         Counts {
             steps: self.steps(),
             calls: self.calls(),

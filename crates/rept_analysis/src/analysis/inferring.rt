@@ -1,6 +1,8 @@
 //! What a row lets one conclude.
 
-ghost use Rattle.std.specs.Prelude.{◌≡◌, ◌≤◌, ⊤, set, ◌≢◌, ◌+◌, ◌<◌, ◌↔◌, length, true, false, IsTrue, IfOk, IfErr, Some, None, Ok, Err, slice_get};
+ghost use Rattle.std.specs.Prelude.{◌≡◌, ◌≤◌, false, IfOk, IfErr, ⊤, ◌≢◌, ◌+◌, ◌<◌, ◌↔◌, length, true, IsTrue, Some, None, Ok, Err, slice_get};
+ghost use Rattle.rept_facts.specs.State.{state_of, reader};
+ghost use Rattle.rept_facts.specs.Inferring.{IsTracked, Grows, HasInferred, IsHalt, AreWritings, KeptBelow, IsKeptAt, AreTrackedFrom, IsConclusion, AreConclusions, InferredBelow, IsRowClosed, IsRowInferred, KnowsInferred, InferredKnown, IsRowTracked, IsUncut, IsRowAddress, AreRowAddresses};
 ghost use Rattle.rept_isa.specs.declared.row.StepRow.{StepRow};
 ghost use Rattle.rept_isa.specs.Operands.{written_by};
 ghost use Rattle.rept_reason.specs.declared.fact.Cell.{Cell};
@@ -8,26 +10,20 @@ ghost use Rattle.rept_reason.specs.declared.fact.Cell.TheVariants.{Register, Byt
 ghost use Rattle.rept_reason.specs.declared.view.inferred.Conclusion.{Conclusion};
 ghost use Rattle.rept_log.specs.Around.{around};
 ghost use Rattle.rept_writing.specs.declared.passes.pass.Pass.{Pass};
-ghost use Rattle.rept_analysis.specs.Cells.{cells_known};
-ghost use Rattle.rept_analysis.specs.Kept.{IsPass};
-ghost use Rattle.rept_analysis.specs.State.{state_of, with_infers, with_inferred, reader};
-ghost use Rattle.rept_analysis.specs.Inferring.{IsTracked, Grows, HasInferred, IsHalt, KeptBelow, IsKeptAt, AreTrackedFrom, IsConclusion, AreConclusions, InferredBelow, IsRowClosed, IsRowInferred, KnowsInferred, InferredKnown, IsRowTracked, IsUncut, AreWritings, IsRowAddress, AreRowAddresses};
+ghost use Rattle.rept_facts.specs.Cells.{cells_known};
 ghost use Rattle.rept_log.specs.Known.{known_of};
-ghost use Rattle.rept_analysis.specs.Told.{Tracks};
 
 use super::Analysis;
-use super::likeness::WORD;
-use crate::halt::LearnError;
-use crate::rows::{address, is_store};
+use rept_facts::{LearnError, address, is_store};
 use rept_isa::{Instr, Reg, StepRow, reads, writes};
+use rept_log::LastValues;
 use rept_log::views::point_at;
-use rept_log::{Around, LastValues};
+use rept_propagate::WORD;
 use rept_reason::{Cell, Conclusion, RowRules, When};
 use rept_report::Reaches;
 use rept_span::Transfer;
 use rept_versions::ByteFacts;
 use rept_writing::{Pass, is_with};
-use smallvec::SmallVec;
 
 /// Whether the instruction leaves the register as it is.
 fn keeps(instr: &Instr, r: Reg) -> bool
@@ -64,39 +60,62 @@ impl<'a, P: Reaches + Drop, L: LastValues + Drop, B: ByteFacts, W: Transfer, R: 
     W,
     R,
 > {
+    /// The byte of the dump at a tracked address, over the last rows that may not write it; nothing
+    /// in the first round.
+    fn infer_dump(&mut self, a: u32) -> Result<bool, LearnError>
+        requires tracked { IsTracked a (state_of (reader P.timeline L.values) W.sets W.moves R.rules B.store self.old.propagation.facts) }
+        requires writings { AreWritings (state_of (reader P.timeline L.values) W.sets W.moves R.rules B.store self.old.propagation.facts) }
+        requires open { self.old.propagation.facts.complete ≡ false }
+        ensures grows { Grows (state_of (reader P.timeline L.values) W.sets W.moves R.rules B.store self.old.propagation.facts) (state_of (reader P.timeline L.values) W.sets W.moves R.rules B.store self.new.propagation.facts) }
+        ensures inferred { IfOk result (λ learnt. HasInferred (state_of (reader P.timeline L.values) W.sets W.moves R.rules B.store self.old.propagation.facts) (state_of (reader P.timeline L.values) W.sets W.moves R.rules B.store self.new.propagation.facts) learnt (λ _. ⊤)) }
+        ensures halt { IfErr result (λ h. IsHalt (state_of (reader P.timeline L.values) W.sets W.moves R.rules B.store self.new.propagation.facts) h) }
+    {
+        if self.propagation.facts.is_first_round() {
+            return Ok(false);
+        }
+        let point = self.propagation.facts.end();
+        let told = self.infer_last_byte(a)?;
+        let carried = self.propagation.carry_around(a, point)?;
+        if !carried {
+            return Ok(told);
+        }
+        let away = self.propagation.carry_away(a, point)?;
+        Ok(told | carried | away)
+    }
+
     /// The value of a register that row i keeps, onward and back.
     fn carry(&mut self, i: u32, row: &StepRow, r: Reg) -> Result<bool, LearnError>
-        requires inside { i < (P.timeline self.old.paths).legs.count }
-        requires row { (P.timeline self.old.paths).legs.row i ≡ Some row.now }
-        requires open { self.old.complete ≡ false }
-        ensures grows { Grows (state_of (reader P.timeline L.values) W.sets W.moves R.rules B.store self.old) (state_of (reader P.timeline L.values) W.sets W.moves R.rules B.store self.new) }
-        ensures inferred { IfOk result (λ learnt. HasInferred (state_of (reader P.timeline L.values) W.sets W.moves R.rules B.store self.old) (state_of (reader P.timeline L.values) W.sets W.moves R.rules B.store self.new) learnt (λ s. 0 < r → written_by row.now.instr ≢ Some r → IsKeptAt i r s)) }
-        ensures halt { IfErr result (λ h. IsHalt (state_of (reader P.timeline L.values) W.sets W.moves R.rules B.store self.new) h) }
+        requires inside { i < (P.timeline self.old.propagation.facts.paths).legs.count }
+        requires row { (P.timeline self.old.propagation.facts.paths).legs.row i ≡ Some row.now }
+        requires open { self.old.propagation.facts.complete ≡ false }
+        ensures grows { Grows (state_of (reader P.timeline L.values) W.sets W.moves R.rules B.store self.old.propagation.facts) (state_of (reader P.timeline L.values) W.sets W.moves R.rules B.store self.new.propagation.facts) }
+        ensures inferred { IfOk result (λ learnt. HasInferred (state_of (reader P.timeline L.values) W.sets W.moves R.rules B.store self.old.propagation.facts) (state_of (reader P.timeline L.values) W.sets W.moves R.rules B.store self.new.propagation.facts) learnt (λ s. 0 < r → written_by row.now.instr ≢ Some r → IsKeptAt i r s)) }
+        ensures halt { IfErr result (λ h. IsHalt (state_of (reader P.timeline L.values) W.sets W.moves R.rules B.store self.new.propagation.facts) h) }
     {
         if !keeps(&row.instr, r) {
             return Ok(false);
         }
-        let _count = self.count();
-        let before = self.known(i, r);
-        let onward = self.learn_if(i + 1, r, before)?;
-        let after = self.known(i + 1, r);
-        let back = self.learn_if(i, r, after)?;
+        let _count = self.propagation.facts.count();
+        let before = self.propagation.facts.known(i, r);
+        let onward = self.propagation.facts.learn_if(i + 1, r, before)?;
+        let after = self.propagation.facts.known(i + 1, r);
+        let back = self.propagation.facts.learn_if(i, r, after)?;
         Ok(onward | back)
     }
 
     /// The values of all registers that row i keeps.
     fn carry_all(&mut self, i: u32, row: &StepRow) -> Result<bool, LearnError>
-        requires inside { i < (P.timeline self.old.paths).legs.count }
-        requires row { (P.timeline self.old.paths).legs.row i ≡ Some row.now }
-        requires open { self.old.complete ≡ false }
-        ensures grows { Grows (state_of (reader P.timeline L.values) W.sets W.moves R.rules B.store self.old) (state_of (reader P.timeline L.values) W.sets W.moves R.rules B.store self.new) }
-        ensures inferred { IfOk result (λ learnt. HasInferred (state_of (reader P.timeline L.values) W.sets W.moves R.rules B.store self.old) (state_of (reader P.timeline L.values) W.sets W.moves R.rules B.store self.new) learnt (KeptBelow 32 row.now i)) }
-        ensures halt { IfErr result (λ h. IsHalt (state_of (reader P.timeline L.values) W.sets W.moves R.rules B.store self.new) h) }
+        requires inside { i < (P.timeline self.old.propagation.facts.paths).legs.count }
+        requires row { (P.timeline self.old.propagation.facts.paths).legs.row i ≡ Some row.now }
+        requires open { self.old.propagation.facts.complete ≡ false }
+        ensures grows { Grows (state_of (reader P.timeline L.values) W.sets W.moves R.rules B.store self.old.propagation.facts) (state_of (reader P.timeline L.values) W.sets W.moves R.rules B.store self.new.propagation.facts) }
+        ensures inferred { IfOk result (λ learnt. HasInferred (state_of (reader P.timeline L.values) W.sets W.moves R.rules B.store self.old.propagation.facts) (state_of (reader P.timeline L.values) W.sets W.moves R.rules B.store self.new.propagation.facts) learnt (KeptBelow 32 row.now i)) }
+        ensures halt { IfErr result (λ h. IsHalt (state_of (reader P.timeline L.values) W.sets W.moves R.rules B.store self.new.propagation.facts) h) }
     {
         let mut learnt = false;
         let mut least = 1;
         while least < 32 {
-            let Some(r) = self.next_differing(i, least) else {
+            let Some(r) = self.propagation.facts.next_differing(i, least) else {
                 return Ok(learnt);
             };
             let new = self.carry(i, row, r)?;
@@ -109,15 +128,15 @@ impl<'a, P: Reaches + Drop, L: LastValues + Drop, B: ByteFacts, W: Transfer, R: 
     /// Tracks an address. Where it wasn't tracked, its byte of the dump is learnt and carried at
     /// once.
     fn track_one(&mut self, a: u32) -> Result<bool, LearnError>
-        requires row { IsRowAddress a (state_of (reader P.timeline L.values) W.sets W.moves R.rules B.store self.old) }
-        requires writings { AreWritings (state_of (reader P.timeline L.values) W.sets W.moves R.rules B.store self.old) }
-        requires open { self.old.complete ≡ false }
-        ensures grows { Grows (state_of (reader P.timeline L.values) W.sets W.moves R.rules B.store self.old) (state_of (reader P.timeline L.values) W.sets W.moves R.rules B.store self.new) }
-        ensures inferred { IfOk result (λ learnt. HasInferred (state_of (reader P.timeline L.values) W.sets W.moves R.rules B.store self.old) (state_of (reader P.timeline L.values) W.sets W.moves R.rules B.store self.new) learnt (IsTracked a)) }
-        ensures halt { IfErr result (λ h. IsHalt (state_of (reader P.timeline L.values) W.sets W.moves R.rules B.store self.new) h) }
-        ensures tracked { IfOk result (λ _. IsTracked a (state_of (reader P.timeline L.values) W.sets W.moves R.rules B.store self.new)) }
+        requires row { IsRowAddress a (state_of (reader P.timeline L.values) W.sets W.moves R.rules B.store self.old.propagation.facts) }
+        requires writings { AreWritings (state_of (reader P.timeline L.values) W.sets W.moves R.rules B.store self.old.propagation.facts) }
+        requires open { self.old.propagation.facts.complete ≡ false }
+        ensures grows { Grows (state_of (reader P.timeline L.values) W.sets W.moves R.rules B.store self.old.propagation.facts) (state_of (reader P.timeline L.values) W.sets W.moves R.rules B.store self.new.propagation.facts) }
+        ensures inferred { IfOk result (λ learnt. HasInferred (state_of (reader P.timeline L.values) W.sets W.moves R.rules B.store self.old.propagation.facts) (state_of (reader P.timeline L.values) W.sets W.moves R.rules B.store self.new.propagation.facts) learnt (IsTracked a)) }
+        ensures halt { IfErr result (λ h. IsHalt (state_of (reader P.timeline L.values) W.sets W.moves R.rules B.store self.new.propagation.facts) h) }
+        ensures tracked { IfOk result (λ _. IsTracked a (state_of (reader P.timeline L.values) W.sets W.moves R.rules B.store self.new.propagation.facts)) }
     {
-        match self.track(a) {
+        match self.propagation.facts.track(a) {
             Ok(true) => {
                 let _told = self.infer_dump(a)?;
                 Ok(true)
@@ -129,13 +148,13 @@ impl<'a, P: Reaches + Drop, L: LastValues + Drop, B: ByteFacts, W: Transfer, R: 
 
     /// Tracks so many addresses from one on.
     fn track_from(&mut self, start: u32, count: u32) -> Result<bool, LearnError>
-        requires row { AreRowAddresses start count (state_of (reader P.timeline L.values) W.sets W.moves R.rules B.store self.old) }
-        requires writings { AreWritings (state_of (reader P.timeline L.values) W.sets W.moves R.rules B.store self.old) }
-        requires open { self.old.complete ≡ false }
-        ensures grows { Grows (state_of (reader P.timeline L.values) W.sets W.moves R.rules B.store self.old) (state_of (reader P.timeline L.values) W.sets W.moves R.rules B.store self.new) }
-        ensures inferred { IfOk result (λ learnt. HasInferred (state_of (reader P.timeline L.values) W.sets W.moves R.rules B.store self.old) (state_of (reader P.timeline L.values) W.sets W.moves R.rules B.store self.new) learnt (AreTrackedFrom start count)) }
-        ensures halt { IfErr result (λ h. IsHalt (state_of (reader P.timeline L.values) W.sets W.moves R.rules B.store self.new) h) }
-        ensures tracked { IfOk result (λ _. AreTrackedFrom start count (state_of (reader P.timeline L.values) W.sets W.moves R.rules B.store self.new)) }
+        requires row { AreRowAddresses start count (state_of (reader P.timeline L.values) W.sets W.moves R.rules B.store self.old.propagation.facts) }
+        requires writings { AreWritings (state_of (reader P.timeline L.values) W.sets W.moves R.rules B.store self.old.propagation.facts) }
+        requires open { self.old.propagation.facts.complete ≡ false }
+        ensures grows { Grows (state_of (reader P.timeline L.values) W.sets W.moves R.rules B.store self.old.propagation.facts) (state_of (reader P.timeline L.values) W.sets W.moves R.rules B.store self.new.propagation.facts) }
+        ensures inferred { IfOk result (λ learnt. HasInferred (state_of (reader P.timeline L.values) W.sets W.moves R.rules B.store self.old.propagation.facts) (state_of (reader P.timeline L.values) W.sets W.moves R.rules B.store self.new.propagation.facts) learnt (AreTrackedFrom start count)) }
+        ensures halt { IfErr result (λ h. IsHalt (state_of (reader P.timeline L.values) W.sets W.moves R.rules B.store self.new.propagation.facts) h) }
+        ensures tracked { IfOk result (λ _. AreTrackedFrom start count (state_of (reader P.timeline L.values) W.sets W.moves R.rules B.store self.new.propagation.facts)) }
     {
         let mut learnt = false;
         for k in 0..count {
@@ -148,16 +167,16 @@ impl<'a, P: Reaches + Drop, L: LastValues + Drop, B: ByteFacts, W: Transfer, R: 
 
     /// Tracks the bytes that row i's rules look at.
     fn track_row(&mut self, i: u32, row: &StepRow) -> Result<bool, LearnError>
-        requires inside { i < (P.timeline self.old.paths).legs.count }
-        requires row { (P.timeline self.old.paths).legs.row i ≡ Some row.now }
-        requires writings { AreWritings (state_of (reader P.timeline L.values) W.sets W.moves R.rules B.store self.old) }
-        requires open { self.old.complete ≡ false }
-        ensures grows { Grows (state_of (reader P.timeline L.values) W.sets W.moves R.rules B.store self.old) (state_of (reader P.timeline L.values) W.sets W.moves R.rules B.store self.new) }
-        ensures inferred { IfOk result (λ learnt. HasInferred (state_of (reader P.timeline L.values) W.sets W.moves R.rules B.store self.old) (state_of (reader P.timeline L.values) W.sets W.moves R.rules B.store self.new) learnt (IsRowTracked row.now i)) }
-        ensures halt { IfErr result (λ h. IsHalt (state_of (reader P.timeline L.values) W.sets W.moves R.rules B.store self.new) h) }
-        ensures tracked { IfOk result (λ _. IsRowTracked row.now i (state_of (reader P.timeline L.values) W.sets W.moves R.rules B.store self.new)) }
+        requires inside { i < (P.timeline self.old.propagation.facts.paths).legs.count }
+        requires row { (P.timeline self.old.propagation.facts.paths).legs.row i ≡ Some row.now }
+        requires writings { AreWritings (state_of (reader P.timeline L.values) W.sets W.moves R.rules B.store self.old.propagation.facts) }
+        requires open { self.old.propagation.facts.complete ≡ false }
+        ensures grows { Grows (state_of (reader P.timeline L.values) W.sets W.moves R.rules B.store self.old.propagation.facts) (state_of (reader P.timeline L.values) W.sets W.moves R.rules B.store self.new.propagation.facts) }
+        ensures inferred { IfOk result (λ learnt. HasInferred (state_of (reader P.timeline L.values) W.sets W.moves R.rules B.store self.old.propagation.facts) (state_of (reader P.timeline L.values) W.sets W.moves R.rules B.store self.new.propagation.facts) learnt (IsRowTracked row.now i)) }
+        ensures halt { IfErr result (λ h. IsHalt (state_of (reader P.timeline L.values) W.sets W.moves R.rules B.store self.new.propagation.facts) h) }
+        ensures tracked { IfOk result (λ _. IsRowTracked row.now i (state_of (reader P.timeline L.values) W.sets W.moves R.rules B.store self.new.propagation.facts)) }
     {
-        match self.row_base(i, row) {
+        match self.propagation.facts.row_base(i, row) {
             None => Ok(false),
             Some(base) => {
                 let count = R::places(row).min(4);
@@ -168,46 +187,29 @@ impl<'a, P: Reaches + Drop, L: LastValues + Drop, B: ByteFacts, W: Transfer, R: 
         }
     }
 
-    /// What row i lets one infer.
-    fn list_inferred(&mut self, i: u32, row: &StepRow) -> SmallVec<Conclusion, 16>
-        requires inside { i < (P.timeline self.old.paths).legs.count }
-        requires row { (P.timeline self.old.paths).legs.row i ≡ Some row.now }
-        requires open { self.old.complete ≡ false }
-        ensures list { result.items ≡ R.rules.infer row.now (around (P.timeline self.old.paths).moments (known_of B.store self.old.known) i) }
-        ensures same { (state_of (reader P.timeline L.values) W.sets W.moves R.rules B.store self.new) ≡ with_infers (state_of (reader P.timeline L.values) W.sets W.moves R.rules B.store self.old) self.new.work.infers }
-        ensures once { self.new.work.infers ≤ self.old.work.infers + 1 }
-    {
-        let _len = self.known.len();
-        let _paths = &self.paths;
-        let view = Around {
-            facts: &self.known,
-            paths: &self.paths,
-            row: i,
-        };
-        self.rules.infer(self.alloc, row, &view)
-    }
-
     /// Adds a conclusion of row i.
     fn conclude(&mut self, i: u32, inferred: &Conclusion) -> Result<bool, LearnError>
-        requires inside { i < (P.timeline self.old.paths).legs.count }
-        requires conclusion { IsConclusion i inferred.now (state_of (reader P.timeline L.values) W.sets W.moves R.rules B.store self.old) }
-        requires open { self.old.complete ≡ false }
-        ensures grows { Grows (state_of (reader P.timeline L.values) W.sets W.moves R.rules B.store self.old) (state_of (reader P.timeline L.values) W.sets W.moves R.rules B.store self.new) }
-        ensures inferred { IfOk result (λ learnt. HasInferred (state_of (reader P.timeline L.values) W.sets W.moves R.rules B.store self.old) (state_of (reader P.timeline L.values) W.sets W.moves R.rules B.store self.new) learnt (KnowsInferred i inferred.now)) }
-        ensures known { IfOk result (λ _. KnowsInferred i inferred.now (state_of (reader P.timeline L.values) W.sets W.moves R.rules B.store self.new)) }
-        ensures still { self.new.work ≡ self.old.work }
-        ensures halt { IfErr result (λ h. IsHalt (state_of (reader P.timeline L.values) W.sets W.moves R.rules B.store self.new) h) }
+        requires inside { i < (P.timeline self.old.propagation.facts.paths).legs.count }
+        requires conclusion { IsConclusion i inferred.now (state_of (reader P.timeline L.values) W.sets W.moves R.rules B.store self.old.propagation.facts) }
+        requires open { self.old.propagation.facts.complete ≡ false }
+        ensures grows { Grows (state_of (reader P.timeline L.values) W.sets W.moves R.rules B.store self.old.propagation.facts) (state_of (reader P.timeline L.values) W.sets W.moves R.rules B.store self.new.propagation.facts) }
+        ensures inferred { IfOk result (λ learnt. HasInferred (state_of (reader P.timeline L.values) W.sets W.moves R.rules B.store self.old.propagation.facts) (state_of (reader P.timeline L.values) W.sets W.moves R.rules B.store self.new.propagation.facts) learnt (KnowsInferred i inferred.now)) }
+        ensures known { IfOk result (λ _. KnowsInferred i inferred.now (state_of (reader P.timeline L.values) W.sets W.moves R.rules B.store self.new.propagation.facts)) }
+        ensures still { self.new.propagation.facts.work ≡ self.old.propagation.facts.work }
+        ensures halt { IfErr result (λ h. IsHalt (state_of (reader P.timeline L.values) W.sets W.moves R.rules B.store self.new.propagation.facts) h) }
     {
-        let _count = self.count();
+        let _count = self.propagation.facts.count();
         match &inferred.cell {
             Cell::Register(r) => {
                 let point = point_at(i, inferred.when);
-                let learnt = self.learn(point, *r, inferred.value)?;
+                let learnt = self.propagation.facts.learn(point, *r, inferred.value)?;
                 Ok(learnt)
             }
             Cell::Byte(a) => {
-                let moment = self.moment_at(i, inferred.when);
-                let learnt = self.learn_byte(moment, *a, inferred.value as u8, true)?;
+                let moment = self.propagation.facts.moment_at(i, inferred.when);
+                let learnt = self
+                    .propagation
+                    .learn_byte(moment, *a, inferred.value as u8, true)?;
                 Ok(learnt)
             }
         }
@@ -215,16 +217,16 @@ impl<'a, P: Reaches + Drop, L: LastValues + Drop, B: ByteFacts, W: Transfer, R: 
 
     /// Adds conclusions of row i.
     fn conclude_all(&mut self, i: u32, list: &[Conclusion]) -> Result<bool, LearnError>
-        requires inside { i < (P.timeline self.old.paths).legs.count }
-        requires conclusions { AreConclusions i list.now (state_of (reader P.timeline L.values) W.sets W.moves R.rules B.store self.old) }
-        requires open { self.old.complete ≡ false }
-        ensures grows { Grows (state_of (reader P.timeline L.values) W.sets W.moves R.rules B.store self.old) (state_of (reader P.timeline L.values) W.sets W.moves R.rules B.store self.new) }
-        ensures inferred { IfOk result (λ learnt. HasInferred (state_of (reader P.timeline L.values) W.sets W.moves R.rules B.store self.old) (state_of (reader P.timeline L.values) W.sets W.moves R.rules B.store self.new) learnt (InferredBelow (length list.now) list.now i)) }
-        ensures known { IfOk result (λ _. InferredBelow (length list.now) list.now i (state_of (reader P.timeline L.values) W.sets W.moves R.rules B.store self.new)) }
-        ensures still { self.new.work ≡ self.old.work }
-        ensures halt { IfErr result (λ h. IsHalt (state_of (reader P.timeline L.values) W.sets W.moves R.rules B.store self.new) h) }
+        requires inside { i < (P.timeline self.old.propagation.facts.paths).legs.count }
+        requires conclusions { AreConclusions i list.now (state_of (reader P.timeline L.values) W.sets W.moves R.rules B.store self.old.propagation.facts) }
+        requires open { self.old.propagation.facts.complete ≡ false }
+        ensures grows { Grows (state_of (reader P.timeline L.values) W.sets W.moves R.rules B.store self.old.propagation.facts) (state_of (reader P.timeline L.values) W.sets W.moves R.rules B.store self.new.propagation.facts) }
+        ensures inferred { IfOk result (λ learnt. HasInferred (state_of (reader P.timeline L.values) W.sets W.moves R.rules B.store self.old.propagation.facts) (state_of (reader P.timeline L.values) W.sets W.moves R.rules B.store self.new.propagation.facts) learnt (InferredBelow (length list.now) list.now i)) }
+        ensures known { IfOk result (λ _. InferredBelow (length list.now) list.now i (state_of (reader P.timeline L.values) W.sets W.moves R.rules B.store self.new.propagation.facts)) }
+        ensures still { self.new.propagation.facts.work ≡ self.old.propagation.facts.work }
+        ensures halt { IfErr result (λ h. IsHalt (state_of (reader P.timeline L.values) W.sets W.moves R.rules B.store self.new.propagation.facts) h) }
     {
-        self.held();
+        self.propagation.facts.held();
         let mut learnt = false;
         for inferred in list {
             let new = self.conclude(i, inferred)?;
@@ -233,42 +235,22 @@ impl<'a, P: Reaches + Drop, L: LastValues + Drop, B: ByteFacts, W: Transfer, R: 
         Ok(learnt)
     }
 
-    /// How far row i's rules were applied.
-    fn pass(&self, i: u32) -> Pass
-        requires { i < (P.timeline self.now.paths).legs.count }
-        ensures { slice_get self.now.work.inferred i ≡ Some result }
-    {
-        let _paths = &self.paths;
-        self.inferred.at(i)
-    }
-
-    /// Keeps how far they were.
-    fn keep_pass(&mut self, i: u32, pass: Pass)
-        requires inside { i < (P.timeline self.old.paths).legs.count }
-        requires pass { (row : StepRow) → (P.timeline self.old.paths).legs.row i ≡ Some row → IsPass row i pass (state_of (reader P.timeline L.values) W.sets W.moves R.rules B.store self.old) }
-        requires open { self.old.complete ≡ false }
-        ensures { (state_of (reader P.timeline L.values) W.sets W.moves R.rules B.store self.new) ≡ with_inferred (state_of (reader P.timeline L.values) W.sets W.moves R.rules B.store self.old) (set self.old.work.inferred i pass) }
-    {
-        let _paths = &self.paths;
-        self.inferred.put(i, pass);
-    }
-
     /// All that row i lets one infer, where more of its cells are known than when its rules were
     /// applied last.
     fn infer_inferred(&mut self, i: u32, row: &StepRow) -> Result<bool, LearnError>
-        requires inside { i < (P.timeline self.old.paths).legs.count }
-        requires row { (P.timeline self.old.paths).legs.row i ≡ Some row.now }
-        requires tracked { IsRowTracked row.now i (state_of (reader P.timeline L.values) W.sets W.moves R.rules B.store self.old) }
-        requires open { self.old.complete ≡ false }
-        requires uncut { IsUncut (state_of (reader P.timeline L.values) W.sets W.moves R.rules B.store self.old) }
-        ensures grows { Grows (state_of (reader P.timeline L.values) W.sets W.moves R.rules B.store self.old) (state_of (reader P.timeline L.values) W.sets W.moves R.rules B.store self.new) }
-        ensures inferred { IfOk result (λ learnt. HasInferred (state_of (reader P.timeline L.values) W.sets W.moves R.rules B.store self.old) (state_of (reader P.timeline L.values) W.sets W.moves R.rules B.store self.new) learnt (InferredKnown row.now i)) }
-        ensures halt { IfErr result (λ h. IsHalt (state_of (reader P.timeline L.values) W.sets W.moves R.rules B.store self.new) h) }
+        requires inside { i < (P.timeline self.old.propagation.facts.paths).legs.count }
+        requires row { (P.timeline self.old.propagation.facts.paths).legs.row i ≡ Some row.now }
+        requires tracked { IsRowTracked row.now i (state_of (reader P.timeline L.values) W.sets W.moves R.rules B.store self.old.propagation.facts) }
+        requires open { self.old.propagation.facts.complete ≡ false }
+        requires uncut { IsUncut (state_of (reader P.timeline L.values) W.sets W.moves R.rules B.store self.old.propagation.facts) }
+        ensures grows { Grows (state_of (reader P.timeline L.values) W.sets W.moves R.rules B.store self.old.propagation.facts) (state_of (reader P.timeline L.values) W.sets W.moves R.rules B.store self.new.propagation.facts) }
+        ensures inferred { IfOk result (λ learnt. HasInferred (state_of (reader P.timeline L.values) W.sets W.moves R.rules B.store self.old.propagation.facts) (state_of (reader P.timeline L.values) W.sets W.moves R.rules B.store self.new.propagation.facts) learnt (InferredKnown row.now i)) }
+        ensures halt { IfErr result (λ h. IsHalt (state_of (reader P.timeline L.values) W.sets W.moves R.rules B.store self.new.propagation.facts) h) }
     {
-        let cells = self.cells(i, row);
-        let pass = self.pass(i);
+        let cells = self.propagation.facts.cells(i, row);
+        let pass = self.propagation.facts.pass(i);
         if is_with(pass, cells) {
-            self.held();
+            self.propagation.facts.held();
             return Ok(false);
         }
         self.infer_anew(i, row, cells)
@@ -276,28 +258,28 @@ impl<'a, P: Reaches + Drop, L: LastValues + Drop, B: ByteFacts, W: Transfer, R: 
 
     /// All that it lets one infer, where so many of its cells are known, and more than then.
     fn infer_anew(&mut self, i: u32, row: &StepRow, cells: u32) -> Result<bool, LearnError>
-        requires inside { i < (P.timeline self.old.paths).legs.count }
-        requires row { (P.timeline self.old.paths).legs.row i ≡ Some row.now }
-        requires tracked { IsRowTracked row.now i (state_of (reader P.timeline L.values) W.sets W.moves R.rules B.store self.old) }
-        requires open { self.old.complete ≡ false }
-        requires uncut { IsUncut (state_of (reader P.timeline L.values) W.sets W.moves R.rules B.store self.old) }
-        requires cells { cells ≡ cells_known R.rules row.now (around (P.timeline self.old.paths).moments (known_of B.store self.old.known) i) }
+        requires inside { i < (P.timeline self.old.propagation.facts.paths).legs.count }
+        requires row { (P.timeline self.old.propagation.facts.paths).legs.row i ≡ Some row.now }
+        requires tracked { IsRowTracked row.now i (state_of (reader P.timeline L.values) W.sets W.moves R.rules B.store self.old.propagation.facts) }
+        requires open { self.old.propagation.facts.complete ≡ false }
+        requires uncut { IsUncut (state_of (reader P.timeline L.values) W.sets W.moves R.rules B.store self.old.propagation.facts) }
+        requires cells { cells ≡ cells_known R.rules row.now (around (P.timeline self.old.propagation.facts.paths).moments (known_of B.store self.old.propagation.facts.known) i) }
         requires few { cells ≤ 11 }
-        requires more { slice_get self.old.work.inferred i ≡ Some (Pass.With cells) → ⊥ }
-        ensures grows { Grows (state_of (reader P.timeline L.values) W.sets W.moves R.rules B.store self.old) (state_of (reader P.timeline L.values) W.sets W.moves R.rules B.store self.new) }
-        ensures inferred { IfOk result (λ learnt. HasInferred (state_of (reader P.timeline L.values) W.sets W.moves R.rules B.store self.old) (state_of (reader P.timeline L.values) W.sets W.moves R.rules B.store self.new) learnt (InferredKnown row.now i)) }
-        ensures halt { IfErr result (λ h. IsHalt (state_of (reader P.timeline L.values) W.sets W.moves R.rules B.store self.new) h) }
+        requires more { slice_get self.old.propagation.facts.work.inferred i ≡ Some (Pass.With cells) → ⊥ }
+        ensures grows { Grows (state_of (reader P.timeline L.values) W.sets W.moves R.rules B.store self.old.propagation.facts) (state_of (reader P.timeline L.values) W.sets W.moves R.rules B.store self.new.propagation.facts) }
+        ensures inferred { IfOk result (λ learnt. HasInferred (state_of (reader P.timeline L.values) W.sets W.moves R.rules B.store self.old.propagation.facts) (state_of (reader P.timeline L.values) W.sets W.moves R.rules B.store self.new.propagation.facts) learnt (InferredKnown row.now i)) }
+        ensures halt { IfErr result (λ h. IsHalt (state_of (reader P.timeline L.values) W.sets W.moves R.rules B.store self.new.propagation.facts) h) }
     {
-        self.held();
-        let list = self.list_inferred(i, row);
-        self.held();
+        self.propagation.facts.held();
+        let list = self.propagation.facts.list_inferred(i, row);
+        self.propagation.facts.held();
         match self.conclude_all(i, list.as_slice()) {
             Ok(_) => {
-                self.keep_pass(i, Pass::With(cells));
+                self.propagation.facts.keep_pass(i, Pass::With(cells));
                 Ok(true)
             }
             Err(halt) => {
-                self.keep_pass(i, Pass::Cut);
+                self.propagation.facts.keep_pass(i, Pass::Cut);
                 Err(halt)
             }
         }
@@ -305,20 +287,21 @@ impl<'a, P: Reaches + Drop, L: LastValues + Drop, B: ByteFacts, W: Transfer, R: 
 
     /// The bytes that row i's rules look at, over the rows around it that may not write them.
     fn carry_row(&mut self, i: u32, row: &StepRow) -> Result<bool, LearnError>
-        requires inside { i < (P.timeline self.old.paths).legs.count }
-        requires row { (P.timeline self.old.paths).legs.row i ≡ Some row.now }
-        requires writings { AreWritings (state_of (reader P.timeline L.values) W.sets W.moves R.rules B.store self.old) }
-        requires open { self.old.complete ≡ false }
-        ensures grows { Grows (state_of (reader P.timeline L.values) W.sets W.moves R.rules B.store self.old) (state_of (reader P.timeline L.values) W.sets W.moves R.rules B.store self.new) }
-        ensures inferred { IfOk result (λ learnt. HasInferred (state_of (reader P.timeline L.values) W.sets W.moves R.rules B.store self.old) (state_of (reader P.timeline L.values) W.sets W.moves R.rules B.store self.new) learnt (λ _. ⊤)) }
-        ensures halt { IfErr result (λ h. IsHalt (state_of (reader P.timeline L.values) W.sets W.moves R.rules B.store self.new) h) }
+        requires inside { i < (P.timeline self.old.propagation.facts.paths).legs.count }
+        requires row { (P.timeline self.old.propagation.facts.paths).legs.row i ≡ Some row.now }
+        requires writings { AreWritings (state_of (reader P.timeline L.values) W.sets W.moves R.rules B.store self.old.propagation.facts) }
+        requires open { self.old.propagation.facts.complete ≡ false }
+        ensures grows { Grows (state_of (reader P.timeline L.values) W.sets W.moves R.rules B.store self.old.propagation.facts) (state_of (reader P.timeline L.values) W.sets W.moves R.rules B.store self.new.propagation.facts) }
+        ensures inferred { IfOk result (λ learnt. HasInferred (state_of (reader P.timeline L.values) W.sets W.moves R.rules B.store self.old.propagation.facts) (state_of (reader P.timeline L.values) W.sets W.moves R.rules B.store self.new.propagation.facts) learnt (λ _. ⊤)) }
+        ensures halt { IfErr result (λ h. IsHalt (state_of (reader P.timeline L.values) W.sets W.moves R.rules B.store self.new.propagation.facts) h) }
     {
-        match self.row_base(i, row) {
+        match self.propagation.facts.row_base(i, row) {
             None => Ok(false),
             Some(base) => {
-                let point = self.moment_at(i, side(&row.instr));
+                let point = self.propagation.facts.moment_at(i, side(&row.instr));
                 let start = address(base, &row.instr);
-                self.carry_bytes(point, start, R::places(row).min(WORD))
+                self.propagation
+                    .carry_bytes(point, start, R::places(row).min(WORD))
             }
         }
     }
@@ -326,26 +309,26 @@ impl<'a, P: Reaches + Drop, L: LastValues + Drop, B: ByteFacts, W: Transfer, R: 
     /// Whether the byte at an address, the first one of row i's, isn't known at its side of the
     /// row.
     fn lacks_first(&self, i: u32, row: &StepRow, a: u32) -> bool
-        requires { (P.timeline self.now.paths).legs.row i ≡ Some row.now }
+        requires { (P.timeline self.now.propagation.facts.paths).legs.row i ≡ Some row.now }
     {
-        let point = self.moment_at(i, side(&row.instr));
-        R::places(row) > 0 && self.known_byte(point, a).is_none()
+        let point = self.propagation.facts.moment_at(i, side(&row.instr));
+        R::places(row) > 0 && self.propagation.facts.known_byte(point, a).is_none()
     }
 
     /// Whether row i's first byte isn't known, and may be carried to it: a row was put in the list
     /// anew since the last store of unknown address that was looked at.
     fn lacks_byte(&mut self, i: u32, row: &StepRow) -> bool
-        requires inside { i < (P.timeline self.old.paths).legs.count }
-        requires row { (P.timeline self.old.paths).legs.row i ≡ Some row.now }
-        ensures { self.new ≡ self.old }
+        requires inside { i < (P.timeline self.old.propagation.facts.paths).legs.count }
+        requires row { (P.timeline self.old.propagation.facts.paths).legs.row i ≡ Some row.now }
+        ensures { self.new.propagation.facts ≡ self.old.propagation.facts }
     {
-        if !self.is_freed() {
+        if !self.propagation.facts.is_freed() {
             return false;
         }
-        match self.row_base(i, row) {
+        match self.propagation.facts.row_base(i, row) {
             None => {
                 if is_store(&row.instr) {
-                    self.note_store();
+                    self.propagation.facts.note_store();
                 }
                 false
             }
@@ -355,13 +338,13 @@ impl<'a, P: Reaches + Drop, L: LastValues + Drop, B: ByteFacts, W: Transfer, R: 
 
     /// The bytes that row i's rules look at, tracked and carried to it.
     fn fetch_bytes(&mut self, i: u32, row: &StepRow) -> Result<bool, LearnError>
-        requires inside { i < (P.timeline self.old.paths).legs.count }
-        requires row { (P.timeline self.old.paths).legs.row i ≡ Some row.now }
-        requires writings { AreWritings (state_of (reader P.timeline L.values) W.sets W.moves R.rules B.store self.old) }
-        requires open { self.old.complete ≡ false }
-        ensures grows { Grows (state_of (reader P.timeline L.values) W.sets W.moves R.rules B.store self.old) (state_of (reader P.timeline L.values) W.sets W.moves R.rules B.store self.new) }
-        ensures inferred { IfOk result (λ learnt. HasInferred (state_of (reader P.timeline L.values) W.sets W.moves R.rules B.store self.old) (state_of (reader P.timeline L.values) W.sets W.moves R.rules B.store self.new) learnt (λ _. ⊤)) }
-        ensures halt { IfErr result (λ h. IsHalt (state_of (reader P.timeline L.values) W.sets W.moves R.rules B.store self.new) h) }
+        requires inside { i < (P.timeline self.old.propagation.facts.paths).legs.count }
+        requires row { (P.timeline self.old.propagation.facts.paths).legs.row i ≡ Some row.now }
+        requires writings { AreWritings (state_of (reader P.timeline L.values) W.sets W.moves R.rules B.store self.old.propagation.facts) }
+        requires open { self.old.propagation.facts.complete ≡ false }
+        ensures grows { Grows (state_of (reader P.timeline L.values) W.sets W.moves R.rules B.store self.old.propagation.facts) (state_of (reader P.timeline L.values) W.sets W.moves R.rules B.store self.new.propagation.facts) }
+        ensures inferred { IfOk result (λ learnt. HasInferred (state_of (reader P.timeline L.values) W.sets W.moves R.rules B.store self.old.propagation.facts) (state_of (reader P.timeline L.values) W.sets W.moves R.rules B.store self.new.propagation.facts) learnt (λ _. ⊤)) }
+        ensures halt { IfErr result (λ h. IsHalt (state_of (reader P.timeline L.values) W.sets W.moves R.rules B.store self.new.propagation.facts) h) }
     {
         let tracked = self.track_row(i, row)?;
         let carried = self.carry_row(i, row)?;
@@ -371,13 +354,13 @@ impl<'a, P: Reaches + Drop, L: LastValues + Drop, B: ByteFacts, W: Transfer, R: 
     /// Tracks the bytes that row i's rules look at, and carries them to it, where the first one
     /// isn't known: so its rules are applied with them.
     fn fetch(&mut self, i: u32, row: &StepRow) -> Result<bool, LearnError>
-        requires inside { i < (P.timeline self.old.paths).legs.count }
-        requires row { (P.timeline self.old.paths).legs.row i ≡ Some row.now }
-        requires writings { AreWritings (state_of (reader P.timeline L.values) W.sets W.moves R.rules B.store self.old) }
-        requires open { self.old.complete ≡ false }
-        ensures grows { Grows (state_of (reader P.timeline L.values) W.sets W.moves R.rules B.store self.old) (state_of (reader P.timeline L.values) W.sets W.moves R.rules B.store self.new) }
-        ensures inferred { IfOk result (λ learnt. HasInferred (state_of (reader P.timeline L.values) W.sets W.moves R.rules B.store self.old) (state_of (reader P.timeline L.values) W.sets W.moves R.rules B.store self.new) learnt (λ _. ⊤)) }
-        ensures halt { IfErr result (λ h. IsHalt (state_of (reader P.timeline L.values) W.sets W.moves R.rules B.store self.new) h) }
+        requires inside { i < (P.timeline self.old.propagation.facts.paths).legs.count }
+        requires row { (P.timeline self.old.propagation.facts.paths).legs.row i ≡ Some row.now }
+        requires writings { AreWritings (state_of (reader P.timeline L.values) W.sets W.moves R.rules B.store self.old.propagation.facts) }
+        requires open { self.old.propagation.facts.complete ≡ false }
+        ensures grows { Grows (state_of (reader P.timeline L.values) W.sets W.moves R.rules B.store self.old.propagation.facts) (state_of (reader P.timeline L.values) W.sets W.moves R.rules B.store self.new.propagation.facts) }
+        ensures inferred { IfOk result (λ learnt. HasInferred (state_of (reader P.timeline L.values) W.sets W.moves R.rules B.store self.old.propagation.facts) (state_of (reader P.timeline L.values) W.sets W.moves R.rules B.store self.new.propagation.facts) learnt (λ _. ⊤)) }
+        ensures halt { IfErr result (λ h. IsHalt (state_of (reader P.timeline L.values) W.sets W.moves R.rules B.store self.new.propagation.facts) h) }
     {
         if !self.lacks_byte(i, row) {
             return Ok(false);
@@ -388,36 +371,36 @@ impl<'a, P: Reaches + Drop, L: LastValues + Drop, B: ByteFacts, W: Transfer, R: 
     /// All that row i lets one infer; where its rules were applied, the bytes that it may write are
     /// listed anew, and its bytes are carried at once.
     fn infer_around(&mut self, i: u32, row: &StepRow) -> Result<bool, LearnError>
-        requires inside { i < (P.timeline self.old.paths).legs.count }
-        requires row { (P.timeline self.old.paths).legs.row i ≡ Some row.now }
-        requires tracked { IsRowTracked row.now i (state_of (reader P.timeline L.values) W.sets W.moves R.rules B.store self.old) }
-        requires writings { AreWritings (state_of (reader P.timeline L.values) W.sets W.moves R.rules B.store self.old) }
-        requires open { self.old.complete ≡ false }
-        requires uncut { IsUncut (state_of (reader P.timeline L.values) W.sets W.moves R.rules B.store self.old) }
-        ensures grows { Grows (state_of (reader P.timeline L.values) W.sets W.moves R.rules B.store self.old) (state_of (reader P.timeline L.values) W.sets W.moves R.rules B.store self.new) }
-        ensures inferred { IfOk result (λ learnt. HasInferred (state_of (reader P.timeline L.values) W.sets W.moves R.rules B.store self.old) (state_of (reader P.timeline L.values) W.sets W.moves R.rules B.store self.new) learnt (InferredKnown row.now i)) }
-        ensures halt { IfErr result (λ h. IsHalt (state_of (reader P.timeline L.values) W.sets W.moves R.rules B.store self.new) h) }
+        requires inside { i < (P.timeline self.old.propagation.facts.paths).legs.count }
+        requires row { (P.timeline self.old.propagation.facts.paths).legs.row i ≡ Some row.now }
+        requires tracked { IsRowTracked row.now i (state_of (reader P.timeline L.values) W.sets W.moves R.rules B.store self.old.propagation.facts) }
+        requires writings { AreWritings (state_of (reader P.timeline L.values) W.sets W.moves R.rules B.store self.old.propagation.facts) }
+        requires open { self.old.propagation.facts.complete ≡ false }
+        requires uncut { IsUncut (state_of (reader P.timeline L.values) W.sets W.moves R.rules B.store self.old.propagation.facts) }
+        ensures grows { Grows (state_of (reader P.timeline L.values) W.sets W.moves R.rules B.store self.old.propagation.facts) (state_of (reader P.timeline L.values) W.sets W.moves R.rules B.store self.new.propagation.facts) }
+        ensures inferred { IfOk result (λ learnt. HasInferred (state_of (reader P.timeline L.values) W.sets W.moves R.rules B.store self.old.propagation.facts) (state_of (reader P.timeline L.values) W.sets W.moves R.rules B.store self.new.propagation.facts) learnt (InferredKnown row.now i)) }
+        ensures halt { IfErr result (λ h. IsHalt (state_of (reader P.timeline L.values) W.sets W.moves R.rules B.store self.new.propagation.facts) h) }
     {
         let inferred = self.infer_inferred(i, row)?;
         if !inferred {
             return Ok(false);
         }
-        self.free(i, row);
+        self.propagation.facts.free(i, row);
         self.carry_row(i, row)?;
         Ok(true)
     }
 
     /// All that row i lets one conclude, if there is one.
     fn infer_row(&mut self, i: u32) -> Result<bool, LearnError>
-        requires inside { i < (P.timeline self.old.paths).legs.count }
-        requires writings { AreWritings (state_of (reader P.timeline L.values) W.sets W.moves R.rules B.store self.old) }
-        requires open { self.old.complete ≡ false }
-        requires uncut { IsUncut (state_of (reader P.timeline L.values) W.sets W.moves R.rules B.store self.old) }
-        ensures grows { Grows (state_of (reader P.timeline L.values) W.sets W.moves R.rules B.store self.old) (state_of (reader P.timeline L.values) W.sets W.moves R.rules B.store self.new) }
-        ensures inferred { IfOk result (λ learnt. HasInferred (state_of (reader P.timeline L.values) W.sets W.moves R.rules B.store self.old) (state_of (reader P.timeline L.values) W.sets W.moves R.rules B.store self.new) learnt (IsRowClosed i)) }
-        ensures halt { IfErr result (λ h. IsHalt (state_of (reader P.timeline L.values) W.sets W.moves R.rules B.store self.new) h) }
+        requires inside { i < (P.timeline self.old.propagation.facts.paths).legs.count }
+        requires writings { AreWritings (state_of (reader P.timeline L.values) W.sets W.moves R.rules B.store self.old.propagation.facts) }
+        requires open { self.old.propagation.facts.complete ≡ false }
+        requires uncut { IsUncut (state_of (reader P.timeline L.values) W.sets W.moves R.rules B.store self.old.propagation.facts) }
+        ensures grows { Grows (state_of (reader P.timeline L.values) W.sets W.moves R.rules B.store self.old.propagation.facts) (state_of (reader P.timeline L.values) W.sets W.moves R.rules B.store self.new.propagation.facts) }
+        ensures inferred { IfOk result (λ learnt. HasInferred (state_of (reader P.timeline L.values) W.sets W.moves R.rules B.store self.old.propagation.facts) (state_of (reader P.timeline L.values) W.sets W.moves R.rules B.store self.new.propagation.facts) learnt (IsRowClosed i)) }
+        ensures halt { IfErr result (λ h. IsHalt (state_of (reader P.timeline L.values) W.sets W.moves R.rules B.store self.new.propagation.facts) h) }
     {
-        match self.row(i) {
+        match self.propagation.facts.row(i) {
             None => Ok(false),
             Some(row) => self.infer_all(i, &row),
         }
@@ -425,14 +408,14 @@ impl<'a, P: Reaches + Drop, L: LastValues + Drop, B: ByteFacts, W: Transfer, R: 
 
     /// All that this row lets one conclude.
     fn infer_all(&mut self, i: u32, row: &StepRow) -> Result<bool, LearnError>
-        requires inside { i < (P.timeline self.old.paths).legs.count }
-        requires row { (P.timeline self.old.paths).legs.row i ≡ Some row.now }
-        requires writings { AreWritings (state_of (reader P.timeline L.values) W.sets W.moves R.rules B.store self.old) }
-        requires open { self.old.complete ≡ false }
-        requires uncut { IsUncut (state_of (reader P.timeline L.values) W.sets W.moves R.rules B.store self.old) }
-        ensures grows { Grows (state_of (reader P.timeline L.values) W.sets W.moves R.rules B.store self.old) (state_of (reader P.timeline L.values) W.sets W.moves R.rules B.store self.new) }
-        ensures inferred { IfOk result (λ learnt. HasInferred (state_of (reader P.timeline L.values) W.sets W.moves R.rules B.store self.old) (state_of (reader P.timeline L.values) W.sets W.moves R.rules B.store self.new) learnt (IsRowInferred row.now i)) }
-        ensures halt { IfErr result (λ h. IsHalt (state_of (reader P.timeline L.values) W.sets W.moves R.rules B.store self.new) h) }
+        requires inside { i < (P.timeline self.old.propagation.facts.paths).legs.count }
+        requires row { (P.timeline self.old.propagation.facts.paths).legs.row i ≡ Some row.now }
+        requires writings { AreWritings (state_of (reader P.timeline L.values) W.sets W.moves R.rules B.store self.old.propagation.facts) }
+        requires open { self.old.propagation.facts.complete ≡ false }
+        requires uncut { IsUncut (state_of (reader P.timeline L.values) W.sets W.moves R.rules B.store self.old.propagation.facts) }
+        ensures grows { Grows (state_of (reader P.timeline L.values) W.sets W.moves R.rules B.store self.old.propagation.facts) (state_of (reader P.timeline L.values) W.sets W.moves R.rules B.store self.new.propagation.facts) }
+        ensures inferred { IfOk result (λ learnt. HasInferred (state_of (reader P.timeline L.values) W.sets W.moves R.rules B.store self.old.propagation.facts) (state_of (reader P.timeline L.values) W.sets W.moves R.rules B.store self.new.propagation.facts) learnt (IsRowInferred row.now i)) }
+        ensures halt { IfErr result (λ h. IsHalt (state_of (reader P.timeline L.values) W.sets W.moves R.rules B.store self.new.propagation.facts) h) }
     {
         let registers = self.carry_all(i, row)?;
         let fetched = self.fetch(i, row)?;
@@ -444,9 +427,9 @@ impl<'a, P: Reaches + Drop, L: LastValues + Drop, B: ByteFacts, W: Transfer, R: 
     /// Keeps that row i was looked at, since which the log may have grown, and how many times
     /// something had been learnt of bytes before.
     fn note_row(&mut self, i: u32, len: u32, time: u32)
-        ensures { self.new ≡ self.old }
+        ensures { self.new.propagation.facts ≡ self.old.propagation.facts }
     {
-        let has_news = self.len() > len;
+        let has_news = self.propagation.facts.len() > len;
         if let Some(number) = self.number_of(i) {
             self.fresh.note(number, has_news, time);
         }
@@ -458,7 +441,7 @@ impl<'a, P: Reaches + Drop, L: LastValues + Drop, B: ByteFacts, W: Transfer, R: 
 
     /// Keeps that row i, if there is one, is to be looked at.
     fn mark(&mut self, i: u32)
-        ensures { self.new ≡ self.old }
+        ensures { self.new.propagation.facts ≡ self.old.propagation.facts }
     {
         if let Some(number) = self.number_of(i) {
             self.fresh.mark(number);
@@ -467,24 +450,24 @@ impl<'a, P: Reaches + Drop, L: LastValues + Drop, B: ByteFacts, W: Transfer, R: 
 
     /// The number of the moment before row i, if there is one.
     fn number_of(&self, i: u32) -> Option<u32> {
-        match self.row(i) {
+        match self.propagation.facts.row(i) {
             None => None,
-            Some(_) => Some(self.moment_at(i, When::Before)),
+            Some(_) => Some(self.propagation.facts.moment_at(i, When::Before)),
         }
     }
 
     /// All that row i lets one conclude, and that it was looked at.
     pub(super) fn infer_noted(&mut self, i: u32) -> Result<bool, LearnError>
-        requires inside { i < (P.timeline self.old.paths).legs.count }
-        requires writings { AreWritings (state_of (reader P.timeline L.values) W.sets W.moves R.rules B.store self.old) }
-        requires open { self.old.complete ≡ false }
-        requires uncut { IsUncut (state_of (reader P.timeline L.values) W.sets W.moves R.rules B.store self.old) }
-        ensures grows { Grows (state_of (reader P.timeline L.values) W.sets W.moves R.rules B.store self.old) (state_of (reader P.timeline L.values) W.sets W.moves R.rules B.store self.new) }
-        ensures inferred { IfOk result (λ learnt. HasInferred (state_of (reader P.timeline L.values) W.sets W.moves R.rules B.store self.old) (state_of (reader P.timeline L.values) W.sets W.moves R.rules B.store self.new) learnt (IsRowClosed i)) }
-        ensures halt { IfErr result (λ h. IsHalt (state_of (reader P.timeline L.values) W.sets W.moves R.rules B.store self.new) h) }
+        requires inside { i < (P.timeline self.old.propagation.facts.paths).legs.count }
+        requires writings { AreWritings (state_of (reader P.timeline L.values) W.sets W.moves R.rules B.store self.old.propagation.facts) }
+        requires open { self.old.propagation.facts.complete ≡ false }
+        requires uncut { IsUncut (state_of (reader P.timeline L.values) W.sets W.moves R.rules B.store self.old.propagation.facts) }
+        ensures grows { Grows (state_of (reader P.timeline L.values) W.sets W.moves R.rules B.store self.old.propagation.facts) (state_of (reader P.timeline L.values) W.sets W.moves R.rules B.store self.new.propagation.facts) }
+        ensures inferred { IfOk result (λ learnt. HasInferred (state_of (reader P.timeline L.values) W.sets W.moves R.rules B.store self.old.propagation.facts) (state_of (reader P.timeline L.values) W.sets W.moves R.rules B.store self.new.propagation.facts) learnt (IsRowClosed i)) }
+        ensures halt { IfErr result (λ h. IsHalt (state_of (reader P.timeline L.values) W.sets W.moves R.rules B.store self.new.propagation.facts) h) }
     {
-        let len = self.len();
-        let time = self.recent.now();
+        let len = self.propagation.facts.len();
+        let time = self.propagation.recent.now();
         let learnt = self.infer_row(i)?;
         self.note_row(i, len, time);
         Ok(learnt)
@@ -496,6 +479,7 @@ impl<'a, P: Reaches + Drop, L: LastValues + Drop, B: ByteFacts, W: Transfer, R: 
         match self.fresh.start(number) {
             None => true,
             Some(start) => self
+                .propagation
                 .recent
                 .has_any_since(start, WORD, self.fresh.time(number)),
         }
@@ -504,28 +488,29 @@ impl<'a, P: Reaches + Drop, L: LastValues + Drop, B: ByteFacts, W: Transfer, R: 
     /// Whether something was learnt of one of the bytes that row i's rules look at since it was
     /// looked at; a number is that of the moment before it.
     fn has_recent(&mut self, number: u32, i: u32, row: &StepRow) -> bool
-        requires { i < (P.timeline self.old.paths).legs.count }
-        ensures { self.new ≡ self.old }
+        requires { i < (P.timeline self.old.propagation.facts.paths).legs.count }
+        ensures { self.new.propagation.facts ≡ self.old.propagation.facts }
     {
-        let Some(base) = self.row_base(i, row) else {
+        let Some(base) = self.propagation.facts.row_base(i, row) else {
             return false;
         };
         let start = address(base, &row.instr);
         self.fresh.note_start(number, start);
-        self.recent
+        self.propagation
+            .recent
             .has_any_since(start, R::places(row).min(4), self.fresh.time(number))
     }
 
     /// Whether row i looks at bytes of which not all are known, and of which something was learnt
     /// lately, along other rows.
     fn may_tell(&mut self, number: u32, i: u32, row: &StepRow) -> bool
-        requires { i < (P.timeline self.old.paths).legs.count }
-        ensures { self.new ≡ self.old }
+        requires { i < (P.timeline self.old.propagation.facts.paths).legs.count }
+        ensures { self.new.propagation.facts ≡ self.old.propagation.facts }
     {
         let places = R::places(row).min(4);
         let (first, second) = reads(&row.instr);
         let operands = one_if(first) + one_if(second) + one_if(writes(&row.instr));
-        if places == 0 || is_with(self.pass(i), operands + 2 * places) {
+        if places == 0 || is_with(self.propagation.facts.pass(i), operands + 2 * places) {
             self.fresh.note_plain(number);
             return false;
         }
@@ -535,17 +520,17 @@ impl<'a, P: Reaches + Drop, L: LastValues + Drop, B: ByteFacts, W: Transfer, R: 
     /// All that row i lets one infer with bytes of which something was learnt lately, and that it
     /// was looked at. What its registers keep was carried before.
     fn infer_bytes(&mut self, i: u32, row: &StepRow) -> Result<bool, LearnError>
-        requires inside { i < (P.timeline self.old.paths).legs.count }
-        requires row { (P.timeline self.old.paths).legs.row i ≡ Some row.now }
-        requires writings { AreWritings (state_of (reader P.timeline L.values) W.sets W.moves R.rules B.store self.old) }
-        requires open { self.old.complete ≡ false }
-        requires uncut { IsUncut (state_of (reader P.timeline L.values) W.sets W.moves R.rules B.store self.old) }
-        ensures grows { Grows (state_of (reader P.timeline L.values) W.sets W.moves R.rules B.store self.old) (state_of (reader P.timeline L.values) W.sets W.moves R.rules B.store self.new) }
-        ensures inferred { IfOk result (λ learnt. HasInferred (state_of (reader P.timeline L.values) W.sets W.moves R.rules B.store self.old) (state_of (reader P.timeline L.values) W.sets W.moves R.rules B.store self.new) learnt (λ _. ⊤)) }
-        ensures halt { IfErr result (λ h. IsHalt (state_of (reader P.timeline L.values) W.sets W.moves R.rules B.store self.new) h) }
+        requires inside { i < (P.timeline self.old.propagation.facts.paths).legs.count }
+        requires row { (P.timeline self.old.propagation.facts.paths).legs.row i ≡ Some row.now }
+        requires writings { AreWritings (state_of (reader P.timeline L.values) W.sets W.moves R.rules B.store self.old.propagation.facts) }
+        requires open { self.old.propagation.facts.complete ≡ false }
+        requires uncut { IsUncut (state_of (reader P.timeline L.values) W.sets W.moves R.rules B.store self.old.propagation.facts) }
+        ensures grows { Grows (state_of (reader P.timeline L.values) W.sets W.moves R.rules B.store self.old.propagation.facts) (state_of (reader P.timeline L.values) W.sets W.moves R.rules B.store self.new.propagation.facts) }
+        ensures inferred { IfOk result (λ learnt. HasInferred (state_of (reader P.timeline L.values) W.sets W.moves R.rules B.store self.old.propagation.facts) (state_of (reader P.timeline L.values) W.sets W.moves R.rules B.store self.new.propagation.facts) learnt (λ _. ⊤)) }
+        ensures halt { IfErr result (λ h. IsHalt (state_of (reader P.timeline L.values) W.sets W.moves R.rules B.store self.new.propagation.facts) h) }
     {
-        let len = self.len();
-        let time = self.recent.now();
+        let len = self.propagation.facts.len();
+        let time = self.propagation.recent.now();
         let fetched = self.fetch(i, row)?;
         let tracked = self.track_row(i, row)?;
         let inferred = self.infer_around(i, row)?;
@@ -556,13 +541,13 @@ impl<'a, P: Reaches + Drop, L: LastValues + Drop, B: ByteFacts, W: Transfer, R: 
     /// All that row i lets one conclude, where it may tell something new: something was learnt
     /// beside it since it was looked at, or of bytes that it looks at.
     pub(super) fn infer_fresh(&mut self, number: u32, i: u32) -> Result<bool, LearnError>
-        requires inside { i < (P.timeline self.old.paths).legs.count }
-        requires writings { AreWritings (state_of (reader P.timeline L.values) W.sets W.moves R.rules B.store self.old) }
-        requires open { self.old.complete ≡ false }
-        requires uncut { IsUncut (state_of (reader P.timeline L.values) W.sets W.moves R.rules B.store self.old) }
-        ensures grows { Grows (state_of (reader P.timeline L.values) W.sets W.moves R.rules B.store self.old) (state_of (reader P.timeline L.values) W.sets W.moves R.rules B.store self.new) }
-        ensures inferred { IfOk result (λ learnt. HasInferred (state_of (reader P.timeline L.values) W.sets W.moves R.rules B.store self.old) (state_of (reader P.timeline L.values) W.sets W.moves R.rules B.store self.new) learnt (λ _. ⊤)) }
-        ensures halt { IfErr result (λ h. IsHalt (state_of (reader P.timeline L.values) W.sets W.moves R.rules B.store self.new) h) }
+        requires inside { i < (P.timeline self.old.propagation.facts.paths).legs.count }
+        requires writings { AreWritings (state_of (reader P.timeline L.values) W.sets W.moves R.rules B.store self.old.propagation.facts) }
+        requires open { self.old.propagation.facts.complete ≡ false }
+        requires uncut { IsUncut (state_of (reader P.timeline L.values) W.sets W.moves R.rules B.store self.old.propagation.facts) }
+        ensures grows { Grows (state_of (reader P.timeline L.values) W.sets W.moves R.rules B.store self.old.propagation.facts) (state_of (reader P.timeline L.values) W.sets W.moves R.rules B.store self.new.propagation.facts) }
+        ensures inferred { IfOk result (λ learnt. HasInferred (state_of (reader P.timeline L.values) W.sets W.moves R.rules B.store self.old.propagation.facts) (state_of (reader P.timeline L.values) W.sets W.moves R.rules B.store self.new.propagation.facts) learnt (λ _. ⊤)) }
+        ensures halt { IfErr result (λ h. IsHalt (state_of (reader P.timeline L.values) W.sets W.moves R.rules B.store self.new.propagation.facts) h) }
     {
         if self.fresh.has(number) {
             return self.infer_noted(i);
@@ -570,7 +555,7 @@ impl<'a, P: Reaches + Drop, L: LastValues + Drop, B: ByteFacts, W: Transfer, R: 
         if self.fresh.is_plain(number) || !self.may_be_recent(number) {
             return Ok(false);
         }
-        let Some(row) = self.row(i) else {
+        let Some(row) = self.propagation.facts.row(i) else {
             return Ok(false);
         };
         if !self.may_tell(number, i, &row) {

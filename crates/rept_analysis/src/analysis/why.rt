@@ -1,25 +1,40 @@
 //! Reasons of facts.
 
-ghost use Rattle.std.specs.Prelude.{◌≡◌, ◌≢◌, ℕ, ◌≤◌, ◌<◌, ◌+◌, ◌-◌, ◌↔◌, length, true, false, Some, IfOk, IfSome, IfNone, IsTrue};
+ghost use Rattle.std.specs.Prelude.{◌<◌, ◌≤◌, ◌≡◌, ◌≢◌, ℕ, ◌+◌, ◌-◌, ◌↔◌, length, true, false, Some, IfOk, IfSome, IfNone, IsTrue};
 ghost use Rattle.rept_reason.specs.declared.fact.Cell.TheVariants.{Register, Byte};
-ghost use Rattle.rept_report.specs.Log.{entry, place_of, oldest};
+ghost use Rattle.rept_report.specs.Log.{entry, oldest};
 ghost use Rattle.rept_report.specs.Reasons.{StandsIn};
 ghost use Rattle.rept_report.specs.Why.{because, IsReason, IsLeastFront};
 ghost use Rattle.rept_log.specs.Fronts.{IsInPlace, told_by};
-ghost use Rattle.rept_analysis.specs.State.{setting_of, state_of, reader};
-ghost use Rattle.rept_analysis.specs.Kept.{answers};
-ghost use Rattle.rept_analysis.specs.Reasoned.{AreSetsOf, KeepsAll, IsNotLast};
+ghost use Rattle.rept_facts.specs.State.{setting_of, state_of, reader};
+ghost use Rattle.rept_facts.specs.Kept.{answers};
+ghost use Rattle.rept_facts.specs.Reasoned.{AreSetsOf, KeepsAll, IsNotLast};
 
 use super::Analysis;
-use super::guessing::probe;
-use crate::front_sets::FrontSets;
+use rept_facts::FrontSets;
 use rept_isa::Reg;
 use rept_log::LastValues;
 use rept_reason::{Cell, Fact, Reason, RowRules};
-use rept_report::Reaches;
+use rept_report::{Paths, Reaches};
 use rept_span::{Spans, Transfer};
 use rept_versions::ByteFacts;
 use std::alloc::{AllocError as OutOfMemory, Global};
+
+/// A number from `low` on below `high`: the one before a guess, the guess itself once that is the
+/// least, and else the middle.
+fn probe(low: u32, high: u32, guess: u32) -> u32
+    requires { low < high }
+    ensures from { low ≤ result }
+    ensures below { result < high }
+{
+    if low < guess && guess <= high {
+        return guess - 1;
+    }
+    if low == guess {
+        return low;
+    }
+    low + (high - low) / 2
+}
 
 impl<'a, P: Reaches + Drop, L: LastValues + Drop, B: ByteFacts, W: Transfer, R: RowRules> Analysis<
     'a,
@@ -29,40 +44,21 @@ impl<'a, P: Reaches + Drop, L: LastValues + Drop, B: ByteFacts, W: Transfer, R: 
     W,
     R,
 > {
-    /// The place in the log of the fact on a register at a point.
-    pub(super) fn place_at(&self, point: u32, r: Reg) -> Option<u32>
-        requires point { point ≤ (P.timeline self.now.paths).legs.count }
-        requires named { 0 < r }
-        ensures place { result ≡ place_of self.now.known.log point (Register r) }
-        ensures within { IfSome result (λ t. t < length self.now.known.log) }
-    {
-        let _paths = &self.paths;
-        self.known.place(point, r)
-    }
-
-    /// Whether the log has a fact at a place.
-    fn is_entry(&self, place: u32, fact: &Fact) -> bool
-        requires { place < length self.now.known.log }
-        ensures { IsTrue result ↔ (entry self.now.known.log place ≡ Some fact.now) }
-    {
-        self.known.entry(place) == *fact
-    }
-
     /// The place in the log of a register's fact.
     fn place(&self, fact: &Fact, r: Reg) -> Option<u32>
-        requires point { fact.now.point ≤ (P.timeline self.now.paths).legs.count }
+        requires point { fact.now.point ≤ (P.timeline self.now.propagation.facts.paths).legs.count }
         requires cell { fact.now.cell ≡ Register r }
-        requires complete { self.now.complete ≡ true }
-        ensures found { IfSome result (λ t. entry self.now.known.log t ≡ Some fact.now) }
+        requires complete { self.now.propagation.facts.complete ≡ true }
+        ensures found { IfSome result (λ t. entry self.now.propagation.facts.known.log t ≡ Some fact.now) }
         ensures named { IfSome result (λ _. 0 < r) }
-        ensures none { IfNone result (answers (state_of (reader P.timeline L.values) W.sets W.moves R.rules B.store self.now) fact.now.point fact.now.cell ≢ Some fact.now.value) }
+        ensures none { IfNone result (answers (state_of (reader P.timeline L.values) W.sets W.moves R.rules B.store self.now.propagation.facts) fact.now.point fact.now.cell ≢ Some fact.now.value) }
     {
-        self.held();
+        self.propagation.facts.held();
         if r.number() == 0 {
             return None;
         }
-        let place = self.place_at(fact.point, r)?;
-        if self.is_entry(place, fact) {
+        let place = self.propagation.facts.place_at(fact.point, r)?;
+        if self.propagation.facts.is_entry(place, fact) {
             Some(place)
         } else {
             None
@@ -76,20 +72,22 @@ impl<'a, P: Reaches + Drop, L: LastValues + Drop, B: ByteFacts, W: Transfer, R: 
         fact: &Fact,
         r: Reg,
     ) -> Result<Option<Reason>, OutOfMemory>
-        requires point { fact.now.point ≤ (P.timeline self.old.paths).legs.count }
+        requires point { fact.now.point ≤ (P.timeline self.old.propagation.facts.paths).legs.count }
         requires cell { fact.now.cell ≡ Register r }
-        requires complete { self.old.complete ≡ true }
-        ensures none { IfOk result (λ found. IfNone found (answers (state_of (reader P.timeline L.values) W.sets W.moves R.rules B.store self.old) fact.now.point fact.now.cell ≢ Some fact.now.value)) }
-        ensures reason { IfOk result (λ found. IfSome found (λ reason. IsReason (setting_of (reader P.timeline L.values) W.sets W.moves R.rules self.old) self.old.known.log fact.now (told_by reason))) }
+        requires complete { self.old.propagation.facts.complete ≡ true }
+        ensures none { IfOk result (λ found. IfNone found (answers (state_of (reader P.timeline L.values) W.sets W.moves R.rules B.store self.old.propagation.facts) fact.now.point fact.now.cell ≢ Some fact.now.value)) }
+        ensures reason { IfOk result (λ found. IfSome found (λ reason. IsReason (setting_of (reader P.timeline L.values) W.sets W.moves R.rules self.old.propagation.facts) self.old.propagation.facts.known.log fact.now (told_by reason))) }
         ensures room { IfOk result (λ found. IfSome found IsInPlace) }
-        ensures same { KeepsAll (state_of (reader P.timeline L.values) W.sets W.moves R.rules B.store self.old) (state_of (reader P.timeline L.values) W.sets W.moves R.rules B.store self.new) }
+        ensures same { KeepsAll (state_of (reader P.timeline L.values) W.sets W.moves R.rules B.store self.old.propagation.facts) (state_of (reader P.timeline L.values) W.sets W.moves R.rules B.store self.new.propagation.facts) }
     {
-        self.held();
+        self.propagation.facts.held();
         match self.place(fact, r) {
             None => Ok(None),
             Some(place) => {
-                let spans = self.sets_below(place)?;
-                self.known_below(alloc, &spans, place, fact, r)
+                let spans = self.propagation.facts.sets_below(place)?;
+                self.propagation
+                    .facts
+                    .known_below(alloc, &spans, place, fact, r)
             }
         }
     }
@@ -103,15 +101,18 @@ impl<'a, P: Reaches + Drop, L: LastValues + Drop, B: ByteFacts, W: Transfer, R: 
         fact: &Fact,
         a: u32,
     ) -> Result<bool, OutOfMemory>
-        requires within { limit ≤ length self.now.known.log }
-        requires sets { AreSetsOf (setting_of (reader P.timeline L.values) W.sets W.moves R.rules self.now) (oldest limit self.now.known.log) spans.now }
-        requires moment { fact.now.point ≤ (P.timeline self.now.paths).moments.end }
+        requires within { limit ≤ length self.now.propagation.facts.known.log }
+        requires sets { AreSetsOf (setting_of (reader P.timeline L.values) W.sets W.moves R.rules self.now.propagation.facts) (oldest limit self.now.propagation.facts.known.log) spans.now }
+        requires moment { fact.now.point ≤ (P.timeline self.now.propagation.facts.paths).moments.end }
         requires cell { fact.now.cell ≡ Byte a }
-        requires complete { self.now.complete ≡ true }
-        ensures { IfOk result (λ stands. IsTrue stands ↔ StandsIn (setting_of (reader P.timeline L.values) W.sets W.moves R.rules self.now) (oldest limit self.now.known.log) fact.now) }
+        requires complete { self.now.propagation.facts.complete ≡ true }
+        ensures { IfOk result (λ stands. IsTrue stands ↔ StandsIn (setting_of (reader P.timeline L.values) W.sets W.moves R.rules self.now.propagation.facts) (oldest limit self.now.propagation.facts.known.log) fact.now) }
     {
-        self.held();
-        let found = self.byte_below(spans, limit, fact.point, a)?;
+        self.propagation.facts.held();
+        let found = self
+            .propagation
+            .facts
+            .byte_below(spans, limit, fact.point, a)?;
         match found {
             Some(byte) => Ok(u32::from(byte) == fact.value),
             None => Ok(false),
@@ -127,21 +128,21 @@ impl<'a, P: Reaches + Drop, L: LastValues + Drop, B: ByteFacts, W: Transfer, R: 
         fact: &Fact,
         a: u32,
     ) -> Result<u32, OutOfMemory>
-        requires sets { AreSetsOf (setting_of (reader P.timeline L.values) W.sets W.moves R.rules self.now) (oldest sets.old.limit self.now.known.log) sets.old.spans }
-        requires moment { fact.now.point ≤ (P.timeline self.now.paths).moments.end }
+        requires sets { AreSetsOf (setting_of (reader P.timeline L.values) W.sets W.moves R.rules self.now.propagation.facts) (oldest sets.old.limit self.now.propagation.facts.known.log) sets.old.spans }
+        requires moment { fact.now.point ≤ (P.timeline self.now.propagation.facts.paths).moments.end }
         requires cell { fact.now.cell ≡ Byte a }
-        requires complete { self.now.complete ≡ true }
-        requires known { answers (state_of (reader P.timeline L.values) W.sets W.moves R.rules B.store self.now) fact.now.point fact.now.cell ≡ Some fact.now.value }
-        ensures least { IfOk result (λ t. IsLeastFront (setting_of (reader P.timeline L.values) W.sets W.moves R.rules self.now) self.now.known.log fact.now t) }
-        ensures within { IfOk result (λ t. t ≤ length self.now.known.log) }
-        ensures sets { AreSetsOf (setting_of (reader P.timeline L.values) W.sets W.moves R.rules self.now) (oldest sets.new.limit self.now.known.log) sets.new.spans }
+        requires complete { self.now.propagation.facts.complete ≡ true }
+        requires known { answers (state_of (reader P.timeline L.values) W.sets W.moves R.rules B.store self.now.propagation.facts) fact.now.point fact.now.cell ≡ Some fact.now.value }
+        ensures least { IfOk result (λ t. IsLeastFront (setting_of (reader P.timeline L.values) W.sets W.moves R.rules self.now.propagation.facts) self.now.propagation.facts.known.log fact.now t) }
+        ensures within { IfOk result (λ t. t ≤ length self.now.propagation.facts.known.log) }
+        ensures sets { AreSetsOf (setting_of (reader P.timeline L.values) W.sets W.moves R.rules self.now.propagation.facts) (oldest sets.new.limit self.now.propagation.facts.known.log) sets.new.spans }
     {
-        self.held();
+        self.propagation.facts.held();
         let mut low = 0;
-        let mut high = self.len();
+        let mut high = self.propagation.facts.len();
         while low < high {
             let limit = probe(low, high, guess);
-            self.fill_to(sets, limit);
+            self.propagation.facts.fill_to(sets, limit);
             let stands = self.stands_below(&sets.spans, limit, fact, a)?;
             if stands {
                 high = limit;
@@ -161,20 +162,22 @@ impl<'a, P: Reaches + Drop, L: LastValues + Drop, B: ByteFacts, W: Transfer, R: 
         fact: &Fact,
         a: u32,
     ) -> Result<Option<Reason>, OutOfMemory>
-        requires sets { AreSetsOf (setting_of (reader P.timeline L.values) W.sets W.moves R.rules self.old) (oldest sets.old.limit self.old.known.log) sets.old.spans }
-        requires moment { fact.now.point ≤ (P.timeline self.old.paths).moments.end }
+        requires sets { AreSetsOf (setting_of (reader P.timeline L.values) W.sets W.moves R.rules self.old.propagation.facts) (oldest sets.old.limit self.old.propagation.facts.known.log) sets.old.spans }
+        requires moment { fact.now.point ≤ (P.timeline self.old.propagation.facts.paths).moments.end }
         requires cell { fact.now.cell ≡ Byte a }
-        requires complete { self.old.complete ≡ true }
-        requires least { IsLeastFront (setting_of (reader P.timeline L.values) W.sets W.moves R.rules self.old) self.old.known.log fact.now (place + 1) }
-        requires entry { entry self.old.known.log place ≡ Some fact.now }
-        ensures none { IfOk result (λ found. IfNone found (answers (state_of (reader P.timeline L.values) W.sets W.moves R.rules B.store self.old) fact.now.point fact.now.cell ≢ Some fact.now.value)) }
-        ensures reason { IfOk result (λ found. IfSome found (λ reason. IsReason (setting_of (reader P.timeline L.values) W.sets W.moves R.rules self.old) self.old.known.log fact.now (told_by reason))) }
+        requires complete { self.old.propagation.facts.complete ≡ true }
+        requires least { IsLeastFront (setting_of (reader P.timeline L.values) W.sets W.moves R.rules self.old.propagation.facts) self.old.propagation.facts.known.log fact.now (place + 1) }
+        requires entry { entry self.old.propagation.facts.known.log place ≡ Some fact.now }
+        ensures none { IfOk result (λ found. IfNone found (answers (state_of (reader P.timeline L.values) W.sets W.moves R.rules B.store self.old.propagation.facts) fact.now.point fact.now.cell ≢ Some fact.now.value)) }
+        ensures reason { IfOk result (λ found. IfSome found (λ reason. IsReason (setting_of (reader P.timeline L.values) W.sets W.moves R.rules self.old.propagation.facts) self.old.propagation.facts.known.log fact.now (told_by reason))) }
         ensures room { IfOk result (λ found. IfSome found IsInPlace) }
-        ensures same { KeepsAll (state_of (reader P.timeline L.values) W.sets W.moves R.rules B.store self.old) (state_of (reader P.timeline L.values) W.sets W.moves R.rules B.store self.new) }
+        ensures same { KeepsAll (state_of (reader P.timeline L.values) W.sets W.moves R.rules B.store self.old.propagation.facts) (state_of (reader P.timeline L.values) W.sets W.moves R.rules B.store self.new.propagation.facts) }
     {
-        self.held();
-        self.fill_to(sets, place);
-        self.inferred_below(alloc, &sets.spans, place, fact, a)
+        self.propagation.facts.held();
+        self.propagation.facts.fill_to(sets, place);
+        self.propagation
+            .facts
+            .inferred_below(alloc, &sets.spans, place, fact, a)
     }
 
     /// The reason of any other byte's fact.
@@ -186,28 +189,30 @@ impl<'a, P: Reaches + Drop, L: LastValues + Drop, B: ByteFacts, W: Transfer, R: 
         fact: &Fact,
         a: u32,
     ) -> Result<Option<Reason>, OutOfMemory>
-        requires sets { AreSetsOf (setting_of (reader P.timeline L.values) W.sets W.moves R.rules self.now) (oldest sets.old.limit self.now.known.log) sets.old.spans }
-        requires within { limit ≤ length self.now.known.log }
-        requires moment { fact.now.point ≤ (P.timeline self.now.paths).moments.end }
+        requires sets { AreSetsOf (setting_of (reader P.timeline L.values) W.sets W.moves R.rules self.now.propagation.facts) (oldest sets.old.limit self.now.propagation.facts.known.log) sets.old.spans }
+        requires within { limit ≤ length self.now.propagation.facts.known.log }
+        requires moment { fact.now.point ≤ (P.timeline self.now.propagation.facts.paths).moments.end }
         requires cell { fact.now.cell ≡ Byte a }
-        requires complete { self.now.complete ≡ true }
-        requires least { IsLeastFront (setting_of (reader P.timeline L.values) W.sets W.moves R.rules self.now) self.now.known.log fact.now limit }
-        requires other { IsNotLast self.now.known.log fact.now limit }
-        ensures none { IfOk result (λ found. IfNone found (answers (state_of (reader P.timeline L.values) W.sets W.moves R.rules B.store self.now) fact.now.point fact.now.cell ≢ Some fact.now.value)) }
-        ensures reason { IfOk result (λ found. IfSome found (λ reason. IsReason (setting_of (reader P.timeline L.values) W.sets W.moves R.rules self.now) self.now.known.log fact.now (told_by reason))) }
+        requires complete { self.now.propagation.facts.complete ≡ true }
+        requires least { IsLeastFront (setting_of (reader P.timeline L.values) W.sets W.moves R.rules self.now.propagation.facts) self.now.propagation.facts.known.log fact.now limit }
+        requires other { IsNotLast self.now.propagation.facts.known.log fact.now limit }
+        ensures none { IfOk result (λ found. IfNone found (answers (state_of (reader P.timeline L.values) W.sets W.moves R.rules B.store self.now.propagation.facts) fact.now.point fact.now.cell ≢ Some fact.now.value)) }
+        ensures reason { IfOk result (λ found. IfSome found (λ reason. IsReason (setting_of (reader P.timeline L.values) W.sets W.moves R.rules self.now.propagation.facts) self.now.propagation.facts.known.log fact.now (told_by reason))) }
         ensures room { IfOk result (λ found. IfSome found IsInPlace) }
     {
-        self.held();
-        self.fill_to(sets, limit);
-        self.carried_below(alloc, &sets.spans, limit, fact, a)
+        self.propagation.facts.held();
+        self.propagation.facts.fill_to(sets, limit);
+        self.propagation
+            .facts
+            .carried_below(alloc, &sets.spans, limit, fact, a)
     }
 
     /// Whether a byte's fact is answered.
     fn is_answered(&self, fact: &Fact, a: u32) -> bool
-        requires moment { fact.now.point ≤ (P.timeline self.now.paths).moments.end }
+        requires moment { fact.now.point ≤ (P.timeline self.now.propagation.facts.paths).moments.end }
         requires cell { fact.now.cell ≡ Byte a }
-        requires complete { self.now.complete ≡ true }
-        ensures { IsTrue result ↔ (answers (state_of (reader P.timeline L.values) W.sets W.moves R.rules B.store self.now) fact.now.point fact.now.cell ≡ Some fact.now.value) }
+        requires complete { self.now.propagation.facts.complete ≡ true }
+        ensures { IsTrue result ↔ (answers (state_of (reader P.timeline L.values) W.sets W.moves R.rules B.store self.now.propagation.facts) fact.now.point fact.now.cell ≡ Some fact.now.value) }
     {
         match self.byte(fact.point, a) {
             Some(byte) => u32::from(byte) == fact.value,
@@ -217,11 +222,11 @@ impl<'a, P: Reaches + Drop, L: LastValues + Drop, B: ByteFacts, W: Transfer, R: 
 
     /// Whether the fact is the last one of the prefix of the log below a limit.
     fn is_last(&self, limit: u32, fact: &Fact) -> bool
-        requires { limit ≤ length self.now.known.log }
-        ensures last { result ≡ true → (0 < limit) × (entry self.now.known.log (limit - 1) ≡ Some fact.now) }
-        ensures other { result ≡ false → IsNotLast self.now.known.log fact.now limit }
+        requires { limit ≤ length self.now.propagation.facts.known.log }
+        ensures last { result ≡ true → (0 < limit) × (entry self.now.propagation.facts.known.log (limit - 1) ≡ Some fact.now) }
+        ensures other { result ≡ false → IsNotLast self.now.propagation.facts.known.log fact.now limit }
     {
-        limit > 0 && self.is_entry(limit - 1, fact)
+        limit > 0 && self.propagation.facts.is_entry(limit - 1, fact)
     }
 
     /// The reason of a byte's fact, by the least prefix in which it stands.
@@ -231,19 +236,19 @@ impl<'a, P: Reaches + Drop, L: LastValues + Drop, B: ByteFacts, W: Transfer, R: 
         fact: &Fact,
         a: u32,
     ) -> Result<Option<Reason>, OutOfMemory>
-        requires moment { fact.now.point ≤ (P.timeline self.old.paths).moments.end }
+        requires moment { fact.now.point ≤ (P.timeline self.old.propagation.facts.paths).moments.end }
         requires cell { fact.now.cell ≡ Byte a }
-        requires complete { self.old.complete ≡ true }
-        ensures none { IfOk result (λ found. IfNone found (answers (state_of (reader P.timeline L.values) W.sets W.moves R.rules B.store self.old) fact.now.point fact.now.cell ≢ Some fact.now.value)) }
-        ensures reason { IfOk result (λ found. IfSome found (λ reason. IsReason (setting_of (reader P.timeline L.values) W.sets W.moves R.rules self.old) self.old.known.log fact.now (told_by reason))) }
+        requires complete { self.old.propagation.facts.complete ≡ true }
+        ensures none { IfOk result (λ found. IfNone found (answers (state_of (reader P.timeline L.values) W.sets W.moves R.rules B.store self.old.propagation.facts) fact.now.point fact.now.cell ≢ Some fact.now.value)) }
+        ensures reason { IfOk result (λ found. IfSome found (λ reason. IsReason (setting_of (reader P.timeline L.values) W.sets W.moves R.rules self.old.propagation.facts) self.old.propagation.facts.known.log fact.now (told_by reason))) }
         ensures room { IfOk result (λ found. IfSome found IsInPlace) }
-        ensures same { KeepsAll (state_of (reader P.timeline L.values) W.sets W.moves R.rules B.store self.old) (state_of (reader P.timeline L.values) W.sets W.moves R.rules B.store self.new) }
+        ensures same { KeepsAll (state_of (reader P.timeline L.values) W.sets W.moves R.rules B.store self.old.propagation.facts) (state_of (reader P.timeline L.values) W.sets W.moves R.rules B.store self.new.propagation.facts) }
     {
         if !self.is_answered(fact, a) {
             return Ok(None);
         }
-        let guess = self.guess(fact.point, a)?;
-        let mut sets = self.front_sets(guess.saturating_sub(1))?;
+        let guess = self.propagation.facts.guess(fact.point, a)?;
+        let mut sets = self.propagation.facts.front_sets(guess.saturating_sub(1))?;
         let limit = self.least_front(&mut sets, guess, fact, a)?;
         if self.is_last(limit, fact) {
             return self.why_inferred(alloc, &mut sets, limit - 1, fact, a);
@@ -256,13 +261,13 @@ impl<'a, P: Reaches + Drop, L: LastValues + Drop, B: ByteFacts, W: Transfer, R: 
     /// where the fact isn't answered. `OutOfMemory` says that the room for the search can't be had.
     /// Nothing that other calls answer changes.
     pub fn why(&mut self, alloc: Global, fact: Fact) -> Result<Option<Reason>, OutOfMemory>
-        requires point { (r : ℕ) → fact.cell ≡ Register r → fact.point ≤ (P.timeline self.old.paths).legs.count }
-        requires moment { (a : ℕ) → fact.cell ≡ Byte a → fact.point ≤ (P.timeline self.old.paths).moments.end }
-        requires complete { self.old.complete ≡ true }
-        ensures none { IfOk result (λ found. IfNone found (answers (state_of (reader P.timeline L.values) W.sets W.moves R.rules B.store self.old) fact.point fact.cell ≢ Some fact.value)) }
-        ensures reason { IfOk result (λ found. IfSome found (λ reason. IsReason (setting_of (reader P.timeline L.values) W.sets W.moves R.rules self.old) self.old.known.log fact (because reason.rule reason.premises.items reason.ranges.items))) }
+        requires point { (r : ℕ) → fact.cell ≡ Register r → fact.point ≤ (P.timeline self.old.propagation.facts.paths).legs.count }
+        requires moment { (a : ℕ) → fact.cell ≡ Byte a → fact.point ≤ (P.timeline self.old.propagation.facts.paths).moments.end }
+        requires complete { self.old.propagation.facts.complete ≡ true }
+        ensures none { IfOk result (λ found. IfNone found (answers (state_of (reader P.timeline L.values) W.sets W.moves R.rules B.store self.old.propagation.facts) fact.point fact.cell ≢ Some fact.value)) }
+        ensures reason { IfOk result (λ found. IfSome found (λ reason. IsReason (setting_of (reader P.timeline L.values) W.sets W.moves R.rules self.old.propagation.facts) self.old.propagation.facts.known.log fact (because reason.rule reason.premises.items reason.ranges.items))) }
         ensures room { IfOk result (λ found. IfSome found IsInPlace) }
-        ensures same { KeepsAll (state_of (reader P.timeline L.values) W.sets W.moves R.rules B.store self.old) (state_of (reader P.timeline L.values) W.sets W.moves R.rules B.store self.new) }
+        ensures same { KeepsAll (state_of (reader P.timeline L.values) W.sets W.moves R.rules B.store self.old.propagation.facts) (state_of (reader P.timeline L.values) W.sets W.moves R.rules B.store self.new.propagation.facts) }
     {
         match &fact.cell {
             Cell::Register(r) => self.why_register(alloc, &fact, *r),

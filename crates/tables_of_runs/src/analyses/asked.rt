@@ -5,9 +5,10 @@ ghost use Rattle.rept_steps.specs.Course.{IsSoundCourse};
 ghost use Rattle.rept_steps.specs.Runs.{course_of};
 
 use rept_amo::Atomic;
-use rept_analysis::{Analysis, Stop, ThreadEnd};
+use rept_analysis::{Analysis, ThreadEnd};
 use rept_dump::Dump;
 use rept_extents::RunRows;
+use rept_facts::Stop;
 use rept_isa::Reg;
 use rept_partial::{Partial, Range};
 use rept_reason::{Cell, Fact, Reason};
@@ -148,8 +149,8 @@ fn is_there<P: Reaches + Drop, B: ByteFacts>(
     analysis: &Analysis<P, ThreadEnd, B, Range, Atomic>,
     point: u32,
 ) -> bool
-    ensures point { result ≡ true → point ≤ (P.timeline analysis.now.paths).legs.count }
-    ensures moment { result ≡ true → point ≤ (P.timeline analysis.now.paths).moments.end }
+    ensures point { result ≡ true → point ≤ (P.timeline analysis.now.propagation.facts.paths).legs.count }
+    ensures moment { result ≡ true → point ≤ (P.timeline analysis.now.propagation.facts.paths).moments.end }
 {
     point <= analysis.paths().last_point() && point <= analysis.paths().end()
 }

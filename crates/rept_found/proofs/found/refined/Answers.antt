@@ -1,6 +1,6 @@
 use Rattle.std.proofs.Common.{Result, IsOk, subst}
-use Rattle.rept_analysis.specs.declared.stop.Stop.{Stop}
-use Rattle.rept_analysis.specs.declared.stop.Stop.TheVariants.{Conflict, OutOfMemory}
+use Rattle.rept_facts.specs.declared.stop.Stop.{Stop}
+use Rattle.rept_facts.specs.declared.stop.Stop.TheVariants.{Conflict, OutOfMemory}
 use Rattle.rept_found.proofs.Stops.{stop_at}
 use Rattle.rept_found.proofs.found.refined.Goals as goal
 

@@ -29,7 +29,7 @@ invariant_of-result g c =
       record {
         some = c.account.ensures.some;
         sound = c.requires.sound;
-        given = given_is c.in-Ok-prepare.analysis c.args.paths.now c.args.ends.now (exe_of c.args.dump.now) (core_of c.args.dump.now) paths ends its.memory c.requires.course;
+        given = given_is c.in-Ok-prepare.analysis.propagation.facts c.args.paths.now c.args.ends.now (exe_of c.args.dump.now) (core_of c.args.dump.now) paths ends its.memory c.requires.course;
       },
       c.requires.course,
     )
@@ -37,7 +37,7 @@ invariant_of-result g c =
 pub returns-in-Ok-prepare : goal.returns-in-Ok-prepare
 returns-in-Ok-prepare g c =
     let m = means g.W.Partial.sets g.W.Transfer.moves g.R.RowRules.rules in
-    let new : CrashView g.row.W.Denot g.row.R.Denot = record { analysis = c.in-Ok-prepare.analysis; ends = c.args.ends.now; program = exe_of c.args.dump.now; core = core_of c.args.dump.now } in
+    let new : CrashView g.row.W.Denot g.row.R.Denot = record { analysis = c.in-Ok-prepare.analysis.propagation.facts; ends = c.args.ends.now; program = exe_of c.args.dump.now; core = core_of c.args.dump.now } in
     record {
       prepared = λ notes noted same. record {
         trip = trip_is m new notes c.requires.program c.account.ensures.ends.whole noted same;

@@ -1,16 +1,16 @@
 use Rattle.std.proofs.Common.{◌≢◌, ◌<◌, ◌+◌, ℕ, Some, refl}
 use Rattle.rept_isa.specs.Operands.{written_by}
 use Rattle.rept_reason.specs.declared.fact.Cell.TheVariants.{Register}
-use Rattle.rept_analysis.specs.State.{state_of, reader}
-use Rattle.rept_analysis.specs.Inferring.{Knows, IsLearntAt, IsKeptAt}
-use Rattle.rept_analysis.proofs.Conclusion.{HasInferred_both, HasInferred_as, Grows_trans, row_after}
-use Rattle.rept_analysis.proofs.Following.{onward_follows, back_follows, kept_at, back_known}
+use Rattle.rept_facts.specs.State.{state_of, reader}
+use Rattle.rept_facts.specs.Inferring.{Knows, IsLearntAt, IsKeptAt}
+use Rattle.rept_facts.proofs.Conclusion.{HasInferred_both, HasInferred_as, Grows_trans, row_after}
+use Rattle.rept_facts.proofs.Following.{onward_follows, back_follows, kept_at, back_known}
 use Rattle.rept_analysis.proofs.analysis.Analysis.carry.Goals as goal
 
 pub learn_if-requires-clause-follows : goal.learn_if-requires-clause-follows
 learn_if-requires-clause-follows g c =
     let kept : written_by c.args.row.now.instr ≢ Some c.args.r = c.if-not-keeps.ensures.0 refl in
-    λ v is named in_file small. onward_follows (state_of (reader g.P.Paths.timeline g.L.LastValues.values) g.W.Partial.sets g.W.Transfer.moves g.R.RowRules.rules g.B.ByteFacts.store c.args.self.now) c.args.i c.args.row.now c.requires.row c.requires.inside c.args.r v named in_file small kept c.known-before.result c.known-before.ensures.value is
+    λ v is named in_file small. onward_follows (state_of (reader g.P.Paths.timeline g.L.LastValues.values) g.W.Partial.sets g.W.Transfer.moves g.R.RowRules.rules g.B.ByteFacts.store c.args.self.now.propagation.facts) c.args.i c.args.row.now c.requires.row c.requires.inside c.args.r v named in_file small kept c.known-before.result c.known-before.ensures.value is
 
 pub learn_if-requires-2-clause-follows : goal.learn_if-requires-2-clause-follows
 learn_if-requires-2-clause-follows g c =

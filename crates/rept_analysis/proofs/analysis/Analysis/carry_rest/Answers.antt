@@ -1,7 +1,7 @@
 use Rattle.std.proofs.Common.{◌≡◌, false}
-use Rattle.rept_analysis.specs.State.{AnalysisState, state_of, reader}
-use Rattle.rept_analysis.specs.Inferring.{LastBytesKnown}
-use Rattle.rept_analysis.proofs.Conclusion.{HasInferred_if}
+use Rattle.rept_facts.specs.State.{AnalysisState, state_of, reader}
+use Rattle.rept_facts.specs.Inferring.{LastBytesKnown}
+use Rattle.rept_facts.proofs.Conclusion.{HasInferred_if}
 use Rattle.rept_analysis.proofs.analysis.Analysis.carry_rest.Goals as goal
 
 pub returns-clause-inferred : goal.returns-clause-inferred

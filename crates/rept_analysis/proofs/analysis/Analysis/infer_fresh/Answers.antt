@@ -1,6 +1,6 @@
-use Rattle.rept_analysis.specs.State.{AnalysisState}
-use Rattle.rept_analysis.specs.Inferring.{IsRowClosed}
-use Rattle.rept_analysis.proofs.Conclusion.{HasInferred_if}
+use Rattle.rept_facts.specs.State.{AnalysisState}
+use Rattle.rept_facts.specs.Inferring.{IsRowClosed}
+use Rattle.rept_facts.proofs.Conclusion.{HasInferred_if}
 use Rattle.rept_analysis.proofs.analysis.Analysis.infer_fresh.Goals as goal
 
 pub returns-then-has-clause-inferred : goal.returns-then-has-clause-inferred

@@ -1,8 +1,8 @@
 use Rattle.std.proofs.Common.{◌≡◌, false, IfOk, subst, sym}
 use Rattle.rept_dump.specs.Memory.{crash_byte}
 use Rattle.rept_dump.specs.Program.{contents}
-use Rattle.rept_analysis.specs.State.{Whole, state_of, reader}
-use Rattle.rept_analysis.specs.Inferring.{Grows, HasInferred, IsTracked, LastByteKnown}
+use Rattle.rept_facts.specs.State.{Whole, state_of, reader}
+use Rattle.rept_facts.specs.Inferring.{Grows, HasInferred, IsTracked, LastByteKnown}
 use Rattle.rept_analysis.proofs.analysis.Analysis.infer_last_byte.Goals as goal
 
 pub learn_last_byte-requires-clause-tracked : goal.learn_last_byte-requires-clause-tracked
@@ -19,9 +19,9 @@ learn_last_byte-requires-clause-byte g c = subst (λ (x : Whole g.row.P.Denot g.
 pub returns-clause-grows : goal.returns-clause-grows
 returns-clause-grows g c =
     let st = state_of (reader g.P.Paths.timeline g.L.LastValues.values) g.W.Partial.sets g.W.Transfer.moves g.R.RowRules.rules g.B.ByteFacts.store in
-    subst (λ (x : Whole g.row.P.Denot g.row.L.Denot g.row.B.Denot g.row.W.Denot g.row.R.Denot). Grows (st x) (st c.learn_last_byte.new.self)) c.last_byte-byte.ensures.same c.learn_last_byte.ensures.grows
+    subst (λ (x : Whole g.row.P.Denot g.row.L.Denot g.row.B.Denot g.row.W.Denot g.row.R.Denot). Grows (st x) (st c.learn_last_byte.new.self.propagation.facts)) c.last_byte-byte.ensures.same c.learn_last_byte.ensures.grows
 
 pub returns-clause-inferred : goal.returns-clause-inferred
 returns-clause-inferred g c =
     let st = state_of (reader g.P.Paths.timeline g.L.LastValues.values) g.W.Partial.sets g.W.Transfer.moves g.R.RowRules.rules g.B.ByteFacts.store in
-    subst (λ (x : Whole g.row.P.Denot g.row.L.Denot g.row.B.Denot g.row.W.Denot g.row.R.Denot). IfOk c.learn_last_byte.result (λ learnt. HasInferred (st x) (st c.learn_last_byte.new.self) learnt (LastByteKnown c.args.a))) c.last_byte-byte.ensures.same c.learn_last_byte.ensures.inferred
+    subst (λ (x : Whole g.row.P.Denot g.row.L.Denot g.row.B.Denot g.row.W.Denot g.row.R.Denot). IfOk c.learn_last_byte.result (λ learnt. HasInferred (st x) (st c.learn_last_byte.new.self.propagation.facts) learnt (LastByteKnown c.args.a))) c.last_byte-byte.ensures.same c.learn_last_byte.ensures.inferred

@@ -1,7 +1,7 @@
 use Rattle.std.proofs.Common.{Option, sym, ap, ◌∙◌}
 use Rattle.rept_isa.specs.declared.row.StepRow.{StepRow}
 use Rattle.rept_isa.specs.Operands.{is_call}
-use Rattle.rept_analysis.specs.Counts.{row_is}
+use Rattle.rept_facts.specs.Counts.{row_is}
 use Rattle.rept_analysis.proofs.analysis.Analysis.is_call_row.Goals as goal
 
 pub returns-in-None : goal.returns-in-None

@@ -5,29 +5,29 @@ use Rattle.rept_report.specs.Conflicts.{Shows}
 use Rattle.rept_report.specs.Closure.{ClosureHas}
 use Rattle.rept_report.specs.Log.{oldest}
 use Rattle.rept_log.specs.Known.{Known}
-use Rattle.rept_analysis.specs.State.{state_of, Subject, along, reader}
-use Rattle.rept_analysis.proofs.Begun.{ends_among, ends_first}
-use Rattle.rept_analysis.proofs.Ending.{Same_trans, forth, back_to, stopped_from, least_later, shows_like}
-use Rattle.rept_analysis.proofs.Stopping.{shown_conflict}
+use Rattle.rept_facts.specs.State.{state_of, Subject, along, reader}
+use Rattle.rept_facts.proofs.Begun.{ends_among, ends_first}
+use Rattle.rept_facts.proofs.Ending.{Same_trans, forth, back_to, stopped_from, least_later, shows_like}
+use Rattle.rept_facts.proofs.Stopping.{shown_conflict}
 use Rattle.rept_analysis.proofs.analysis.Analysis.stop_least.Goals as goal
 
 pub look-requires-clause-within : goal.look-requires-clause-within
-look-requires-clause-within g c = forth (state_of (reader g.P.Paths.timeline g.L.LastValues.values) g.W.Partial.sets g.W.Transfer.moves g.R.RowRules.rules g.B.ByteFacts.store c.args.self.now) (state_of (reader g.P.Paths.timeline g.L.LastValues.values) g.W.Partial.sets g.W.Transfer.moves g.R.RowRules.rules g.B.ByteFacts.store c.bisect-limit.new.self) c.bisect-limit.ensures.same (λ (P : Subject g.row.W.Denot) (k : Known). c.bisect-limit.result ≤ length k.log) c.bisect-limit.ensures.within
+look-requires-clause-within g c = forth (state_of (reader g.P.Paths.timeline g.L.LastValues.values) g.W.Partial.sets g.W.Transfer.moves g.R.RowRules.rules g.B.ByteFacts.store c.args.self.now.propagation.facts) (state_of (reader g.P.Paths.timeline g.L.LastValues.values) g.W.Partial.sets g.W.Transfer.moves g.R.RowRules.rules g.B.ByteFacts.store c.bisect-limit.new.self.propagation.facts) c.bisect-limit.ensures.same (λ (P : Subject g.row.W.Denot) (k : Known). c.bisect-limit.result ≤ length k.log) c.bisect-limit.ensures.within
 
 pub stop_at-requires-clause-within : goal.stop_at-requires-clause-within
 stop_at-requires-clause-within g c =
-    let same = Same_trans (state_of (reader g.P.Paths.timeline g.L.LastValues.values) g.W.Partial.sets g.W.Transfer.moves g.R.RowRules.rules g.B.ByteFacts.store c.args.self.now) (state_of (reader g.P.Paths.timeline g.L.LastValues.values) g.W.Partial.sets g.W.Transfer.moves g.R.RowRules.rules g.B.ByteFacts.store c.bisect-limit.new.self) (state_of (reader g.P.Paths.timeline g.L.LastValues.values) g.W.Partial.sets g.W.Transfer.moves g.R.RowRules.rules g.B.ByteFacts.store c.look.new.self) c.bisect-limit.ensures.same c.look.ensures.same in
-    forth (state_of (reader g.P.Paths.timeline g.L.LastValues.values) g.W.Partial.sets g.W.Transfer.moves g.R.RowRules.rules g.B.ByteFacts.store c.args.self.now) (state_of (reader g.P.Paths.timeline g.L.LastValues.values) g.W.Partial.sets g.W.Transfer.moves g.R.RowRules.rules g.B.ByteFacts.store c.look.new.self) same (λ (P : Subject g.row.W.Denot) (k : Known). c.bisect-limit.result ≤ length k.log) c.bisect-limit.ensures.within
+    let same = Same_trans (state_of (reader g.P.Paths.timeline g.L.LastValues.values) g.W.Partial.sets g.W.Transfer.moves g.R.RowRules.rules g.B.ByteFacts.store c.args.self.now.propagation.facts) (state_of (reader g.P.Paths.timeline g.L.LastValues.values) g.W.Partial.sets g.W.Transfer.moves g.R.RowRules.rules g.B.ByteFacts.store c.bisect-limit.new.self.propagation.facts) (state_of (reader g.P.Paths.timeline g.L.LastValues.values) g.W.Partial.sets g.W.Transfer.moves g.R.RowRules.rules g.B.ByteFacts.store c.look.new.self) c.bisect-limit.ensures.same c.look.ensures.same in
+    forth (state_of (reader g.P.Paths.timeline g.L.LastValues.values) g.W.Partial.sets g.W.Transfer.moves g.R.RowRules.rules g.B.ByteFacts.store c.args.self.now.propagation.facts) (state_of (reader g.P.Paths.timeline g.L.LastValues.values) g.W.Partial.sets g.W.Transfer.moves g.R.RowRules.rules g.B.ByteFacts.store c.look.new.self) same (λ (P : Subject g.row.W.Denot) (k : Known). c.bisect-limit.result ≤ length k.log) c.bisect-limit.ensures.within
 
 pub stop_at-requires-clause-later : goal.stop_at-requires-clause-later
 stop_at-requires-clause-later g c =
-    let same = Same_trans (state_of (reader g.P.Paths.timeline g.L.LastValues.values) g.W.Partial.sets g.W.Transfer.moves g.R.RowRules.rules g.B.ByteFacts.store c.args.self.now) (state_of (reader g.P.Paths.timeline g.L.LastValues.values) g.W.Partial.sets g.W.Transfer.moves g.R.RowRules.rules g.B.ByteFacts.store c.bisect-limit.new.self) (state_of (reader g.P.Paths.timeline g.L.LastValues.values) g.W.Partial.sets g.W.Transfer.moves g.R.RowRules.rules g.B.ByteFacts.store c.look.new.self) c.bisect-limit.ensures.same c.look.ensures.same in
-    rw same.shown (least_later (state_of (reader g.P.Paths.timeline g.L.LastValues.values) g.W.Partial.sets g.W.Transfer.moves g.R.RowRules.rules g.B.ByteFacts.store c.args.self.now) c.held.ensures c.bisect-limit.result c.bisect-limit.ensures.loud)
+    let same = Same_trans (state_of (reader g.P.Paths.timeline g.L.LastValues.values) g.W.Partial.sets g.W.Transfer.moves g.R.RowRules.rules g.B.ByteFacts.store c.args.self.now.propagation.facts) (state_of (reader g.P.Paths.timeline g.L.LastValues.values) g.W.Partial.sets g.W.Transfer.moves g.R.RowRules.rules g.B.ByteFacts.store c.bisect-limit.new.self.propagation.facts) (state_of (reader g.P.Paths.timeline g.L.LastValues.values) g.W.Partial.sets g.W.Transfer.moves g.R.RowRules.rules g.B.ByteFacts.store c.look.new.self) c.bisect-limit.ensures.same c.look.ensures.same in
+    rw same.shown (least_later (state_of (reader g.P.Paths.timeline g.L.LastValues.values) g.W.Partial.sets g.W.Transfer.moves g.R.RowRules.rules g.B.ByteFacts.store c.args.self.now.propagation.facts) c.held.ensures c.bisect-limit.result c.bisect-limit.ensures.loud)
 
 pub stop_at-requires-clause-shows : goal.stop_at-requires-clause-shows
 stop_at-requires-clause-shows g c =
-    let a = (state_of (reader g.P.Paths.timeline g.L.LastValues.values) g.W.Partial.sets g.W.Transfer.moves g.R.RowRules.rules g.B.ByteFacts.store c.args.self.now) in
-    let b = (state_of (reader g.P.Paths.timeline g.L.LastValues.values) g.W.Partial.sets g.W.Transfer.moves g.R.RowRules.rules g.B.ByteFacts.store c.bisect-limit.new.self) in
+    let a = (state_of (reader g.P.Paths.timeline g.L.LastValues.values) g.W.Partial.sets g.W.Transfer.moves g.R.RowRules.rules g.B.ByteFacts.store c.args.self.now.propagation.facts) in
+    let b = (state_of (reader g.P.Paths.timeline g.L.LastValues.values) g.W.Partial.sets g.W.Transfer.moves g.R.RowRules.rules g.B.ByteFacts.store c.bisect-limit.new.self.propagation.facts) in
     let d = (state_of (reader g.P.Paths.timeline g.L.LastValues.values) g.W.Partial.sets g.W.Transfer.moves g.R.RowRules.rules g.B.ByteFacts.store c.look.new.self) in
     let same = Same_trans a b d c.bisect-limit.ensures.same c.look.ensures.same in
     let found = c.look.ensures.conflict c.unwrap-kind.result c.unwrap-kind.ensures in
@@ -36,8 +36,8 @@ stop_at-requires-clause-shows g c =
 
 pub stop_at-requires-clause-kind : goal.stop_at-requires-clause-kind
 stop_at-requires-clause-kind g c =
-    let a = state_of (reader g.P.Paths.timeline g.L.LastValues.values) g.W.Partial.sets g.W.Transfer.moves g.R.RowRules.rules g.B.ByteFacts.store c.args.self.now in
-    let b = state_of (reader g.P.Paths.timeline g.L.LastValues.values) g.W.Partial.sets g.W.Transfer.moves g.R.RowRules.rules g.B.ByteFacts.store c.bisect-limit.new.self in
+    let a = state_of (reader g.P.Paths.timeline g.L.LastValues.values) g.W.Partial.sets g.W.Transfer.moves g.R.RowRules.rules g.B.ByteFacts.store c.args.self.now.propagation.facts in
+    let b = state_of (reader g.P.Paths.timeline g.L.LastValues.values) g.W.Partial.sets g.W.Transfer.moves g.R.RowRules.rules g.B.ByteFacts.store c.bisect-limit.new.self.propagation.facts in
     let d = state_of (reader g.P.Paths.timeline g.L.LastValues.values) g.W.Partial.sets g.W.Transfer.moves g.R.RowRules.rules g.B.ByteFacts.store c.look.new.self in
     let same = Same_trans a b d c.bisect-limit.ensures.same c.look.ensures.same in
     let found = c.look.ensures.conflict c.unwrap-kind.result c.unwrap-kind.ensures in
@@ -47,8 +47,8 @@ stop_at-requires-clause-kind g c =
 
 pub returns-clause-ended : goal.returns-clause-ended
 returns-clause-ended g c =
-    let same = Same_trans (state_of (reader g.P.Paths.timeline g.L.LastValues.values) g.W.Partial.sets g.W.Transfer.moves g.R.RowRules.rules g.B.ByteFacts.store c.args.self.now) (state_of (reader g.P.Paths.timeline g.L.LastValues.values) g.W.Partial.sets g.W.Transfer.moves g.R.RowRules.rules g.B.ByteFacts.store c.bisect-limit.new.self) (state_of (reader g.P.Paths.timeline g.L.LastValues.values) g.W.Partial.sets g.W.Transfer.moves g.R.RowRules.rules g.B.ByteFacts.store c.look.new.self) c.bisect-limit.ensures.same c.look.ensures.same in
-    stopped_from (state_of (reader g.P.Paths.timeline g.L.LastValues.values) g.W.Partial.sets g.W.Transfer.moves g.R.RowRules.rules g.B.ByteFacts.store c.args.self.now) (state_of (reader g.P.Paths.timeline g.L.LastValues.values) g.W.Partial.sets g.W.Transfer.moves g.R.RowRules.rules g.B.ByteFacts.store c.look.new.self) same (state_of (reader g.P.Paths.timeline g.L.LastValues.values) g.W.Partial.sets g.W.Transfer.moves g.R.RowRules.rules g.B.ByteFacts.store c.stop_at.new.self) c.unwrap-kind.result c.stop_at.ensures.ended
+    let same = Same_trans (state_of (reader g.P.Paths.timeline g.L.LastValues.values) g.W.Partial.sets g.W.Transfer.moves g.R.RowRules.rules g.B.ByteFacts.store c.args.self.now.propagation.facts) (state_of (reader g.P.Paths.timeline g.L.LastValues.values) g.W.Partial.sets g.W.Transfer.moves g.R.RowRules.rules g.B.ByteFacts.store c.bisect-limit.new.self.propagation.facts) (state_of (reader g.P.Paths.timeline g.L.LastValues.values) g.W.Partial.sets g.W.Transfer.moves g.R.RowRules.rules g.B.ByteFacts.store c.look.new.self) c.bisect-limit.ensures.same c.look.ensures.same in
+    stopped_from (state_of (reader g.P.Paths.timeline g.L.LastValues.values) g.W.Partial.sets g.W.Transfer.moves g.R.RowRules.rules g.B.ByteFacts.store c.args.self.now.propagation.facts) (state_of (reader g.P.Paths.timeline g.L.LastValues.values) g.W.Partial.sets g.W.Transfer.moves g.R.RowRules.rules g.B.ByteFacts.store c.look.new.self) same (state_of (reader g.P.Paths.timeline g.L.LastValues.values) g.W.Partial.sets g.W.Transfer.moves g.R.RowRules.rules g.B.ByteFacts.store c.stop_at.new.self) c.unwrap-kind.result c.stop_at.ensures.ended
 
 pub returns-clause-still : goal.returns-clause-still
 returns-clause-still g c = c.stop_at.ensures.still ∙ c.look.ensures.same.infers ∙ c.bisect-limit.ensures.same.infers
@@ -58,7 +58,7 @@ returns-clause-log g c = c.stop_at.ensures.log ∙ ap (λ (k : Known). k.log) c.
 
 pub returns-clause-ends : goal.returns-clause-ends
 returns-clause-ends g c = λ begins quiet.
-    let a = (state_of (reader g.P.Paths.timeline g.L.LastValues.values) g.W.Partial.sets g.W.Transfer.moves g.R.RowRules.rules g.B.ByteFacts.store c.args.self.now) in
+    let a = (state_of (reader g.P.Paths.timeline g.L.LastValues.values) g.W.Partial.sets g.W.Transfer.moves g.R.RowRules.rules g.B.ByteFacts.store c.args.self.now.propagation.facts) in
     let laws : HasLaws (along a.path) = (record { sets = g.met.W.Partial.lawful; moves = g.met.W.Transfer.covers; rules = g.met.R.RowRules.lawful; legs = (g.met.P.Paths.lawful _).legs; moments = (g.met.P.Paths.lawful _).moments }) in
     let first = ends_first a laws c.requires.loud quiet begins in
     let log : c.stop_at.new.self.known.log ≡ a.known.log = c.stop_at.ensures.log ∙ ap (λ (k : Known). k.log) c.look.ensures.same.known ∙ ap (λ (k : Known). k.log) c.bisect-limit.ensures.same.known in

@@ -1,6 +1,6 @@
 use Rattle.std.proofs.Common.{◌≡◌, subst}
 use Rattle.rept_reason.specs.declared.fact.Cell.TheVariants.{Byte}
-use Rattle.rept_analysis.specs.Kept.{answers}
+use Rattle.rept_facts.specs.Kept.{answers}
 use Rattle.rept_found.specs.Crash.{means}
 use Rattle.rept_found.specs.View.{CrashView, state_in}
 use Rattle.rept_found.proofs.telling.AnalysedCrashFindings.byte.Goals as goal

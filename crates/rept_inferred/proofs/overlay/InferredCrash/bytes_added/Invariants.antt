@@ -1,5 +1,5 @@
 use Rattle.std.proofs.Common.{◌≡◌, ◌≤◌, ◌*◌, length}
-use Rattle.rept_analysis.specs.Sums.{sum_to}
+use Rattle.rept_facts.specs.Sums.{sum_to}
 use Rattle.rept_infer.specs.Path.{path_reader, told_in}
 use Rattle.rept_inferred.specs.Added.{step_added}
 use Rattle.rept_inferred.proofs.overlay.InferredCrash.bytes_added.Given as goal

@@ -2,7 +2,7 @@ use Rattle.std.proofs.Common.{ℕ, Bool, sym, ◌∙◌, arith}
 use Rattle.rept_infer.specs.Path.{path_reader, told_in}
 use Rattle.rept_isa.specs.Numbers.{beside}
 use Rattle.rept_inferred.specs.Added.{is_byte_added}
-use Rattle.rept_analysis.proofs.Counting.{count_none, counted_yes, counted_no}
+use Rattle.rept_facts.proofs.Counting.{count_none, counted_yes, counted_no}
 use Rattle.rept_inferred.proofs.overlay.InferredCrash.loaded_bytes.Goals.{then-is_byte_added, else-is_byte_added}
 use Rattle.rept_inferred.proofs.overlay.InferredCrash.loaded_bytes.Goals as goal
 

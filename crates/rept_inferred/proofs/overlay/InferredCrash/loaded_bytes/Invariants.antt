@@ -1,6 +1,6 @@
 use Rattle.std.proofs.Common.{◌≡◌, ◌≤◌}
 use Rattle.rept_isa.specs.Numbers.{beside}
-use Rattle.rept_analysis.specs.Sums.{count_true}
+use Rattle.rept_facts.specs.Sums.{count_true}
 use Rattle.rept_infer.specs.Path.{path_reader, told_in}
 use Rattle.rept_inferred.specs.Added.{is_byte_added}
 use Rattle.rept_inferred.proofs.overlay.InferredCrash.loaded_bytes.Given as goal

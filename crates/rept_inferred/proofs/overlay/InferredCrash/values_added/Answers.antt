@@ -1,7 +1,7 @@
 use Rattle.std.proofs.Common.{ℕ, sym, arith}
 use Rattle.rept_infer.specs.Path.{path_reader, told_in}
 use Rattle.rept_inferred.specs.Added.{added_at}
-use Rattle.rept_analysis.proofs.Counting.{sum_none, sum_next}
+use Rattle.rept_facts.proofs.Counting.{sum_none, sum_next}
 use Rattle.rept_inferred.proofs.overlay.InferredCrash.values_added.Goals as goal
 
 pub loop-point-init : goal.loop-point-init

@@ -1,5 +1,5 @@
 use Rattle.std.proofs.Common.{◌≡◌, ◌≤◌, ◌*◌}
-use Rattle.rept_analysis.specs.Sums.{sum_to}
+use Rattle.rept_facts.specs.Sums.{sum_to}
 use Rattle.rept_infer.specs.Path.{path_reader, told_in}
 use Rattle.rept_inferred.specs.Added.{added_at}
 use Rattle.rept_inferred.proofs.overlay.InferredCrash.values_added.Given as goal

@@ -1,7 +1,7 @@
 use Rattle.std.proofs.Common.{ℕ, Bool, sym, ap, ◌∙◌, arith}
 use Rattle.rept_infer.specs.Path.{path_reader, told_in}
 use Rattle.rept_inferred.specs.Added.{is_added}
-use Rattle.rept_analysis.proofs.Counting.{count_none, counted_yes, counted_no}
+use Rattle.rept_facts.proofs.Counting.{count_none, counted_yes, counted_no}
 use Rattle.rept_inferred.proofs.overlay.InferredCrash.values_at.Goals.{then-is_value_added, else-is_value_added}
 use Rattle.rept_inferred.proofs.overlay.InferredCrash.values_at.Goals as goal
 

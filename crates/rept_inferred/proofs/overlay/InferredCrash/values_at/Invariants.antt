@@ -1,5 +1,5 @@
 use Rattle.std.proofs.Common.{◌≡◌, ◌≤◌}
-use Rattle.rept_analysis.specs.Sums.{count_true}
+use Rattle.rept_facts.specs.Sums.{count_true}
 use Rattle.rept_infer.specs.Path.{path_reader, told_in}
 use Rattle.rept_inferred.specs.Added.{is_added}
 use Rattle.rept_inferred.proofs.overlay.InferredCrash.values_at.Given as goal

@@ -1,7 +1,7 @@
 use Rattle.std.proofs.Common.{ℕ, Bool, sym, ◌+◌, ◌∙◌, slice_get, arith}
 use Rattle.rept_infer.specs.Path.{path_reader, told_in}
 use Rattle.rept_inferred.specs.Writing.{row_stores}
-use Rattle.rept_analysis.proofs.Counting.{count_none, counted_yes, counted_no}
+use Rattle.rept_facts.proofs.Counting.{count_none, counted_yes, counted_no}
 use Rattle.rept_inferred.proofs.writing.PossibleWriters.stores.Goals.{then-is_store, else-is_store}
 use Rattle.rept_inferred.proofs.writing.PossibleWriters.stores.Goals as goal
 

@@ -1,5 +1,5 @@
 use Rattle.std.proofs.Common.{◌≡◌, ◌+◌, ◌≤◌, length, slice_get}
-use Rattle.rept_analysis.specs.Sums.{count_true}
+use Rattle.rept_facts.specs.Sums.{count_true}
 use Rattle.rept_infer.specs.Path.{path_reader, told_in}
 use Rattle.rept_inferred.specs.Writing.{row_stores}
 use Rattle.rept_inferred.proofs.writing.PossibleWriters.stores.Given as goal

@@ -1,7 +1,0 @@
-use Rattle.rept_analysis.specs.State.{AnalysisState, state_of, reader}
-use Rattle.rept_analysis.specs.Inferring.{AreLinks}
-use Rattle.rept_analysis.proofs.Conclusion.{HasInferred_if}
-use Rattle.rept_analysis.proofs.analysis.Analysis.carry_links_on.Goals as goal
-
-pub returns-clause-inferred : goal.returns-clause-inferred
-returns-clause-inferred g c = HasInferred_if (state_of (reader g.P.Paths.timeline g.L.LastValues.values) g.W.Partial.sets g.W.Transfer.moves g.R.RowRules.rules g.B.ByteFacts.store c.args.self.now) _ c.carry_links.result (AreLinks c.args.a c.args.m) (λ (x : AnalysisState g.row.W.Denot). Unit {0}) c.carry_links.ensures.inferred (λ h. tt)

@@ -1,9 +1,0 @@
-use Rattle.std.proofs.Common.{◌≡◌, false, sym, subst}
-use Rattle.rept_analysis.specs.State.{Whole}
-use Rattle.rept_analysis.proofs.Passing.{kept_infers}
-use Rattle.rept_analysis.proofs.analysis.Analysis.list_inferred.Goals as goal
-
-pub invariant_of-self : goal.invariant_of-self
-invariant_of-self g c =
-    let open_ = subst (λ (x : Whole g.row.P.Denot g.row.L.Denot g.row.B.Denot g.row.W.Denot g.row.R.Denot). x.complete ≡ false) (sym c.self.view_is) c.requires.open in
-    kept_infers _ c.self.invariant open_ _

@@ -1,5 +1,0 @@
-use Rattle.rept_analysis.proofs.Along.{row_inside}
-use Rattle.rept_analysis.proofs.analysis.Analysis.row.Goals as goal
-
-pub returns-clause-inside : goal.returns-clause-inside
-returns-clause-inside g c = rw (← c.self.view_is) (row_inside _ (g.met.P.Paths.lawful c.self.inside.paths).legs c.args.i c.row.result c.row.ensures)

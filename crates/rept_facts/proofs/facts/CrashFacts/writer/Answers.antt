@@ -1,0 +1,15 @@
+use Rattle.std.proofs.Common.{subst}
+use Rattle.rept_report.specs.Timeline.{IsBegun}
+use Rattle.rept_report.specs.Last.Latest.{IsPossibleWriter}
+use Rattle.rept_facts.specs.State.{AnalysisState, Whole, state_of, reader}
+use Rattle.rept_facts.proofs.Answering.{writer_answers}
+use Rattle.rept_facts.proofs.facts.CrashFacts.writer.Goals as goal
+
+pub returns-then-ended-clause-ended : goal.returns-then-ended-clause-ended
+returns-then-ended-clause-ended g c = λ complete.
+    let s : AnalysisState g.row.W.Denot = state_of (reader g.P.Paths.timeline g.L.LastValues.values) g.W.Partial.sets g.W.Transfer.moves g.R.RowRules.rules g.B.ByteFacts.store c.args.self.now in
+    writer_answers s ((c.ended.ensures.kept).finished complete).settled c.args.moment c.args.a c.settled_writer.result c.settled_writer.ensures
+
+pub returns-clause-open : goal.returns-clause-open
+returns-clause-open g c = λ unfinished.
+    subst (λ (x : Whole g.row.P.Denot g.row.L.Denot g.row.B.Denot g.row.W.Denot g.row.R.Denot). IsPossibleWriter (g.P.Paths.timeline x.paths).moments (IsBegun (g.P.Paths.timeline x.paths) c.args.moment) c.possible_writer.result) c.self.view_is c.possible_writer.ensures

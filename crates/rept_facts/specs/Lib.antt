@@ -1,0 +1,16 @@
+pub mod Moments
+pub mod Sums
+pub mod Work
+pub mod Room
+pub mod Cells
+pub mod State
+pub mod Inferring
+pub mod Begun
+pub mod Kept
+pub mod Told
+pub mod Measure
+pub mod Counts
+pub mod Answers
+pub mod Latest
+pub mod Refined
+pub mod Reasoned

@@ -1,0 +1,16 @@
+use Rattle.std.proofs.Common.{◌≤◌}
+use Rattle.rept_facts.specs.State.{AnalysisState, state_of, reader}
+use Rattle.rept_facts.specs.Inferring.{Grows, HasInferred}
+use Rattle.rept_propagate.proofs.propagation.Propagation.carry_down.Given as goal
+
+abbrev pub invariant-loop-m : goal.invariant-loop-m
+invariant-loop-m g l =
+    let st = state_of (reader g.P.Paths.timeline g.L.LastValues.values) g.W.Partial.sets g.W.Transfer.moves g.R.RowRules.rules g.B.ByteFacts.store in
+    record {
+      grows : Grows (st l.fn.self.facts) (st l.self.facts);
+      inferred : HasInferred (st l.fn.self.facts) (st l.self.facts) l.learnt (λ (x : AnalysisState g.row.W.Denot). Unit {0});
+      below : l.m ≤ l.number;
+    }
+
+abbrev pub decreases-loop-m : goal.decreases-loop-m
+decreases-loop-m g l = l.m

@@ -1,0 +1,11 @@
+//! Takes bytes from memory point to memory point, and learns what they are there.
+#![tactic(auto)]
+
+mod link;
+mod pairs;
+pub mod propagation;
+mod recent;
+mod step;
+mod walls;
+
+pub use propagation::{Propagation, WORD};
