@@ -5,7 +5,7 @@ use Rattle.rept_dump.specs.declared.fault.CoreFault.{CoreFault}
 use Rattle.rept_path.specs.declared.fault.PathFault.{PathFault}
 use Rattle.rept_path.specs.declared.fault.PathFault.TheVariants as fault
 use Rattle.rept_steps.specs.declared.run.Run.{Run}
-use Rattle.rept_runs.specs.Kind.{is_several}
+use Rattle.rept_streams.specs.Runs.Kind.{is_several}
 use Rattle.rept_ports.specs.Port.{Port, PortMove}
 use Rattle.rept_session.specs.Serving.Serving.{Reading}
 use Rattle.rept_opening.specs.Delivered.{SaysOrNoMemory, SaysRefusal}

@@ -19,7 +19,7 @@ use Rattle.rept_path.specs.declared.fault.PathFault.TheVariants as fault
 use Rattle.rept_path.specs.declared.rebuilding.Path.{Path}
 use Rattle.rept_steps.specs.Runs.{course_of, run_of_one}
 use Rattle.rept_steps.specs.declared.run.Run.{Run}
-use Rattle.rept_runs.specs.Kind.{is_several}
+use Rattle.rept_streams.specs.Runs.Kind.{is_several}
 use Rattle.rept_ports.specs.Causes.{OneFault}
 use Rattle.rept_ports.specs.Port.{Port, PortMove, move}
 use Rattle.rept_report.specs.Closure.{ClosureHas, IsConsistent}

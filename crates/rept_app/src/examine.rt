@@ -6,7 +6,7 @@ ghost use Rattle.rept_elf.specs.Image.{file_of, segments_of};
 ghost use Rattle.rept_dump.specs.Dump.{core_of, exe_of};
 ghost use Rattle.rept_ports.specs.Port.{move};
 ghost use Rattle.rept_found.specs.Crash.{crash_of};
-ghost use Rattle.rept_runs.specs.Kind.{is_several};
+ghost use Rattle.rept_streams.specs.Runs.Kind.{is_several};
 ghost use Rattle.rept_opening.specs.Delivered.{Delivers};
 ghost use Rattle.rept_app.specs.Examine.{Examines, IsExamined, FilesExclude, FilesHold, WalksTrace, IsWalked, TraceExcludes, WalkHolds};
 ghost use Rattle.rept_opening.specs.Beyond.{executable_of};
@@ -20,7 +20,7 @@ use rept_opening::{
     CrashImages, ExitStatus, OpenOptions, Refusal, crash_images, read_dump, tell, trace_run,
 };
 use rept_ports::{Sink, Source};
-use rept_runs::is_several;
+use rept_streams::is_several;
 use std::alloc::Global;
 
 /// Reads the files, rebuilds the run from a packet on, and studies it in a domain.

@@ -23,7 +23,7 @@ use rept_opening::{
     tell_failed, tell_no_memory,
 };
 use rept_ports::{FileStore, Sink, Source};
-use rept_runs::is_several;
+use rept_streams::is_several;
 use std::alloc::Global;
 
 /// Reads the core file and its list of mapped files, loads those, rebuilds the run and studies it.

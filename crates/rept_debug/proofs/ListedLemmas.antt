@@ -9,7 +9,7 @@ use Rattle.rept_dump.specs.Program.Program.{MappedFiles}
 use Rattle.rept_dump.specs.Dump.{core_of, exe_of}
 use Rattle.rept_dump.specs.declared.dump.Dump.{Dump}
 use Rattle.rept_found.specs.Crash.{crash_of}
-use Rattle.rept_runs.specs.Kind.{is_several}
+use Rattle.rept_streams.specs.Runs.Kind.{is_several}
 use Rattle.rept_ports.specs.Port.{PortMove, move}
 use Rattle.rept_ports.specs.Shelves.{Files, Shelved}
 use Rattle.rept_opening.specs.Words.Words.{Meaning}

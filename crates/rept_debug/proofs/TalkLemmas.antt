@@ -6,7 +6,7 @@ use Rattle.rept_dump.specs.declared.dump.Dump.{Dump}
 use Rattle.rept_path.specs.declared.fault.PathFault.{PathFault}
 use Rattle.rept_path.specs.declared.fault.PathFault.TheVariants as fault
 use Rattle.rept_ports.specs.Port.{Port, PortMove, move}
-use Rattle.rept_runs.specs.Kind.{is_several}
+use Rattle.rept_streams.specs.Runs.Kind.{is_several}
 use Rattle.rept_steps.specs.declared.run.Run.{Run}
 use Rattle.rept_found.specs.Crash.{Crash, crash_of}
 use Rattle.rept_opening.specs.Lines.{status_of}

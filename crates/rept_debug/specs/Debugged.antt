@@ -11,7 +11,7 @@ use Rattle.rept_ports.specs.Port.{Port, PortMove, move}
 use Rattle.rept_ports.specs.Shelves.{Files, Shelved}
 use Rattle.rept_path.specs.declared.fault.PathFault.{PathFault}
 use Rattle.rept_steps.specs.declared.run.Run.{Run}
-use Rattle.rept_runs.specs.Kind.{is_several}
+use Rattle.rept_streams.specs.Runs.Kind.{is_several}
 use Rattle.rept_found.specs.Crash.{note_at}
 use Rattle.rept_findings.specs.Shown.{SessionTold}
 use Rattle.rept_debug.specs.Dialog.Converse.{Parties, Converses, parties_over}

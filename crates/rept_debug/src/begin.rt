@@ -2,7 +2,7 @@
 
 ghost use Rattle.std.specs.Prelude.{◌≡◌, ◌≢◌, ◌<◌, ◌^◌, ℕ, List, length, true, false, IfOk};
 ghost use Rattle.rept_path.specs.declared.fault.PathFault.TheVariants as faults;
-ghost use Rattle.rept_runs.specs.Kind.{is_several};
+ghost use Rattle.rept_streams.specs.Runs.Kind.{is_several};
 ghost use Rattle.rept_found.specs.Crash.{crash_of};
 ghost use Rattle.rept_opening.specs.Reading.{AreNotesOf, HasNotes};
 ghost use Rattle.rept_opening.specs.TraceRun.{FitsDump};

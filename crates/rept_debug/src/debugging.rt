@@ -16,7 +16,7 @@ use rept_known::Both;
 use rept_opening::{CrashFiles, LoadedRequest, Refusal, load_files, read_dump};
 use rept_partial::Range;
 use rept_ports::{FileStore, Sink, Source};
-use rept_runs::is_several;
+use rept_streams::is_several;
 use std::alloc::Global;
 
 /// Opens the crash that the words name, as a session does, and answers a debugger over its report:

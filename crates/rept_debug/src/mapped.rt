@@ -18,7 +18,7 @@ use rept_elf::Image;
 use rept_maps::{Images, Maps};
 use rept_opening::{CoreFiles, ListStop, Refusal, images_in, load_listed};
 use rept_ports::{FileStore, Sink, Source};
-use rept_runs::is_several;
+use rept_streams::is_several;
 use rept_stub::mapped_files;
 use std::alloc::Global;
 

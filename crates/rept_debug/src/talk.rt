@@ -1,7 +1,7 @@
 //! From a trace to the end of the dialog over its report.
 
 ghost use Rattle.std.specs.Prelude.{◌≡◌, ◌<◌, ◌^◌, ℕ, List, length, IfOk, IfErr};
-ghost use Rattle.rept_runs.specs.Kind.{is_several};
+ghost use Rattle.rept_streams.specs.Runs.Kind.{is_several};
 ghost use Rattle.rept_elf.specs.Image.{segments_of};
 ghost use Rattle.rept_dump.specs.Dump.{core_of, exe_of};
 ghost use Rattle.rept_ports.specs.Port.{move};

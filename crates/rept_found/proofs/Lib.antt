@@ -11,3 +11,4 @@ pub mod Truths
 pub mod Whys
 pub mod PlacesLemmas
 pub mod TripLemmas
+pub mod InferredLemmas

@@ -10,3 +10,4 @@ pub mod Truth
 pub mod View
 pub mod Places
 pub mod Trip
+pub mod Inferred

@@ -16,7 +16,7 @@ use Rattle.rept_known.specs.BothMoves.{both_moves}
 use Rattle.rept_amo.specs.Atomic.{atomic_rules}
 use Rattle.rept_steps.specs.Runs.{course_of}
 use Rattle.rept_steps.specs.declared.run.Run.{Run}
-use Rattle.rept_runs.specs.Kind.{path_rows}
+use Rattle.rept_streams.specs.Runs.Kind.{path_rows}
 use Rattle.rept_ports.specs.Port.{Port, PortMove}
 use Rattle.rept_reason.specs.Facts.{Knowledge}
 use Rattle.rept_span.specs.Ranges.{range}
@@ -35,13 +35,13 @@ use Rattle.rept_found.proofs.Alone.{alone_setting, alone_shown}
 use Rattle.rept_found.proofs.Single.{one_thread_shown}
 use Rattle.rept_narrow.specs.Admitted.{IsAdmitted}
 use Rattle.rept_infer.specs.Holding.{Has, Holds, Keeps, Refuses, holding_of}
-use Rattle.rept_inferred.specs.Narrowed.{Beyond, narrowed, shown_beyond}
-use Rattle.rept_inferred.specs.Known.{byte_known, set_known, shown_in}
-use Rattle.rept_inferred.proofs.Kept.{knows_beyond, narrowed_true}
-use Rattle.rept_inferred.proofs.Writers.{last_single}
+use Rattle.rept_found.specs.Inferred.Narrowed.{Beyond, narrowed, shown_beyond}
+use Rattle.rept_found.specs.Inferred.Known.{byte_known, set_known, shown_in}
+use Rattle.rept_found.proofs.InferredLemmas.Kept.{knows_beyond, narrowed_true}
+use Rattle.rept_found.proofs.InferredLemmas.Writers.{last_single}
 use Rattle.rept_report.specs.declared.writer.Writer.TheVariants as writer
 use Rattle.rept_found.specs.Single.{last_writer}
-use Rattle.rept_inferred.proofs.KnownLaws.{known_holds}
+use Rattle.rept_found.proofs.InferredLemmas.KnownLaws.{known_holds}
 use Rattle.rept_elf.specs.Segments.{ElfSegment}
 use Rattle.rept_dump.specs.Dump.{core_of, exe_of, registers_of}
 use Rattle.rept_dump.specs.declared.dump.Dump.{Dump}

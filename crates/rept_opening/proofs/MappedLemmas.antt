@@ -18,7 +18,7 @@ use Rattle.rept_maps.specs.FileMap.{entry_at, entry_named}
 use Rattle.rept_maps.specs.Mapped.Mapped.{Mapping, mapping_by, mappings, mappings_from}
 use Rattle.rept_maps.specs.Mapfiles.Kept.{as_image, asked_names, image_at, is_image, kept_all, kept_at, kept_by, kept_in, most_bytes, most_in_all, names_of, place_in, taken}
 use Rattle.rept_ports.specs.Shelves.{Files}
-use Rattle.rept_runs.specs.Kind.{is_several}
+use Rattle.rept_streams.specs.Runs.Kind.{is_several}
 use Rattle.rept_opening.specs.Forms.{core_image_fault, crash_in}
 use Rattle.rept_opening.specs.Loading.{CoreBytes, parts_bytes}
 use Rattle.rept_opening.specs.Mapped.{ListSays, kept_of, mapped_files, mapped_part, parts_from}

@@ -11,7 +11,7 @@ use Rattle.rept_dump.specs.declared.dump.Dump.{Dump}
 use Rattle.rept_dump.specs.declared.fault.CoreFault.{CoreFault}
 use Rattle.rept_dump.specs.declared.fault.CoreFault.TheVariants.{TooManyThreads}
 use Rattle.rept_dump.proofs.NoteLemmas.{all_said_once}
-use Rattle.rept_runs.specs.Told.{AreNotesApart}
+use Rattle.rept_streams.specs.Runs.Told.{AreNotesApart}
 use Rattle.rept_opening.specs.Reading.{AreNotesOf, HasNotes, NotesSay, SaysOfOne}
 
 abbrev pub all_ok : List (List ℕ) → Result (List (List ℕ)) CoreFault

@@ -12,9 +12,9 @@ use Rattle.rept_path.specs.declared.fault.PathFault.TheVariants as fault
 use Rattle.rept_path.specs.declared.rebuilding.Path.{Path}
 use Rattle.rept_timeline.specs.Small.{IsSmall}
 use Rattle.rept_found.proofs.TripLemmas.Paths.{is_sound}
-use Rattle.rept_runs.specs.Kind.{is_several}
-use Rattle.rept_runs.specs.Told.{Traced, IsTracedRun, HasNoTracedRun}
-use Rattle.rept_runs.proofs.Few.{each_noted, traced_sound}
+use Rattle.rept_streams.specs.Runs.Kind.{is_several}
+use Rattle.rept_streams.specs.Runs.Told.{Traced, IsTracedRun, HasNoTracedRun}
+use Rattle.rept_streams.proofs.RunsLemmas.Few.{each_noted, traced_sound}
 use Rattle.rept_found.specs.Crash.{Crash}
 use Rattle.rept_opening.specs.Path.{TraceFile, file_bytes, IsTracePath, HasNoPath}
 use Rattle.rept_opening.specs.Reading.{AreNotesOf}

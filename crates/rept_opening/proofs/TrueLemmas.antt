@@ -9,7 +9,7 @@ use Rattle.rept_reason.specs.Facts.{Knowledge}
 use Rattle.rept_report.specs.Closure.{IsReport}
 use Rattle.rept_report.specs.OneThread.{path_setting}
 use Rattle.rept_report.specs.Setting.{Setting}
-use Rattle.rept_runs.specs.Kind.{is_several}
+use Rattle.rept_streams.specs.Runs.Kind.{is_several}
 use Rattle.rept_found.specs.Trip.Trip.{setting_on}
 use Rattle.rept_found.specs.Crash.{Crash, Means, ending_of, means_beyond, path_of, route, setting, trip_by}
 use Rattle.rept_found.specs.Histories.{IsTrueTrip}

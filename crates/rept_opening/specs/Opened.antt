@@ -5,7 +5,7 @@ use Rattle.rept_steps.specs.Runs.{course_of}
 use Rattle.rept_steps.specs.declared.run.Run.{Run}
 use Rattle.rept_isa.specs.declared.row.StepRow.{StepRow}
 use Rattle.rept_machine.specs.State.{State}
-use Rattle.rept_runs.specs.Kind.{is_several, path_rows}
+use Rattle.rept_streams.specs.Runs.Kind.{is_several, path_rows}
 use Rattle.rept_ports.specs.Shelves.{Files}
 use Rattle.rept_report.specs.Closure.{IsReport}
 use Rattle.rept_report.specs.Setting.{Setting}
@@ -21,7 +21,7 @@ use Rattle.rept_found.specs.Crash.{Crash, Means, Scene, route, scene_of, setting
 use Rattle.rept_found.specs.Telling.{shown_on}
 use Rattle.rept_narrow.specs.Admitted.{IsAdmitted}
 use Rattle.rept_infer.specs.Holding.{Holds}
-use Rattle.rept_inferred.specs.Narrowed.{Beyond, shown_beyond}
+use Rattle.rept_found.specs.Inferred.Narrowed.{Beyond, shown_beyond}
 use Rattle.rept_found.specs.declared.contradiction.Contradiction.{Contradiction}
 use Rattle.rept_opening.specs.declared.words.request.Domain.{Domain}
 use Rattle.rept_opening.specs.Beyond.{story_of}

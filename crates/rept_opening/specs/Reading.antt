@@ -7,7 +7,7 @@ use Rattle.rept_dump.specs.Program.Program.{OneFile}
 use Rattle.rept_dump.specs.Registers.{SaysOfAll, SaysRegisters}
 use Rattle.rept_dump.specs.declared.dump.Dump.{Dump}
 use Rattle.rept_dump.specs.declared.fault.CoreFault.{CoreFault}
-use Rattle.rept_runs.specs.Told.{AreNotesApart}
+use Rattle.rept_streams.specs.Runs.Told.{AreNotesApart}
 use Rattle.rept_found.specs.Crash.{crash_of}
 use Rattle.rept_opening.specs.Forms.{executable_fault, program_fault, core_image_fault, crash_in}
 use Rattle.rept_opening.specs.Loading.{CrashBytes}

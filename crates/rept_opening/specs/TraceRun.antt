@@ -7,8 +7,8 @@ use Rattle.rept_steps.specs.Course.{IsSoundCourse}
 use Rattle.rept_steps.specs.Runs.{course_of, run_of_one}
 use Rattle.rept_steps.specs.declared.run.Run.{Run}
 use Rattle.rept_timeline.specs.Small.{IsSmall}
-use Rattle.rept_runs.specs.Kind.{is_several}
-use Rattle.rept_runs.specs.Told.{Traced, IsTracedRun, HasNoTracedRun}
+use Rattle.rept_streams.specs.Runs.Kind.{is_several}
+use Rattle.rept_streams.specs.Runs.Told.{Traced, IsTracedRun, HasNoTracedRun}
 use Rattle.rept_path.specs.declared.fault.PathFault.{PathFault}
 use Rattle.rept_path.specs.declared.fault.PathFault.TheVariants.{OutOfMemory}
 use Rattle.rept_path.specs.declared.rebuilding.Path.{Path}

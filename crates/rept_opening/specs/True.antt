@@ -9,7 +9,7 @@ use Rattle.rept_order.specs.Alone.{IsShared, ShowsRun}
 use Rattle.rept_order.specs.History.{History, IsExecution}
 use Rattle.rept_reason.specs.Facts.{Knowledge}
 use Rattle.rept_report.specs.OneThread.{ThreadPath}
-use Rattle.rept_runs.specs.Kind.{path_rows}
+use Rattle.rept_streams.specs.Runs.Kind.{path_rows}
 use Rattle.rept_steps.specs.Course.{Course}
 use Rattle.rept_steps.specs.Runs.{course_of}
 use Rattle.rept_steps.specs.declared.run.Run.{Run}
@@ -22,7 +22,7 @@ use Rattle.rept_found.specs.Histories.{IsTrueTrip}
 use Rattle.rept_found.specs.Telling.{shown_of, shown_on}
 use Rattle.rept_found.specs.Truth.{ExecutesPath, HasNoExecutionOfPath, IsTrueOf, IsTrueReport}
 use Rattle.rept_narrow.specs.Admitted.{IsAdmitted}
-use Rattle.rept_inferred.specs.Narrowed.{TellsAll}
+use Rattle.rept_found.specs.Inferred.Narrowed.{TellsAll}
 use Rattle.rept_opening.specs.Beyond.{story_of}
 use Rattle.rept_opening.specs.Opened.{CrashRun, RunAccount, route_of, run_setting, told_in}
 use Rattle.rept_opening.specs.Order.{GoesByOrder}

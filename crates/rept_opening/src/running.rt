@@ -2,7 +2,7 @@
 
 ghost use Rattle.std.specs.Prelude.{◌≡◌, ◌<◌, ◌≤◌, ◌^◌, ℕ, List, [], ◌∷◌, length, false, IfOk};
 ghost use Rattle.rept_dump.specs.Dump.{registers_of};
-ghost use Rattle.rept_runs.specs.Kind.{is_several};
+ghost use Rattle.rept_streams.specs.Runs.Kind.{is_several};
 ghost use Rattle.rept_found.specs.Crash.{crash_of};
 ghost use Rattle.rept_opening.specs.Reading.{AreNotesOf, HasNotes};
 ghost use Rattle.rept_opening.specs.TraceRun.{FitsDump, IsRunRead};
@@ -10,8 +10,8 @@ ghost use Rattle.rept_opening.specs.TraceRun.{FitsDump, IsRunRead};
 use crate::path::trace_path;
 use rept_dump::Dump;
 use rept_path::PathFault;
-use rept_runs::{is_several, read_run};
 use rept_steps::{Run, Steps};
+use rept_streams::{is_several, read_run};
 use std::alloc::Global;
 
 /// The run that a trace file tells of the program and the threads of a dump, from the packet of

@@ -2,3 +2,4 @@ pub mod Escaping
 pub mod Taking
 pub mod Unique
 pub mod Written
+pub mod MovesLemmas

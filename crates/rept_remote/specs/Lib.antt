@@ -3,3 +3,4 @@ pub mod Frames
 pub mod Reading
 pub mod Steps
 pub mod Request
+pub mod Moves

@@ -1,2 +1,3 @@
 pub mod SlicesLemmas
 pub mod ThreadsLemmas
+pub mod RunsLemmas

@@ -2,5 +2,8 @@
 //! that are rebuilt of these.
 #![tactic(auto)]
 
+pub mod runs;
 pub mod slices;
 pub mod threads;
+
+pub use runs::{is_several, paths_are_whole, read_run, runs_are_small};

@@ -6,7 +6,7 @@ use Rattle.std.specs.Prelude.{Option, None, Some, option_map}
 use Rattle.std.specs.List.{range_with_len}
 use Rattle.rept_remote.specs.Escapes.{digits_value}
 use Rattle.rept_stub.specs.Replies.{decoded, known_run, with_first}
-use Rattle.rept_moves.proofs.Ranges.{range_front}
+use Rattle.rept_remote.proofs.MovesLemmas.Ranges.{range_front}
 
 module _ (byte : ℕ → Option ℕ) (whole text : List ℕ) (i n : ℕ) (more : i < n) (so_far : whole ≡ text ++ known_run (map byte (range_with_len i (n - i)))) where
   front : whole ≡ text ++ known_run (byte i ∷ map byte (range_with_len (i + 1) (n - (i + 1))))

@@ -7,7 +7,7 @@ use Rattle.std.specs.Prelude.{None, Some, MatchBool}
 use Rattle.rept_remote.specs.declared.request.request.GdbRequest.{GdbRequest}
 use Rattle.rept_findings.specs.Shown.{Shown}
 use Rattle.rept_stub.specs.Answers.{changed, selected_by, spots_after}
-use Rattle.rept_moves.specs.Spots.{Spots}
+use Rattle.rept_remote.specs.Moves.Spots.{Spots}
 use Rattle.rept_stub.specs.declared.answers.Stand.{Stand}
 use Rattle.rept_stub.specs.Standing.{AreCursors, last_points}
 

@@ -13,15 +13,15 @@ use Rattle.rept_remote.specs.declared.request.request.Movement.{Movement}
 use Rattle.rept_remote.specs.declared.request.request.Movement.TheVariants as way
 use Rattle.rept_stub.specs.Consoles.{console_line}
 use Rattle.rept_stub.specs.Files.{bytes_shown, object_text, offsets_reply}
-use Rattle.rept_moves.specs.Halts.{Wanted, continued, continued_back, is_unseen, stepped, stepped_back, stepped_within, wanted}
+use Rattle.rept_remote.specs.Moves.Halts.{Wanted, continued, continued_back, is_unseen, stepped, stepped_back, stepped_within, wanted}
 use Rattle.rept_stub.specs.Replies.{decoded, error, memory_bytes, memory_digits, part_reply, register_reply, registers_reply, text_reply}
 use Rattle.rept_stub.specs.Monitoring.{asked_of, help_text, line_point, moved_words, signal_text, writers_text}
-use Rattle.rept_moves.specs.Spots.{Spots, Watch, is_small, region, watch_of, with_break, with_region, without_break, without_region}
+use Rattle.rept_remote.specs.Moves.Spots.{Spots, Watch, is_small, region, watch_of, with_break, with_region, without_break, without_region}
 use Rattle.rept_stub.specs.Standing.{cursor_of, here, led, moving_thread, named_thread, put, selected, selected_moving}
 use Rattle.rept_stub.specs.Threads.{about_reply, cursor_words, reason_reply, stop_reply, there_reply, thread_reply, threads_reply}
 use Rattle.rept_findings.specs.Texts.{at}
-use Rattle.rept_moves.specs.declared.halt.MoveEnd.{MoveEnd}
-use Rattle.rept_moves.specs.declared.halt.StopReason.{StopReason}
+use Rattle.rept_remote.specs.declared.moves.halt.MoveEnd.{MoveEnd}
+use Rattle.rept_remote.specs.declared.moves.halt.StopReason.{StopReason}
 use Rattle.rept_stub.specs.declared.monitoring.MonitorRequest.{MonitorRequest}
 use Rattle.rept_stub.specs.declared.monitoring.MonitorRequest.TheVariants as asked
 use Rattle.rept_stub.specs.declared.answers.Setting.{Setting}

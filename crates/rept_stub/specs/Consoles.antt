@@ -14,10 +14,10 @@ use Rattle.rept_findings.specs.LastWriters.{writer_at}
 use Rattle.rept_findings.specs.Shown.{Shown, number}
 use Rattle.rept_findings.specs.Texts.{at, step_text}
 use Rattle.rept_findings.specs.declared.place.ThreadPoint.{ThreadPoint}
-use Rattle.rept_moves.specs.Halts.{is_stepped_over}
-use Rattle.rept_moves.specs.declared.halt.MoveEnd.{MoveEnd}
-use Rattle.rept_moves.specs.declared.halt.StopReason.{StopReason}
-use Rattle.rept_moves.specs.declared.halt.StopReason.TheVariants as stop
+use Rattle.rept_remote.specs.Moves.Halts.{is_stepped_over}
+use Rattle.rept_remote.specs.declared.moves.halt.MoveEnd.{MoveEnd}
+use Rattle.rept_remote.specs.declared.moves.halt.StopReason.{StopReason}
+use Rattle.rept_remote.specs.declared.moves.halt.StopReason.TheVariants as stop
 
 -- a register, unless it is known at a point
 abbrev pub unless_known : Shown → ThreadPoint → Option ℕ → Option ℕ

@@ -11,7 +11,7 @@ use Rattle.rept_dump.specs.Memory.{kept_at, may_be_written}
 use Rattle.rept_findings.specs.Shown.{Shown, moment_at}
 use Rattle.rept_findings.specs.Texts.{wrapped}
 use Rattle.rept_findings.specs.declared.place.ThreadPoint.{ThreadPoint}
-use Rattle.rept_moves.specs.Told.{byte_told}
+use Rattle.rept_remote.specs.Moves.Told.{byte_told}
 use Rattle.rept_remote.specs.declared.request.request.TargetObject.{TargetObject}
 use Rattle.rept_remote.specs.declared.request.request.TargetObject.TheVariants as object
 use Rattle.rept_stub.specs.Description.{description_text}

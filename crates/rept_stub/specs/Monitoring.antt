@@ -10,7 +10,7 @@ use Rattle.rept_session.specs.Session.{cursor_of, said_at}
 use Rattle.rept_findings.specs.Texts.{at, writer_line}
 use Rattle.rept_findings.specs.declared.place.ThreadPoint.{ThreadPoint}
 use Rattle.rept_findings.specs.LastWriters.{named_row, writer_at}
-use Rattle.rept_moves.specs.Halts.{before}
+use Rattle.rept_remote.specs.Moves.Halts.{before}
 use Rattle.rept_stub.specs.declared.monitoring.MonitorRequest.{MonitorRequest}
 use Rattle.rept_stub.specs.declared.monitoring.MonitorRequest.TheVariants as asked
 

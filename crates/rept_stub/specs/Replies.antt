@@ -7,9 +7,9 @@ use Rattle.rept_remote.specs.Escapes.{digits_value}
 use Rattle.rept_findings.specs.Shown.{Shown, number}
 use Rattle.rept_findings.specs.declared.place.ThreadPoint.{ThreadPoint}
 use Rattle.rept_findings.specs.Texts.{pc_at}
-use Rattle.rept_moves.specs.declared.halt.StopReason.{StopReason}
+use Rattle.rept_remote.specs.declared.moves.halt.StopReason.{StopReason}
 use Rattle.rept_stub.specs.Signals.{debugger_signal}
-use Rattle.rept_moves.specs.declared.halt.StopReason.TheVariants as stop
+use Rattle.rept_remote.specs.declared.moves.halt.StopReason.TheVariants as stop
 
 -- bytes as pairs of digits
 abbrev pub digits_of : List ℕ → List ℕ

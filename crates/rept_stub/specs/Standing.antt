@@ -9,7 +9,7 @@ use Rattle.rept_remote.specs.declared.request.request.ThreadName.TheVariants as 
 use Rattle.rept_findings.specs.Shown.{Shown}
 use Rattle.rept_findings.specs.Texts.{at}
 use Rattle.rept_findings.specs.declared.place.ThreadPoint.{ThreadPoint}
-use Rattle.rept_moves.specs.Spots.{Spots}
+use Rattle.rept_remote.specs.Moves.Spots.{Spots}
 use Rattle.rept_stub.specs.declared.answers.Stand.{Stand}
 
 -- the last point of each thread

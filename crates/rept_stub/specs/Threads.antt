@@ -8,8 +8,8 @@ use Rattle.std.specs.List.{flat_map, range_with_len}
 use Rattle.rept_word.specs.Hex.{hex_byte}
 use Rattle.rept_findings.specs.Shown.{Shown}
 use Rattle.rept_findings.specs.declared.place.ThreadPoint.{ThreadPoint}
-use Rattle.rept_moves.specs.declared.halt.StopReason.{StopReason}
-use Rattle.rept_moves.specs.declared.halt.StopReason.TheVariants as stop
+use Rattle.rept_remote.specs.declared.moves.halt.StopReason.{StopReason}
+use Rattle.rept_remote.specs.declared.moves.halt.StopReason.TheVariants as stop
 use Rattle.rept_stub.specs.Replies.{big_word, digits_of, error, signal_reply, stop_part}
 use Rattle.rept_stub.specs.Signals.{debugger_signal}
 use Rattle.rept_stub.specs.Standing.{is_alone}

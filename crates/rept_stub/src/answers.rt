@@ -6,7 +6,7 @@ ghost use Rattle.rept_findings.specs.Shown.{IsThreadPoint, SameReasons, session_
 ghost use Rattle.rept_stub.specs.Answers.{IsLineAnswered, IsMonitored, IsStubAnswer, changed, changed_reply, cursor_reply, fixed_reply, halt_by, is_far, line_before, monitored, move_line, move_reply, moved, selected_by, spots_after, stale_after, stand_after, still_reply, threads_still, watch_in};
 ghost use Rattle.rept_stub.specs.Monitoring.{asked_of, line_point};
 ghost use Rattle.rept_stub.specs.Replies.{decoded};
-ghost use Rattle.rept_moves.specs.Spots.{region};
+ghost use Rattle.rept_remote.specs.Moves.Spots.{region};
 ghost use Rattle.rept_stub.specs.Standing.{AreCursors, IsStandLawful, cursor_of, here, led, moving_thread, start_of};
 
 use crate::console::console_line;
@@ -24,11 +24,10 @@ use crate::threads::{
 };
 use rept_findings::findings::moment_of;
 use rept_findings::{Findings, ThreadPoint};
-use rept_moves::{
-    MoveEnd, Region, Spots, StopReason, Watch, continued, continued_back, is_unseen, stepped,
-    stepped_back, stepped_within,
+use rept_remote::{
+    GdbRequest, MoveEnd, Movement, Region, Spots, StopReason, ThreadName, Watch, WatchKind,
+    continued, continued_back, is_unseen, parse, stepped, stepped_back, stepped_within,
 };
-use rept_remote::{GdbRequest, Movement, ThreadName, WatchKind, parse};
 use rept_session::answer_line;
 use rept_word::{OutOfMemory, Text};
 use std::alloc::Global;

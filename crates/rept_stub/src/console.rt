@@ -10,8 +10,9 @@ ghost use Rattle.rept_stub.specs.Consoles.{base_at, base_text, console_line, is_
 use rept_findings::findings::number_of;
 use rept_findings::{Findings, ThreadPoint, push_thread_named};
 use rept_isa::{Reg, reads};
-use rept_moves::{MoveEnd, StopReason, is_stepped_over, last_point, point_at, writer_at};
-use rept_remote::Movement;
+use rept_remote::{
+    MoveEnd, Movement, StopReason, is_stepped_over, last_point, point_at, writer_at,
+};
 use rept_report::Writer;
 use rept_word::{OutOfMemory, Text};
 use std::alloc::Global;

@@ -12,8 +12,7 @@ use crate::pieces::push_big;
 use rept_elf::{Image, PF_W, PT_LOAD, Segment};
 use rept_findings::{Findings, ThreadPoint};
 use rept_maps::Mapped;
-use rept_moves::last_point;
-use rept_remote::TargetObject;
+use rept_remote::{TargetObject, last_point};
 use rept_word::{OutOfMemory, Text};
 use std::alloc::Global;
 

@@ -7,7 +7,7 @@ ghost use Rattle.rept_findings.specs.Shown.{IsThreadPoint};
 ghost use Rattle.rept_findings.specs.Texts.{of_thread, step_text, writer_line};
 
 use rept_findings::{Findings, ThreadPoint, push_thread_named};
-use rept_moves::{before, named_row, point_at, writer_at};
+use rept_remote::{before, named_row, point_at, writer_at};
 use rept_report::Writer;
 use rept_word::{OutOfMemory, Text, number_in};
 use std::alloc::Global;

@@ -12,8 +12,7 @@ use crate::signal::debugger_signal;
 use rept_findings::findings::{address_at, number_of};
 use rept_findings::{Findings, ThreadPoint};
 use rept_isa::Reg;
-use rept_moves::{StopReason, byte_told, last_point};
-use rept_remote::digits_value;
+use rept_remote::{StopReason, byte_told, digits_value, last_point};
 use rept_word::{OutOfMemory, Text};
 use std::alloc::Global;
 

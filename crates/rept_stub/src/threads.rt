@@ -13,8 +13,7 @@ use crate::answers::Stand;
 use crate::pieces::{push_big, push_digits, push_named, push_signal, push_stop, whole};
 use crate::signal::debugger_signal;
 use rept_findings::{Findings, ThreadPoint};
-use rept_moves::StopReason;
-use rept_remote::ThreadName;
+use rept_remote::{StopReason, ThreadName};
 use rept_word::{OutOfMemory, Text};
 use std::alloc::Global;
 

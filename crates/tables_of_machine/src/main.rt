@@ -6,6 +6,7 @@
 mod accesses;
 mod bits;
 mod calls;
+mod files;
 mod instructions;
 mod moves;
 mod paths;
@@ -18,23 +19,27 @@ mod shown;
 mod stores;
 mod words;
 
+use files::{Files, reads};
+use rept_ports::{StdSink, StdSource, write_all};
 use rows::Rows;
 use std::alloc::{AllocError, Global};
-use std::io;
+use std::{fs, io, rt};
 use stores::Stores;
 use test_kit::{Numbers, Table, tell};
 
-/// The tables of the machine, of sets and of rules, with the stores that some of their cases
-/// change.
+/// The tables of files, of the machine, of sets and of rules, with what some of their cases change.
 #[derive(Drop)]
-struct Tables {
+struct Tables<'r, R> {
+    files: Files<'r, R>,
     stores: Stores,
     rows: Rows,
 }
 
-impl Table for Tables {
+impl<'r, R: rt::Files> Table for Tables<'r, R> {
     fn answer(&mut self, alloc: Global, asked: &str, n: &Numbers) -> Result<String, AllocError> {
-        if asked.starts_with("store-") {
+        if is_of_files(asked) {
+            self.files.answer(alloc, asked, n)
+        } else if asked.starts_with("store-") {
             self.stores.answer(alloc, asked, n)
         } else if asked.starts_with("rows-") {
             self.rows.answer(alloc, asked, n)
@@ -44,6 +49,51 @@ impl Table for Tables {
             answer(alloc, asked, n)
         }
     }
+}
+
+/// Whether a case is one of files and ports.
+fn is_of_files(asked: &str) -> bool {
+    matches!(
+        asked,
+        "again"
+            | "byte"
+            | "bytes"
+            | "code"
+            | "core"
+            | "crash"
+            | "crashed"
+            | "disk"
+            | "dump"
+            | "dumps"
+            | "entry"
+            | "exe"
+            | "exec"
+            | "file"
+            | "half-of-code"
+            | "kept"
+            | "lines"
+            | "load"
+            | "mapped"
+            | "maps"
+            | "names"
+            | "notes"
+            | "pipe"
+            | "put"
+            | "read"
+            | "segment"
+            | "shared"
+            | "shelf"
+            | "shelve"
+            | "sink"
+            | "source"
+            | "status"
+            | "symbol"
+            | "whole"
+            | "words"
+            | "write"
+            | "written"
+            | "zeros"
+    )
 }
 
 /// The answer of the machine, of calls and of accesses.
@@ -72,12 +122,24 @@ fn others(alloc: Global, asked: &str, n: &Numbers) -> Result<String, AllocError>
     }
 }
 
-fn begin(alloc: Global) -> Result<Tables, AllocError> {
-    let stores = Stores::new(alloc)?;
-    let rows = Rows::new(alloc, 0)?;
-    Ok(Tables { stores, rows })
-}
-
+/// The real files are in the folder that the program runs in. Standard output is written to before
+/// the table, and standard input read after it.
 fn main(rt: HostRuntime) -> io::Result<()> {
-    tell(&rt, &mut begin(rt.alloc())?)
+    let written = write_all(&mut StdSink::new(io::writer(&rt)), b"written\n");
+    rt.println(format!(in rt.alloc(); "standard output: {written:?}")?)?;
+    let exe = fs::read(&rt, "crash")?;
+    let core = fs::read(&rt, "core")?;
+    let files = Files::new(rt.alloc(), &rt, exe, core)?;
+    let stores = Stores::new(rt.alloc())?;
+    let rows = Rows::new(rt.alloc(), 0)?;
+    tell(
+        &rt,
+        &mut Tables {
+            files,
+            stores,
+            rows,
+        },
+    )?;
+    let read = reads(&mut StdSource::new(rt.reader()));
+    rt.println(format!(in rt.alloc(); "standard input: {read:?}")?)
 }

@@ -2,7 +2,7 @@ use Rattle.std.proofs.Common.{◌≡◌, ◌⊎◌, Bool, Ok, sym, subst}
 use Rattle.rept_found.specs.Crash.{Crash}
 use Rattle.rept_ports.specs.Port.{move}
 use Rattle.rept_app.specs.Examine.{Examines, WalksTrace, WalkHolds, IsWalked, TraceExcludes}
-use Rattle.rept_runs.specs.Kind.{is_several}
+use Rattle.rept_streams.specs.Runs.Kind.{is_several}
 use Rattle.rept_opening.specs.Loading.{crash_bytes}
 use Rattle.rept_opening.specs.Reading.{HasNotes, HasNoDump, IsDumpOf}
 use Rattle.rept_opening.specs.Opened.{crash_trace}

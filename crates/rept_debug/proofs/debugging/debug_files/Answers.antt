@@ -2,7 +2,7 @@ use Rattle.std.proofs.Common.{Bool, List, ℕ, inl, ap, subst, ◌∙◌}
 use Rattle.std.proofs.lemmas.Result.{IfErr-weaker, IfOk-weaker}
 use Rattle.rept_found.specs.Crash.{crash_of}
 use Rattle.rept_ports.specs.Port.{move}
-use Rattle.rept_runs.specs.Kind.{is_several}
+use Rattle.rept_streams.specs.Runs.Kind.{is_several}
 use Rattle.rept_opening.specs.Loading.{CrashBytes, crash_bytes}
 use Rattle.rept_opening.specs.Reading.{HasNoDump, HasNotes, IsDumpOf}
 use Rattle.rept_opening.specs.Opened.{crash_trace}

@@ -2,7 +2,7 @@ use Rattle.std.proofs.Common.{refl}
 use Rattle.rept_amo.specs.Atomic.{atomic_rules}
 use Rattle.rept_found.specs.Crash.{crash_of, means}
 use Rattle.rept_infer.specs.Path.{path_reader, told_in}
-use Rattle.rept_inferred.specs.Narrowed.{beyond_of}
+use Rattle.rept_found.specs.Inferred.Narrowed.{beyond_of}
 use Rattle.rept_ports.specs.Port.{move}
 use Rattle.rept_opening.proofs.BeyondLemmas.{asked_inferred, refused_still}
 use Rattle.rept_opening.proofs.ReportLemmas.{first_signal}

@@ -1,7 +1,7 @@
 use Rattle.std.proofs.Common.{rules, ◌≡◌, true, false, refl, sym, subst}
 use Rattle.std.specs.Prelude.{ℕ, List}
-use Rattle.rept_runs.specs.Kind.{is_several}
-use Rattle.rept_runs.specs.Told.{traced}
+use Rattle.rept_streams.specs.Runs.Kind.{is_several}
+use Rattle.rept_streams.specs.Runs.Told.{traced}
 use Rattle.rept_found.specs.Crash.{crash_of}
 use Rattle.rept_opening.specs.TraceRun.{IsRunRead}
 use Rattle.rept_opening.proofs.RunLemmas.{fits_result, only_note, streams_read}

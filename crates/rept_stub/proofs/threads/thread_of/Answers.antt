@@ -1,6 +1,6 @@
 use Rattle.std.proofs.Common.{◌==◌, ◌∙◌, arith}
 use Rattle.std.proofs.lemmas.Bool.{ne_eqb}
-use Rattle.rept_moves.proofs.Ranges.{find_on}
+use Rattle.rept_remote.proofs.MovesLemmas.Ranges.{find_on}
 use Rattle.rept_stub.proofs.threads.thread_of.Goals as goal
 
 pub loop-thread-preserved : goal.loop-thread-preserved

@@ -1,3 +1,0 @@
-mod Forward
-mod Named
-pub mod Ranges

@@ -1,6 +1,0 @@
-use Rattle.std.proofs.Common.{◌≡◌, drop}
-use Rattle.rept_moves.specs.Halts.{written}
-use Rattle.rept_moves.proofs.moves.written.Given as goal
-
-abbrev pub invariant-loop-address : goal.invariant-loop-address
-invariant-loop-address g l = written (g.F.Findings.shown l.findings) l.at l.addresses ≡ written (g.F.Findings.shown l.findings) l.at (drop l.address-index l.addresses)

@@ -1,7 +1,0 @@
-use Rattle.std.proofs.Common.{◌≡◌, take}
-use Rattle.std.specs.List.{flat_map}
-use Rattle.rept_moves.specs.Spots.{accesses_of}
-use Rattle.rept_moves.proofs.spots.Spots.accessed.Given as goal
-
-abbrev pub invariant-loop-region : goal.invariant-loop-region
-invariant-loop-region l = l.addresses.items ≡ flat_map accesses_of (take l.region-index l.self.regions)

@@ -1,7 +1,0 @@
-use Rattle.std.proofs.Common.{◌≡◌, take}
-use Rattle.std.specs.List.{flat_map}
-use Rattle.rept_moves.specs.Spots.{addresses_of}
-use Rattle.rept_moves.proofs.spots.Spots.watched.Given as goal
-
-abbrev pub invariant-loop-region : goal.invariant-loop-region
-invariant-loop-region l = l.addresses.items ≡ flat_map addresses_of (take l.region-index l.self.regions)

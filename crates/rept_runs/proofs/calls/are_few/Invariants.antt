@@ -1,6 +1,0 @@
-use Rattle.std.proofs.Common.{◌≡◌, ◌+◌, take}
-use Rattle.rept_timeline.specs.Small.{rows_in}
-use Rattle.rept_runs.proofs.calls.are_few.Given as goal
-
-abbrev pub invariant-loop-thread : goal.invariant-loop-thread
-invariant-loop-thread l = l.room + rows_in (take l.thread-index l.threads) ≡ l.most
