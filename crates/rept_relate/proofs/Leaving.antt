@@ -18,7 +18,7 @@ use Rattle.rept_relate.specs.declared.words.WordSlot.{WordSlot}
 use Rattle.rept_relate.specs.Relations.{IsRowOf}
 use Rattle.rept_relate.specs.Holding.{IsPlaceOf, AreHeld, IsOutside, IsSlotLeft, AreLeft, IsCallWithin, AreCallsWithin}
 use Rattle.rept_relate.proofs.Counting.{same_some, pushed_cases}
-use Rattle.rept_relate.proofs.Remembering.{word_same}
+use Rattle.rept_relate.proofs.Remembering.{loaded_same}
 
 not_le : (m n : ℕ) → n < m → nat_le m n ≡ false
 not_le m n h = grind (arith, h)
@@ -54,7 +54,7 @@ left_held old new access value s t left others held k slot is live =
     let a = word_of value slot.place.address in
     record {
       place = h.place;
-      word = word_same t.memory s.memory a (λ j less. others (beside a j) (c.outside value a j h.place less)) ∙ h.word;
+      word = loaded_same slot.op t.memory s.memory a (λ j less. others (beside a j) (c.outside value a j h.place less)) ∙ h.word;
     }
 
 -- ---- rows

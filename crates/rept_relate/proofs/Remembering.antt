@@ -6,12 +6,13 @@ use Rattle.rept_isa.specs.declared.instr.Instr.TheVariants.{Lui, Auipc, Jal, Jal
 use Rattle.rept_isa.specs.declared.instr.AmoOp.{AmoOp}
 use Rattle.rept_isa.specs.declared.instr.AmoOp.TheVariants as atomic
 use Rattle.rept_isa.specs.declared.instr.StoreOp.{StoreOp}
-use Rattle.rept_isa.specs.declared.instr.LoadOp.TheVariants.{Lw}
+use Rattle.rept_isa.specs.declared.instr.LoadOp.{LoadOp}
+use Rattle.rept_isa.specs.declared.instr.LoadOp.TheVariants.{Lb, Lh, Lw, Lbu, Lhu}
 use Rattle.rept_isa.specs.declared.row.StepRow.{StepRow}
 use Rattle.rept_isa.specs.Numbers.{word, beside}
 use Rattle.rept_isa.specs.Operands.{written_by, first_read, second_read}
 use Rattle.rept_isa.specs.Rows.{addresses_of}
-use Rattle.rept_machine.specs.Arithmetic.{word_at, byte_of, store_width}
+use Rattle.rept_machine.specs.Arithmetic.{extended, half_at, loaded, word_at, byte_of, store_width}
 use Rattle.rept_machine.specs.State.{State}
 use Rattle.rept_machine.specs.Step.{HasEffect}
 use Rattle.rept_machine.specs.Writes.{IsOneOfBytes, WritesAtomic, WritesBy}
@@ -43,11 +44,11 @@ placed value root base offset lo hi set e has l h =
 own_place : (value : ℕ → ℕ) (place : WordPlace) (a : ℕ) → IsPlaceOf value place a → IsPlaceOf value place (word_of value place.address)
 own_place value place a p = subst (λ (n : ℕ). IsPlaceOf value place n) (sym p.stands) p
 
-pub held_new : (value : ℕ → ℕ) (s : State) (place : WordPlace) (a node : ℕ) → IsPlaceOf value place a → word_at s.memory a ≡ value node → IsWordHeld value s (record { live = true; place = place; node = node })
-held_new value s place a node p e = record { place = own_place value place a p; word = ap (λ (n : ℕ). word_at s.memory n) p.stands ∙ e }
+pub held_new : (value : ℕ → ℕ) (s : State) (place : WordPlace) (op : LoadOp) (a node : ℕ) → IsPlaceOf value place a → loaded op s.memory a ≡ value node → IsWordHeld value s (record { live = true; place = place; op = op; node = node })
+held_new value s place op a node p e = record { place = own_place value place a p; word = ap (λ (n : ℕ). loaded op s.memory n) p.stands ∙ e }
 
-pub word_there : (value : ℕ → ℕ) (s : State) (place : WordPlace) (a node known : ℕ) → IsPlaceOf value place a → value node ≡ word_at s.memory a → word_at s.memory (word_of value place.address) ≡ value known → value node ≡ value known
-word_there value s place a node known p e f = e ∙ ap (λ (n : ℕ). word_at s.memory n) (sym p.stands) ∙ f
+pub word_there : (value : ℕ → ℕ) (s : State) (place : WordPlace) (op : LoadOp) (a node known : ℕ) → IsPlaceOf value place a → value node ≡ loaded op s.memory a → loaded op s.memory (word_of value place.address) ≡ value known → value node ≡ value known
+word_there value s place op a node known p e f = e ∙ ap (λ (n : ℕ). loaded op s.memory n) (sym p.stands) ∙ f
 
 -- ---- the words that are left
 pub word_same : (m n : ℕ → ℕ) (a : ℕ) → ((k : ℕ) → k < 4 → m (beside a k) ≡ n (beside a k)) → word_at m a ≡ word_at n a
@@ -58,6 +59,19 @@ word_same m n a same =
     let s = same 3 (lit< tt) in
     rw (p, q, r, s) refl
 
+half_same : (m n : ℕ → ℕ) (a : ℕ) → ((k : ℕ) → k < 4 → m (beside a k) ≡ n (beside a k)) → half_at m a ≡ half_at n a
+half_same m n a same =
+    let p = same 0 (lit< tt) in
+    let q = same 1 (lit< tt) in
+    rw (p, q) refl
+
+pub loaded_same : (op : LoadOp) (m n : ℕ → ℕ) (a : ℕ) → ((k : ℕ) → k < 4 → m (beside a k) ≡ n (beside a k)) → loaded op m a ≡ loaded op n a
+loaded_same Lb m n a same = ap (extended 8) (same 0 (lit< tt))
+loaded_same Lh m n a same = ap (extended 16) (half_same m n a same)
+loaded_same Lw m n a same = word_same m n a same
+loaded_same Lbu m n a same = same 0 (lit< tt)
+loaded_same Lhu m n a same = half_same m n a same
+
 pub cleared_held : (old new : List WordSlot) (place : WordPlace) (width : ℕ) (value : ℕ → ℕ) (s t : State) (base : ℕ) → AreCleared old new place width → IsPlaceOf value place base → KeepsOthers s t base width → AreHeld old value s → AreHeld new value t
 cleared_held old new place width value s t base cleared at others held k slot is live =
     let c = cleared k slot is live in
@@ -65,13 +79,13 @@ cleared_held old new place width value s t base cleared at others held k slot is
     let a = word_of value slot.place.address in
     record {
       place = h.place;
-      word = word_same t.memory s.memory a (λ j less. others (beside a j) (λ i inside e. c.apart value a base h.place at j i less inside e)) ∙ h.word;
+      word = loaded_same slot.op t.memory s.memory a (λ j less. others (beside a j) (λ i inside e. c.apart value a base h.place at j i less inside e)) ∙ h.word;
     }
 
 pub held_same : (slots : List WordSlot) (value : ℕ → ℕ) (s t : State) → ((a : ℕ) → t.memory a ≡ s.memory a) → AreHeld slots value s → AreHeld slots value t
 held_same slots value s t same held k slot is live =
     let h = held k slot is live in
-    record { place = h.place; word = word_same t.memory s.memory (word_of value slot.place.address) (λ j less. same (beside (word_of value slot.place.address) j)) ∙ h.word }
+    record { place = h.place; word = loaded_same slot.op t.memory s.memory (word_of value slot.place.address) (λ j less. same (beside (word_of value slot.place.address) j)) ∙ h.word }
 
 pub none_held : (slots : List WordSlot) (value : ℕ → ℕ) (t : State) → length slots ≡ 0 → AreHeld slots value t
 none_held [] value t none k slot is live = absurd (nothing is)
@@ -113,10 +127,10 @@ quiet_same row node nodes value image_end s t quiet w a = effect_keeps_byte row.
 pub first_small : (row : StepRow) (node : ℕ) (nodes : OperandNodes) (value : ℕ → ℕ) (image_end : ℕ) (s t : State) (r : ℕ) → first_read row.instr ≡ Some r → IsRowOf row node nodes value image_end s t → value nodes.first < 2 ^ 32
 first_small row node nodes value image_end s t r e w = subst (λ (n : ℕ). n < 2 ^ 32) (sym (w.first r e)) (w.before.words r)
 
-pub loaded_word : (row : StepRow) (node : ℕ) (nodes : OperandNodes) (value : ℕ → ℕ) (image_end : ℕ) (s t : State) (rd rs1 : ℕ) (imm : ℤ) → row.instr ≡ Load Lw rd rs1 imm → rd ≢ 0 → IsRowOf row node nodes value image_end s t → value node ≡ word_at s.memory (beside (value nodes.first) (word imm))
-loaded_word row node nodes value image_end s t rd rs1 imm is named w =
-    let h : HasEffect (Load Lw rd rs1 imm) image_end (addresses_of row) s t = effect (Load Lw rd rs1 imm) image_end row s t is w.step in
-    w.result rd (ap written_by is ∙ unless_named rd named) ∙ h.result.written named ∙ ap (λ (n : ℕ). word_at s.memory (beside n (word imm))) (sym (w.first rs1 (ap first_read is)))
+pub loaded_value : (row : StepRow) (node : ℕ) (nodes : OperandNodes) (value : ℕ → ℕ) (image_end : ℕ) (s t : State) (op : LoadOp) (rd rs1 : ℕ) (imm : ℤ) → row.instr ≡ Load op rd rs1 imm → rd ≢ 0 → IsRowOf row node nodes value image_end s t → value node ≡ loaded op s.memory (beside (value nodes.first) (word imm))
+loaded_value row node nodes value image_end s t op rd rs1 imm is named w =
+    let h : HasEffect (Load op rd rs1 imm) image_end (addresses_of row) s t = effect (Load op rd rs1 imm) image_end row s t is w.step in
+    w.result rd (ap written_by is ∙ unless_named rd named) ∙ h.result.written named ∙ ap (λ (n : ℕ). loaded op s.memory (beside n (word imm))) (sym (w.first rs1 (ap first_read is)))
 
 pub stored_others : (row : StepRow) (node : ℕ) (nodes : OperandNodes) (value : ℕ → ℕ) (image_end : ℕ) (s t : State) (op : StoreOp) (rs1 rs2 : ℕ) (imm : ℤ) → row.instr ≡ Store op rs1 rs2 imm → IsRowOf row node nodes value image_end s t → KeepsOthers s t (beside (value nodes.first) (word imm)) (store_width op)
 stored_others row node nodes value image_end s t op rs1 rs2 imm is w a out =

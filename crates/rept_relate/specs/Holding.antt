@@ -1,4 +1,5 @@
--- Words of memory that nodes stand for. Their addresses are terms, known or not.
+-- Words, halves and bytes of memory that nodes stand for, as loads have them. Their addresses are
+-- terms, known or not.
 use Rattle.std.specs.Prelude.{◌≡◌, ℕ, ◌+◌, ◌<◌, ◌≤◌, Bool, true, false, List, Some, slice_get}
 use Rattle.rept_isa.specs.declared.instr.Instr.{Instr}
 use Rattle.rept_isa.specs.declared.instr.Instr.TheVariants.{Store, Amo, Ecall}
@@ -6,7 +7,7 @@ use Rattle.rept_isa.specs.declared.row.StepRow.{StepRow}
 use Rattle.rept_isa.specs.Numbers.{beside}
 use Rattle.rept_alias.specs.declared.addresses.CallAccess.{CallAccess}
 use Rattle.rept_alias.specs.Accesses.{call_hits}
-use Rattle.rept_machine.specs.Arithmetic.{word_at}
+use Rattle.rept_machine.specs.Arithmetic.{loaded}
 use Rattle.rept_machine.specs.State.{State}
 use Rattle.rept_machine.specs.Writes.{WritesBy}
 use Rattle.rept_relate.specs.Classes.Valuations.{word_of}
@@ -23,10 +24,10 @@ pub record IsPlaceOf (value : ℕ → ℕ) (place : WordPlace) (a : ℕ) : Type 
 abbrev pub IsApart : WordPlace → WordPlace → ℕ → Type 0
 IsApart held other width = (value : ℕ → ℕ) (a b : ℕ) → IsPlaceOf value held a → IsPlaceOf value other b → (k j : ℕ) → k < 4 → j < width → beside a k ≡ beside b j → ⊥
 
--- the word at the slot's place is that of its node
+-- a load of the slot's kind at its place has the word of its node
 pub record IsWordHeld (value : ℕ → ℕ) (s : State) (slot : WordSlot) : Type 0 where
   pub place : IsPlaceOf value slot.place (word_of value slot.place.address)
-  pub word : word_at s.memory (word_of value slot.place.address) ≡ value slot.node
+  pub word : loaded slot.op s.memory (word_of value slot.place.address) ≡ value slot.node
 
 abbrev pub AreHeld : List WordSlot → (ℕ → ℕ) → State → Type 0
 AreHeld slots value s = (k : ℕ) (slot : WordSlot) → slice_get slots k ≡ Some slot → slot.live ≡ true → IsWordHeld value s slot

@@ -69,6 +69,7 @@ fn leave_slot(slots: &mut Vec<WordSlot>, k: usize, access: &CallAccess)
         slots[k] = WordSlot {
             live: false,
             place: slot.place,
+            op: slot.op,
             node: slot.node,
         };
     }

@@ -1,8 +1,8 @@
-//! What loads and stores of words tell of classes.
+//! What loads and stores tell of classes.
 
 ghost use Rattle.std.specs.Prelude.{◌≡◌, ℕ, ◌<◌, ◌≤◌, ◌^◌, true, length, IfOk, OnOk, OnErr};
 ghost use Rattle.rept_isa.specs.Numbers.{beside};
-ghost use Rattle.rept_machine.specs.Arithmetic.{word_at};
+ghost use Rattle.rept_machine.specs.Arithmetic.{loaded, word_at};
 ghost use Rattle.rept_machine.specs.State.{State};
 ghost use Rattle.rept_relate.specs.Classes.Valuations.{IsValued};
 ghost use Rattle.rept_relate.specs.Relations.{IsRowOf};
@@ -37,36 +37,40 @@ fn place_of(classes: &mut Classes, base: u32, offset: u32) -> Result<WordPlace, 
     })
 }
 
-/// A load of a word: its result is the word at the place, which is kept from then on.
-fn load_word(
-    classes: &mut Classes,
-    words: &mut WordTable,
+/// A load: its kind, the node of its result, and that of its base with an offset.
+#[derive(Clone, Copy)]
+struct Loading {
+    op: LoadOp,
     node: u32,
     base: u32,
     offset: u32,
-) -> Result<(), Impossible>
-    requires node { node < length classes.old }
-    requires base { base < length classes.old }
+}
+
+/// A load: its result is what the place holds, which is kept from then on.
+fn load_value(classes: &mut Classes, words: &mut WordTable, load: Loading) -> Result<(), Impossible>
+    requires node { load.node < length classes.old }
+    requires base { load.base < length classes.old }
     requires below { AreNodesBelow words.old.slots.items (length classes.old) }
     ensures len { length classes.new ≡ length classes.old }
-    ensures below { (limit : ℕ) → AreNodesBelow words.old.slots.items limit → node < limit → AreNodesBelow words.new.slots.items limit }
-    ensures keeps { OnOk result ((value : ℕ → ℕ) (s : State) → value 0 ≡ 0 → value base < 2 ^ 32 → value node ≡ word_at s.memory (beside (value base) offset) → IsValued classes.old value → AreHeld words.old.slots.items value s → (IsValued classes.new value) × AreHeld words.new.slots.items value s) }
-    ensures refuses { OnErr result ((value : ℕ → ℕ) (s : State) → value 0 ≡ 0 → value base < 2 ^ 32 → value node ≡ word_at s.memory (beside (value base) offset) → IsValued classes.old value → AreHeld words.old.slots.items value s → ⊥) }
+    ensures below { (limit : ℕ) → AreNodesBelow words.old.slots.items limit → load.node < limit → AreNodesBelow words.new.slots.items limit }
+    ensures keeps { OnOk result ((value : ℕ → ℕ) (s : State) → value 0 ≡ 0 → value load.base < 2 ^ 32 → value load.node ≡ loaded load.op s.memory (beside (value load.base) load.offset) → IsValued classes.old value → AreHeld words.old.slots.items value s → (IsValued classes.new value) × AreHeld words.new.slots.items value s) }
+    ensures refuses { OnErr result ((value : ℕ → ℕ) (s : State) → value 0 ≡ 0 → value load.base < 2 ^ 32 → value load.node ≡ loaded load.op s.memory (beside (value load.base) load.offset) → IsValued classes.old value → AreHeld words.old.slots.items value s → ⊥) }
 {
-    let place = place_of(classes, base, offset)?;
-    match like(&words.slots, place.address) {
+    let place = place_of(classes, load.base, load.offset)?;
+    match like(&words.slots, load.op, place.address) {
         None => keep(
             words,
             WordSlot {
                 live: true,
                 place,
-                node,
+                op: load.op,
+                node: load.node,
             },
         ),
         Some(known) => {
             join_sum(
                 classes,
-                node,
+                load.node,
                 Term {
                     node: known,
                     offset: 0,
@@ -120,6 +124,7 @@ fn store(
             WordSlot {
                 live: true,
                 place,
+                op: LoadOp::Lw,
                 node: source,
             },
         );
@@ -149,14 +154,7 @@ fn is_quiet(instr: &Instr) -> bool
     )
 }
 
-/// Whether a load is one of a word.
-fn is_word(op: LoadOp) -> bool
-    ensures { result ≡ true → op ≡ LoadOp.Lw }
-{
-    matches!(op, LoadOp::Lw)
-}
-
-/// The classes and the words of memory after a row that may load a word.
+/// The classes and what of memory is kept, after a row that may load.
 fn relate_load(
     classes: &mut Classes,
     words: &mut WordTable,
@@ -174,10 +172,19 @@ fn relate_load(
 {
     match row.instr {
         Instr::Load { op, rd, imm, .. } => {
-            if rd.number() == 0 || !is_word(op) {
+            if rd.number() == 0 {
                 return Ok(());
             }
-            load_word(classes, words, node, nodes.first, word(imm))
+            load_value(
+                classes,
+                words,
+                Loading {
+                    op,
+                    node,
+                    base: nodes.first,
+                    offset: word(imm),
+                },
+            )
         }
         _ => Ok(()),
     }

@@ -1,7 +1,7 @@
-//! Words of memory whose values are nodes, at addresses that are terms.
+//! Words, halves and bytes of memory whose values are nodes, at addresses that are terms.
 
 ghost use Rattle.std.specs.Prelude.{◌≡◌, ℕ, ◌<◌, ◌≤◌, ◌^◌, true, false, length, IfSome, Some, slice_get};
-ghost use Rattle.rept_machine.specs.Arithmetic.{word_at};
+ghost use Rattle.rept_machine.specs.Arithmetic.{loaded};
 ghost use Rattle.rept_machine.specs.State.{State};
 ghost use Rattle.rept_isa.specs.Numbers.{beside};
 ghost use Rattle.rept_relate.specs.Classes.Valuations.{word_of};
@@ -9,6 +9,7 @@ ghost use Rattle.rept_relate.specs.declared.words.WordSlot.{WordSlot};
 ghost use Rattle.rept_relate.specs.Holding.{IsApart, IsWordHeld, AreHeld, AreNodesBelow, IsCleared, AreCleared};
 
 use crate::classes::Term;
+use rept_isa::LoadOp;
 
 /// The most words that are kept at one time.
 const MOST: usize = 512;
@@ -24,13 +25,15 @@ pub struct WordPlace {
     pub hi: u32,
 }
 
-/// A word of memory and the node of its value.
+/// What a load of some kind has at a place, and the node of that value.
 #[derive(Clone, Copy)]
 pub struct WordSlot {
     /// whether anything is said
     pub live: bool,
     /// where it stands
     pub place: WordPlace,
+    /// by which kind of load it is had
+    pub op: LoadOp,
     /// the node of its value
     pub node: u32,
 }
@@ -89,6 +92,7 @@ fn clear_slot(slots: &mut Vec<WordSlot>, k: usize, place: &WordPlace, width: u32
         slots[k] = WordSlot {
             live: false,
             place: slot.place,
+            op: slot.op,
             node: slot.node,
         };
     }
@@ -105,15 +109,30 @@ pub fn clear(slots: &mut Vec<WordSlot>, place: &WordPlace, width: u32)
     }
 }
 
-/// The node of the word at an address.
-pub fn like(slots: &[WordSlot], address: Term) -> Option<u32>
-    ensures word { IfSome result (λ n. (value : ℕ → ℕ) (s : State) → AreHeld slots.now value s → word_at s.memory (word_of value address) ≡ value n) }
+/// Whether both are one kind of load.
+fn is_same_load(a: LoadOp, b: LoadOp) -> bool
+    ensures { result ≡ true → a ≡ b }
+{
+    matches!(
+        (a, b),
+        (LoadOp::Lb, LoadOp::Lb)
+            | (LoadOp::Lh, LoadOp::Lh)
+            | (LoadOp::Lw, LoadOp::Lw)
+            | (LoadOp::Lbu, LoadOp::Lbu)
+            | (LoadOp::Lhu, LoadOp::Lhu)
+    )
+}
+
+/// The node of what a load of this kind has at an address.
+pub fn like(slots: &[WordSlot], op: LoadOp, address: Term) -> Option<u32>
+    ensures word { IfSome result (λ n. (value : ℕ → ℕ) (s : State) → AreHeld slots.now value s → loaded op s.memory (word_of value address) ≡ value n) }
     ensures below { IfSome result (λ n. (limit : ℕ) → AreNodesBelow slots.now limit → n < limit) }
 {
     for slot in slots {
         if slot.live
             && slot.place.address.node == address.node
             && slot.place.address.offset == address.offset
+            && is_same_load(slot.op, op)
         {
             return Some(slot.node);
         }

@@ -4,7 +4,7 @@ ghost use Rattle.std.specs.Prelude.{nat_le, ◌≡◌, ◌<◌, ◌+◌, ◌∷�
 ghost use Rattle.rept_path.specs.Code.{look, calls_there};
 ghost use Rattle.rept_path.specs.Program.{code_of};
 ghost use Rattle.rept_path.specs.declared.fault.PathFault.TheVariants.{OutOfMemory};
-ghost use Rattle.rept_steps.specs.Linked.{AreLinked, BeginAt, EndBefore};
+ghost use Rattle.rept_steps.specs.Linked.{AreLinked, BeginAt};
 ghost use Rattle.rept_steps.specs.Course.{TakeRows, rows_of, slices_of};
 ghost use Rattle.rept_steps.specs.declared.threads.ThreadRows.{ThreadRows};
 ghost use Rattle.rept_steps.specs.Runs.{course_of};
@@ -12,6 +12,7 @@ ghost use Rattle.rept_timeline.specs.Small.{rows_in};
 ghost use Rattle.rept_streams.specs.declared.threads.notes.KeptNote.{KeptNote};
 ghost use Rattle.rept_streams.specs.Runs.Calls.{begin_address, call_before, entered, is_shared, later_by, with_call, with_calls, with_row};
 
+use crate::threads::joins::add_row;
 use crate::threads::notes::KeptNote;
 use rept_isa::{Instr, StepRow};
 use rept_path::program::Program;
@@ -74,18 +75,6 @@ fn begin_address(rows: &[StepRow], pc: u32) -> u32
     match rows.first() {
         Some(row) => row.at,
         None => pc,
-    }
-}
-
-/// Adds a step after others, which lead to it.
-fn add_row(steps: &mut Steps, row: &StepRow) -> Result<(), PathFault>
-    requires { EndBefore steps.old row.now.at }
-    ensures ok { OnOk result (steps.new ≡ steps.old ++ row.now ∷ []) }
-    ensures err { IfErr result (λ e. e ≡ OutOfMemory) }
-{
-    match steps.push(*row) {
-        Ok(()) => Ok(()),
-        Err(_) => Err(PathFault::OutOfMemory),
     }
 }
 

@@ -11,7 +11,6 @@ ghost use Rattle.rept_streams.specs.Slices.Parts.{LeftPackets, ToldSlice, slices
 ghost use Rattle.rept_streams.specs.Slices.Entries.{IsEntryOf, AreEntriesOf};
 ghost use Rattle.rept_streams.specs.Slices.Lefts.{IsLeft, AreLeft};
 ghost use Rattle.rept_streams.specs.Slices.Ends.{past_of, early, ends_in};
-ghost use Rattle.rept_streams.specs.Slices.Order.{head_of};
 ghost use Rattle.rept_streams.specs.Slices.Windows.{skipped_of};
 ghost use Rattle.rept_streams.specs.Slices.Skipping.{windows as all_windows, opening, greatest, ends_of};
 ghost use Rattle.rept_streams.specs.declared.slices.telling.StreamSlice.{StreamSlice};

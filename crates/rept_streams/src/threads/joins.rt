@@ -70,21 +70,13 @@ fn address_of(packet: Packet) -> u32
 }
 
 /// Adds a step after others, which lead to it.
-fn add_row(steps: &mut Steps, row: &StepRow) -> Result<(), PathFault>
+pub(crate) fn add_row(steps: &mut Steps, row: &StepRow) -> Result<(), PathFault>
     requires { EndBefore steps.old row.now.at }
     ensures ok { OnOk result (steps.new ≡ steps.old ++ row.now ∷ []) }
     ensures ends { OnOk result (EndBefore steps.new row.now.next) }
     ensures err { IfErr result (λ e. e ≡ OutOfMemory) }
 {
-    let instr = row.instr;
-    let row = StepRow {
-        at: row.at,
-        instr,
-        next: row.next,
-        call: row.call,
-        short: row.short,
-    };
-    match steps.push(row) {
+    match steps.push(*row) {
         Ok(()) => Ok(()),
         Err(_) => Err(PathFault::OutOfMemory),
     }
