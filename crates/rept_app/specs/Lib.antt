@@ -8,6 +8,7 @@ pub mod Mapped
 pub mod MappedEnds
 pub mod Promise
 pub mod Study
+pub mod Terminal
 pub mod Told
 pub mod Top
 pub mod Process

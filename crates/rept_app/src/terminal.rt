@@ -3,14 +3,36 @@
 //! What is read and what is written is the same as without a terminal. Prompts and words go to
 //! another output, whose faults are passed over.
 
-ghost use Rattle.std.specs.Prelude.{◌≡◌};
+ghost use Rattle.std.specs.Prelude.{◌≡◌, false, codes};
+ghost use Rattle.rept_ports.specs.Causes.{AppendsPrefix};
+ghost use Rattle.rept_app.specs.Terminal.{is_shown};
 
 use rept_ports::{Failed, Sink, Source, write_all};
 
 /// What asks for the next line.
 const PROMPT: &[u8] = b"rept> ";
 
-/// An input that asks for each part of it before it reads.
+/// Writes the text, or a part that begins it where the output fails.
+fn tell<K: Sink>(sink: &mut K, text: &[u8])
+    ensures { AppendsPrefix (K.port sink.old).bytes (K.port sink.new).bytes text.now }
+{
+    match write_all(sink, text) {
+        Ok(()) => {}
+        Err(_) => {}
+    }
+}
+
+/// Asks for a line at a terminal.
+fn ask<K: Sink>(prompts: &mut K, is_terminal: bool)
+    ensures asked { AppendsPrefix (K.port prompts.old).bytes (K.port prompts.new).bytes (codes "rept> ") }
+    ensures quiet { is_terminal ≡ false → prompts.new ≡ prompts.old }
+{
+    if is_terminal {
+        tell(prompts, PROMPT);
+    }
+}
+
+/// An input that asks for each part of it before it reads, where it is a terminal.
 #[derive(Drop)]
 pub struct PromptingSource<S, E> {
     input: S,
@@ -21,7 +43,9 @@ pub struct PromptingSource<S, E> {
 impl<S: Source, E: Sink> PromptingSource<S, E> {
     /// The bytes of this input. Prompts go to `prompts`, where the input is a terminal.
     pub fn new(input: S, prompts: E, is_terminal: bool) -> PromptingSource<S, E>
-        ensures { result.input ≡ input }
+        ensures input { result.input ≡ input }
+        ensures prompts { result.prompts ≡ prompts }
+        ensures terminal { result.is_terminal ≡ is_terminal }
     {
         PromptingSource {
             input,
@@ -32,13 +56,23 @@ impl<S: Source, E: Sink> PromptingSource<S, E> {
 }
 
 impl<S: Source, E: Sink> Source for PromptingSource<S, E> {
+    ghost use Rattle.std.specs.Prelude.{◌≡◌, false, codes};
+    ghost use Rattle.std.specs.Io.{ReadsAtMost};
+    ghost use Rattle.std.specs.Io.KnownBytes.{ReadConsumes};
+    ghost use Rattle.rept_ports.specs.Causes.{AppendsPrefix, HasCause};
+
     ghost port = { λ s. S.port s.input };
 
-    /// Asks, and reads once from the input.
-    fn read(&mut self, into: &mut [u8]) -> Result<usize, Failed> {
-        if self.is_terminal {
-            let _asked = write_all(&mut self.prompts, PROMPT);
-        }
+    /// Reads once from the input. At a terminal it asks before; else nothing but the input changes.
+    fn read(&mut self, into: &mut [u8]) -> Result<usize, Failed>
+        ensures bound { ReadsAtMost result into.new }
+        ensures bytes { ReadConsumes (S.port self.old.input).bytes (S.port self.new.input).bytes result into.new }
+        ensures cause { HasCause (S.port self.old.input).faults (S.port self.new.input).faults result }
+        ensures asked { AppendsPrefix (E.port self.old.prompts).bytes (E.port self.new.prompts).bytes (codes "rept> ") }
+        ensures quiet { self.old.is_terminal ≡ false → self.new.prompts ≡ self.old.prompts }
+        ensures stays { self.new.is_terminal ≡ self.old.is_terminal }
+    {
+        ask(&mut self.prompts, self.is_terminal);
         self.input.read(into)
     }
 }
@@ -63,7 +97,9 @@ pub struct ExplainingSink<K, E> {
 impl<K: Sink, E: Sink> ExplainingSink<K, E> {
     /// What is written goes to `out`, and what explains it to `words`.
     pub fn new(out: K, words: E, terminals: Terminals) -> ExplainingSink<K, E>
-        ensures { result.out ≡ out }
+        ensures out { result.out ≡ out }
+        ensures words { result.words ≡ words }
+        ensures terminals { result.terminals ≡ terminals }
     {
         ExplainingSink {
             out,
@@ -74,31 +110,52 @@ impl<K: Sink, E: Sink> ExplainingSink<K, E> {
 }
 
 impl<K: Sink, E: Sink> Sink for ExplainingSink<K, E> {
+    ghost use Rattle.std.specs.Prelude.{◌≡◌, ◌≤◌, ◌<◌, length, false, IfOk};
+    ghost use Rattle.std.specs.Io.KnownBytes.{WriteAppends};
+    ghost use Rattle.rept_ports.specs.Causes.{HasCause};
+    ghost use Rattle.rept_app.specs.Terminal.{is_shown};
+
     ghost port = { λ s. K.port s.out };
 
-    /// Writes once to the output, and explains what was written as a whole.
-    fn write(&mut self, piece: &[u8]) -> Result<usize, Failed> {
-        let count = self.out.write(piece)?;
-        if count == piece.len() {
-            let _told = write_all(&mut self.words, explanation(piece, self.terminals));
+    /// Writes once to the output. What was written as a whole is explained, where a terminal shows
+    /// it; else nothing but the output changes.
+    fn write(&mut self, piece: &[u8]) -> Result<usize, Failed>
+        ensures bound { IfOk result (λ n. n ≤ length piece.now) }
+        ensures progress { IfOk result (λ n. 0 < length piece.now → 0 < n) }
+        ensures bytes { WriteAppends (K.port self.old.out).bytes (K.port self.new.out).bytes result piece.now }
+        ensures cause { HasCause (K.port self.old.out).faults (K.port self.new.out).faults result }
+        ensures quiet { is_shown self.old.terminals piece.now ≡ false → self.new.words ≡ self.old.words }
+        ensures stays { self.new.terminals ≡ self.old.terminals }
+    {
+        match self.out.write(piece) {
+            Ok(count) => {
+                explain(&mut self.words, piece, count, self.terminals);
+                Ok(count)
+            }
+            Err(fault) => Err(fault),
         }
-        Ok(count)
     }
 }
 
-/// What a line mostly means that refuses, with a heading of docs/GUIDE.md; nothing of any other
-/// line.
-fn explanation(line: &[u8], terminals: Terminals) -> &'static [u8] {
+/// Explains a piece, of which so many bytes were written.
+fn explain<K: Sink>(words: &mut K, piece: &[u8], count: usize, terminals: Terminals)
+    ensures { is_shown terminals piece.now ≡ false → words.new ≡ words.old }
+{
+    if is_shown(terminals, piece) && count == piece.len() {
+        tell(words, meaning_of(piece));
+    }
+}
+
+/// Whether a terminal shows what a line answers: standard input of a line that was no command, and
+/// standard output of any other line.
+#[tactic(auto, unfolding(crate::specs::Terminal::is_shown))]
+fn is_shown(terminals: Terminals, line: &[u8]) -> bool
+    ensures { result ≡ is_shown terminals line.now }
+{
     if line.starts_with(b"? ") {
-        if terminals.input {
-            meaning_of(line)
-        } else {
-            b""
-        }
-    } else if terminals.output {
-        meaning_of(line)
+        terminals.input
     } else {
-        b""
+        terminals.output
     }
 }
 
@@ -109,7 +166,8 @@ struct Meaning {
     words: &'static [u8],
 }
 
-/// What a refusal mostly means. Of those that begin alike the longer one comes first.
+/// What a line mostly means that refuses, with a heading of docs/GUIDE.md; nothing of any other
+/// line. Of those that begin alike the longer one comes first.
 fn meaning_of(line: &[u8]) -> &'static [u8] {
     for meaning in &MEANINGS {
         if line.starts_with(meaning.start) {

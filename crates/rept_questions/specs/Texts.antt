@@ -1,6 +1,6 @@
 -- What a session answers to questions of the path and of its values. HEX below is `0x` and eight
 -- lower-case hexadecimal digits. This project's own.
-use Rattle.std.specs.Prelude.{◌≡◌, ℕ, ℤ, ◌+◌, ◌-◌, ◌%◌, ◌^◌, min, List, [], ◌∷◌, ◌++◌, length, map, reverse, take, Bool, true, false, is_none, ◌==◌, Option, None, Some, slice_get, codes, MatchBool, if◌then◌else◌}
+use Rattle.std.specs.Prelude.{◌≡◌, ℕ, ℤ, ◌+◌, ◌-◌, ◌%◌, ◌^◌, min, List, [], ◌∷◌, ◌++◌, length, map, reverse, take, Bool, true, false, is_none, ◌==◌, ◌&&◌, Option, None, Some, slice_get, codes, MatchBool, if◌then◌else◌}
 use Rattle.std.specs.List.{filter, find, flat_map, range_with_len}
 use Rattle.std.specs.Option.{option_and_then}
 use Rattle.std.specs.Fmt.{decimal}
@@ -22,7 +22,7 @@ use Rattle.rept_findings.specs.declared.findings.BeyondRule.{BeyondRule}
 use Rattle.rept_findings.specs.declared.place.ThreadPoint.{ThreadPoint}
 use Rattle.rept_questions.specs.Spots.{point_text, points_where, spots_line}
 use Rattle.rept_questions.specs.Trail.{IsTrail, address_by, base_of, byte_source, bytes_read, is_constant, register_source, registers_read}
-use Rattle.rept_questions.specs.Writers.{is_sure_of_some}
+use Rattle.rept_questions.specs.Writers.{has_place, is_sure_of_some}
 use Rattle.rept_questions.specs.declared.writers.SoughtBytes.{SoughtBytes}
 use Rattle.rept_findings.specs.Texts.{at, looked_line, pc_at, premise_line, rule_line, value_text, visible, writer_line, writer_text}
 
@@ -239,7 +239,7 @@ group_of s thread pc steps = filter (λ k. is_of pc (slice_get (s.rows thread) k
 
 abbrev pub is_sure_row : Shown → SoughtBytes → ThreadPoint → Option StepRow → Bool
 is_sure_row s b c None = false
-is_sure_row s b c (Some row) = is_sure_of_some s b c
+is_sure_row s b c (Some row) = has_place s c row.instr && is_sure_of_some s b c
 
 -- a step of the thread is known to have written one of some bytes
 abbrev pub is_sure_step : Shown → SoughtBytes → ℕ → ℕ → Bool

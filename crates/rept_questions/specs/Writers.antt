@@ -1,5 +1,5 @@
 -- The steps of a thread that wrote one of some bytes before a point, or may have. This project's own.
-use Rattle.std.specs.Prelude.{ℕ, ◌+◌, ◌-◌, ◌%◌, ◌^◌, List, Bool, true, false, not, ◌==◌, ◌&&◌, ◌||◌, nat_lt, Option, None, Some, slice_get, if◌then◌else◌}
+use Rattle.std.specs.Prelude.{ℕ, ◌+◌, ◌-◌, ◌%◌, ◌^◌, List, Bool, true, false, not, ◌==◌, ◌&&◌, ◌||◌, nat_lt, Option, None, Some, is_some, slice_get, if◌then◌else◌}
 use Rattle.std.specs.List.{filter, list_any, range_with_len}
 use Rattle.rept_report.specs.declared.writer.Writer.{Writer}
 use Rattle.rept_report.specs.declared.writer.Writer.TheVariants as writer
@@ -85,6 +85,10 @@ writers_before s b c = filter (λ k. writes_some s b (record { thread = c.thread
 -- a step is known to have written a byte
 abbrev pub is_sure_writer : Shown → ℕ → ThreadPoint → Bool
 is_sure_writer s a c = touches s a c && names_surely s c (writer_after s a c)
+
+-- it is known where a step writes: a call tells it, and a store whose address is known
+abbrev pub has_place : Shown → ThreadPoint → Instr → Bool
+has_place s c instr = is_call instr || is_some (address_by s (number s c) (base_of instr))
 
 -- a step is known to have written one of some bytes
 abbrev pub is_sure_of_some : Shown → SoughtBytes → ThreadPoint → Bool

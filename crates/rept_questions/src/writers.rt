@@ -1,11 +1,11 @@
 //! The steps that wrote some bytes, or may have, by instruction.
 
-ghost use Rattle.std.specs.Prelude.{◌≡◌, ◌<◌, ◌≤◌, ◌++◌, length, slice_get, IfOk, OnOk};
+ghost use Rattle.std.specs.Prelude.{◌≡◌, ◌<◌, ◌≤◌, ◌++◌, length, slice_get, true, IfOk, OnOk};
 ghost use Rattle.std.specs.Fmt.{decimal};
 ghost use Rattle.std.specs.List.{filter, flat_map};
 ghost use Rattle.rept_findings.specs.Shown.{IsThreadPoint};
 ghost use Rattle.rept_questions.specs.Texts.{group_at, group_counts, group_entry, group_line, group_of, is_of, is_sure_step, is_value, left_line, newest_of, unwritten_line, writers_lines};
-ghost use Rattle.rept_questions.specs.Writers.{is_some_writer, is_step, is_store, is_sure_of_some, is_sure_writer, is_writer, may_touch, names, names_surely, stored, stored_by, touches, writers_before, writes_some};
+ghost use Rattle.rept_questions.specs.Writers.{has_place, is_some_writer, is_step, is_store, is_sure_of_some, is_sure_writer, is_writer, may_touch, names, names_surely, stored, stored_by, touches, writers_before, writes_some};
 
 use crate::rows::push_named_row;
 use crate::spots::{push_point, push_where};
@@ -365,14 +365,23 @@ fn is_sure_step<F: Findings>(findings: &F, sought: ThreadBytes, step: u32) -> bo
     requires { sought.thread < (F.shown findings.now).threads }
     ensures { result ≡ is_sure_step (F.shown findings.now) sought.bytes sought.thread step }
 {
-    if findings.rows(sought.thread).get(step as usize).is_none() {
+    let rows = findings.rows(sought.thread);
+    let Some(row) = rows.get(step as usize) else {
         return false;
-    }
+    };
     let here = ThreadPoint {
         thread: sought.thread,
         point: step,
     };
-    is_sure_of_some(findings, here, sought.bytes)
+    has_place(findings, here, &row.instr) && is_sure_of_some(findings, here, sought.bytes)
+}
+
+/// Whether it is known where a step writes: a call tells it, and a store whose address is known.
+fn has_place<F: Findings>(findings: &F, at: ThreadPoint, instr: &Instr) -> bool
+    requires { IsThreadPoint (F.shown findings.now) at }
+    ensures { result ≡ has_place (F.shown findings.now) at instr.now }
+{
+    is_call(instr) || address_at(findings, number_of(findings, at), instr).is_some()
 }
 
 /// Whether a step is known to have written one of these bytes.

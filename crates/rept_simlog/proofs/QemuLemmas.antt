@@ -1,8 +1,10 @@
 -- The lines of a text, and what comes before and after a byte.
 use Rattle.std.proofs.Common.{◌≡◌, ℕ, zero, suc, ◌+◌, ◌<◌, ◌≤◌, List, [], ◌∷◌, ◌++◌, length, take, drop, Bool, true, false, not, Option, Some, None, cond, refl, sym, ap, ◌∙◌, arith, nat_lt}
-use Rattle.std.proofs.lemmas.List.{take_all, drop_all, length-append}
+use Rattle.std.proofs.lemmas.List.{take_all, drop_all, length-drop, length-take-le}
 use Rattle.std.proofs.lemmas.List.Splits.{slice_split_first, slice_split-cons_no}
+use Rattle.std.specs.Prelude.{◌==◌, fold}
 use Rattle.std.specs.List.{position, position_or_len, slice_split, onto_first}
+use Rattle.rept_simlog.specs.Recording.Qemu.{PlainLines, all_lines, plain_log, with_line}
 use borrow.Author.Tests.{ltb-true, ltb-false}
 
 module _ (p : ℕ → Bool) (text : List ℕ) where
@@ -60,3 +62,29 @@ after_found p text end is = ap (λ (k : ℕ). drop (k + 1) text) (found_at p tex
 
 pub after_none : (p : ℕ → Bool) (text : List ℕ) → None ≡ position p text → [] ≡ drop (position_or_len p text + 1) text
 after_none p text none = let far = nowhere p text none in sym (drop_all (position_or_len p text + 1) text (omega arith))
+
+abbrev is_newline : ℕ → Bool
+is_newline byte = byte == 10
+
+-- what is read of a log, once its next line is
+pub line_read : (log text line after : List ℕ) (old new : PlainLines) (end : ℕ) → plain_log log ≡ all_lines (fold with_line old (slice_split (λ byte. byte == 10) text)) → Some end ≡ position (λ byte. byte == 10) text → line ≡ take end text → after ≡ drop (end + 1) text → new ≡ with_line old line
+    → plain_log log ≡ all_lines (fold with_line new (slice_split (λ byte. byte == 10) after))
+line_read log text line after old new end before is cut rest next =
+    before
+    ∙ ap (λ (lines : List (List ℕ)). all_lines (fold with_line old lines)) (line_ends is_newline text end is)
+    ∙ ap (λ (s : PlainLines). all_lines (fold with_line s (slice_split is_newline (drop (end + 1) text)))) (ap (λ (l : List ℕ). with_line old l) (sym cut) ∙ sym next)
+    ∙ ap (λ (a : List ℕ). all_lines (fold with_line new (slice_split is_newline a))) (sym rest)
+
+-- and once its last one is
+pub all_read : (log text : List ℕ) (old new : PlainLines) → plain_log log ≡ all_lines (fold with_line old (slice_split (λ byte. byte == 10) text)) → None ≡ position (λ byte. byte == 10) text → new ≡ with_line old text → all_lines new ≡ plain_log log
+all_read log text old new before none next =
+    ap (λ (s : PlainLines). all_lines s) next
+    ∙ ap (λ (lines : List (List ℕ)). all_lines (fold with_line old lines)) (sym (last_line is_newline text none))
+    ∙ sym before
+
+-- a line and what comes after it are shorter than the text
+pub less_left : (text after : List ℕ) (end : ℕ) → end < length text → after ≡ drop (end + 1) text → length (take end text) + length after ≤ length text
+less_left text after end inside rest =
+    let line = length-take-le end text (omega arith) in
+    let left = ap (length {A = ℕ}) rest ∙ length-drop (end + 1) text in
+    omega arith

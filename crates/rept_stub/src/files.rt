@@ -77,8 +77,9 @@ fn kept_at(executable: &Image<'_>, a: u32) -> Option<u8>
     ensures { result ≡ kept_at (segments_of executable.now) a }
 {
     for i in 0..executable.count() {
-        if let Some(byte) = byte_in(&executable.segment(i), a) {
-            return Some(byte);
+        match byte_in(&executable.segment(i), a) {
+            Some(byte) => return Some(byte),
+            None => {}
         }
     }
     None

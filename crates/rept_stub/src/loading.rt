@@ -1,7 +1,8 @@
 //! What is read of the files of a crash before a debugger asks.
 
-ghost use Rattle.std.specs.Prelude.{◌≡◌, ◌≤◌, ◌+◌, ◌*◌, ℕ, List, length, IfSome};
+ghost use Rattle.std.specs.Prelude.{◌≡◌, ◌≤◌, ◌+◌, ◌*◌, ◌&&◌, ℕ, List, length, nat_le, nat_lt, IfSome};
 ghost use Rattle.std.specs.List.{filter};
+ghost use Rattle.std.specs.Option.{option_and_then, option_map};
 ghost use Rattle.rept_elf.specs.Image.{file_of, segments_of};
 ghost use Rattle.rept_maps.specs.FileMap.{map_count};
 ghost use Rattle.rept_maps.specs.Notes.Notes.{Note as NoteOf, HaveNotes, note_segments};
@@ -13,7 +14,7 @@ ghost use Rattle.rept_stub.specs.CrashFiles.{AreFilesOf, auxiliary_value, entry_
 
 use crate::files::{ProcessFiles, ProgramImages};
 use rept_elf::{Image, PT_LOAD, word};
-use rept_maps::{Images, Mapped, Maps, find_nth};
+use rept_maps::{Images, Mapped, MappedRange, Maps, find_nth};
 
 /// `NT_AUXV`: the type of the note of the auxiliary vector.
 const NT_AUXV: u32 = 6;
@@ -78,6 +79,23 @@ fn loaded_at(program: &Image<'_>, entry: u32) -> Option<u32>
     Some(first.wrapping_add(moved))
 }
 
+/// Where the first segment of this file was loaded, if it is there.
+fn loaded_by(program: Option<Image<'_>>, entry: u32) -> Option<u32>
+    ensures { result ≡ option_and_then (loaded_at entry) (option_map file_of program.entry) }
+{
+    match program {
+        Some(program) => loaded_at(&program, entry),
+        None => None,
+    }
+}
+
+/// Whether an address is one of a mapped part of a file.
+fn has_address(place: MappedRange, a: u32) -> bool
+    ensures { result ≡ (nat_le place.start a && nat_lt a place.end) }
+{
+    place.start <= a && a < place.end
+}
+
 /// Where the first segment of the mapped file was loaded that has the first instruction, at this
 /// address.
 fn loaded_in(maps: &Maps<'_>, images: &Images<'_>, entry: u32) -> Option<u32>
@@ -86,9 +104,9 @@ fn loaded_in(maps: &Maps<'_>, images: &Images<'_>, entry: u32) -> Option<u32>
 {
     for i in 0..maps.count() {
         let place = maps.place(i);
-        if place.start <= entry && entry < place.end {
-            let program = images.image(i)?;
-            return loaded_at(&program, entry);
+        let image = images.image(i);
+        if has_address(place, entry) {
+            return loaded_by(image, entry);
         }
     }
     None

@@ -123,8 +123,8 @@ fn byte_shown<F: Findings>(
     }
 }
 
-/// The bytes that are shown at a moment, so many from an address on, up to the first one that
-/// isn't.
+/// The bytes that are shown at a moment, up to the first one that isn't. An address is asked and how
+/// many bytes from it on.
 pub fn known_bytes<F: Findings>(
     alloc: Global,
     findings: &F,
@@ -135,11 +135,10 @@ pub fn known_bytes<F: Findings>(
     requires { moment < (F.shown findings.now).moments }
     ensures { IfOk result (λ text. text ≡ known_bytes (F.shown findings.now) files.now moment asked.0 asked.1) }
 {
-    let (address, count) = asked;
     let mut text = Text::new(alloc);
-    let most = count.min(MOST_BYTES);
+    let most = asked.1.min(MOST_BYTES);
     for i in 0..most {
-        match byte_shown(findings, files, moment, address.wrapping_add(i)) {
+        match byte_shown(findings, files, moment, asked.0.wrapping_add(i)) {
             Some(byte) => text.push(&[byte])?,
             None => return Ok(text),
         }

@@ -143,12 +143,16 @@ object_of packet =
     else if has_prefix packet (codes "qXfer:siginfo:read::") then Some object.SignalInfo
     else None
 
--- its offset and length stand after that
+-- how many bytes name the text
+abbrev pub name_length : TargetObject → ℕ
+name_length object.Description = 31
+name_length object.AuxiliaryVector = 17
+name_length object.SignalInfo = 20
+
+-- the offset and the length of the part stand after that
 abbrev pub part_or_lettered : List ℕ → Option TargetObject → GdbRequest
 part_or_lettered packet None = lettered packet
-part_or_lettered packet (Some object.Description) = with_pair (request.Part object.Description) (pair_of (drop 31 packet))
-part_or_lettered packet (Some object.AuxiliaryVector) = with_pair (request.Part object.AuxiliaryVector) (pair_of (drop 17 packet))
-part_or_lettered packet (Some object.SignalInfo) = with_pair (request.Part object.SignalInfo) (pair_of (drop 20 packet))
+part_or_lettered packet (Some text) = with_pair (request.Part text) (pair_of (drop (name_length text) packet))
 
 abbrev pub numbered_or_part : List ℕ → GdbRequest
 numbered_or_part packet = part_or_lettered packet (object_of packet)

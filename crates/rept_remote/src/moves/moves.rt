@@ -270,23 +270,10 @@ fn has_address(addresses: &[u32], wanted: u32) -> bool
 }
 
 /// Whether rows may write a byte, and none is named as the last one.
-fn is_open<F: Findings>(findings: &F, at: ThreadPoint, address: u32) -> bool
-    requires { IsThreadPoint (F.shown findings.now) at }
-    ensures { result ≡ is_open (writer_at (F.shown findings.now) at address) }
+fn is_open(writer: Writer) -> bool
+    ensures { result ≡ is_open writer }
 {
-    matches!(writer_at(findings, at, address), Writer::Several)
-}
-
-fn has_open<F: Findings>(findings: &F, at: ThreadPoint, addresses: &[u32]) -> bool
-    requires { IsThreadPoint (F.shown findings.now) at }
-    ensures { result ≡ has_open (F.shown findings.now) at addresses.now }
-{
-    for address in addresses {
-        if is_open(findings, at, *address) {
-            return true;
-        }
-    }
-    false
+    matches!(writer, Writer::Several)
 }
 
 /// The first point after this one at which a breakpoint stands.
@@ -711,35 +698,50 @@ fn later_row<F: Findings>(
     later(best, point_before(findings, here, address, row), address)
 }
 
-/// The later of a write and the last one of a byte that the report names.
+/// The later of a write and the last one of a byte that the report names: by its last writer.
 fn with_write<F: Findings>(
     findings: &F,
     here: ThreadPoint,
     best: Option<LastWrite>,
     address: u32,
+    writer: Writer,
 ) -> Option<LastWrite>
     requires here { IsThreadPoint (F.shown findings.now) here }
     requires best { IfSome best (λ write. write.point < here.point) }
+    requires last { AreLastWriters (F.shown findings.now) here.thread address }
+    requires writer { writer ≡ writer_at (F.shown findings.now) here address }
     ensures value { result ≡ later best (write_before (F.shown findings.now) here address) address }
     ensures within { IfSome result (λ write. write.point < here.point) }
 {
-    match named_row(writer_at(findings, here, address)) {
+    match named_row(writer) {
         Some(row) => later_row(findings, here, best, address, row),
         None => best,
     }
 }
 
-/// The last of the writes of these bytes that the report names before a point.
-fn last_write<F: Findings>(findings: &F, at: ThreadPoint, addresses: &[u32]) -> Option<LastWrite>
+/// The last of the writes of these bytes that the report names before a point, if there is one.
+/// None where rows may have written one of the bytes, and none is named. Each byte is asked for
+/// once.
+fn named_write<F: Findings>(
+    findings: &F,
+    at: ThreadPoint,
+    addresses: &[u32],
+) -> Option<Option<LastWrite>>
     requires { IsThreadPoint (F.shown findings.now) at }
-    ensures value { result ≡ last_write (F.shown findings.now) at addresses.now }
-    ensures within { IfSome result (λ write. write.point < at.point) }
+    ensures open { result ≡ None → has_open (F.shown findings.now) at addresses.now ≡ true }
+    ensures closed { IfSome result (λ last. has_open (F.shown findings.now) at addresses.now ≡ false) }
+    ensures last { IfSome result (λ last. last ≡ last_write (F.shown findings.now) at addresses.now) }
+    ensures within { IfSome result (λ last. IfSome last (λ write. write.point < at.point)) }
 {
     let mut best = None;
     for address in addresses {
-        best = with_write(findings, at, best, *address);
+        let writer = writer_at(findings, at, *address);
+        if is_open(writer) {
+            return None;
+        }
+        best = with_write(findings, at, best, *address, writer);
     }
-    best
+    Some(best)
 }
 
 /// Whether a write isn't before a breakpoint.
@@ -792,11 +794,11 @@ pub fn continued_back<F: Findings>(
     ensures value { result ≡ continued_back (F.shown findings.now) (wanted breaks.now watch.now) at }
     ensures within { result.point ≤ at.point }
 {
-    if has_open(findings, at, watch.addresses()) {
+    let Some(last) = named_write(findings, at, watch.addresses()) else {
         return stepped_back(findings, watch, at);
-    }
+    };
     let found = break_before(findings, breaks, at);
-    match last_write(findings, at, watch.addresses()) {
+    match last {
         Some(write) => {
             if is_later(write, found) {
                 back_over(findings, watch, at, write)

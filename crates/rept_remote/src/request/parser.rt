@@ -3,7 +3,7 @@
 ghost use Rattle.std.specs.Prelude.{◌≡◌, ℕ, drop};
 ghost use Rattle.rept_word.specs.Parsing.Numbers.{hexadecimal_of};
 ghost use Rattle.rept_remote.specs.Request.Numbers.{pair_of};
-ghost use Rattle.rept_remote.specs.Request.Requests.{lettered, named, numbered, numbered_or_part, request_of, request_at, object_of, with_number, with_pair, with_spot};
+ghost use Rattle.rept_remote.specs.Request.Requests.{lettered, name_length, named, numbered, numbered_or_part, request_of, request_at, object_of, with_number, with_pair, with_spot};
 
 use crate::request::named::{
     change_begun, move_begun, move_named, query_begun, query_named, thread_begun,
@@ -49,13 +49,19 @@ fn numbered_or_part(packet: &[u8]) -> GdbRequest
     ensures { result ≡ numbered_or_part packet.now }
 {
     match object_of(packet) {
-        Some(TargetObject::Description) => part_of(TargetObject::Description, after(packet, 31)),
-        Some(TargetObject::AuxiliaryVector) => part_of(
-            TargetObject::AuxiliaryVector,
-            after(packet, 17),
-        ),
-        Some(TargetObject::SignalInfo) => part_of(TargetObject::SignalInfo, after(packet, 20)),
+        Some(object) => part_of(object, after(packet, name_length(object))),
         None => lettered(packet),
+    }
+}
+
+/// How many bytes name a text of which a part is asked.
+fn name_length(object: TargetObject) -> usize
+    ensures { result ≡ name_length object }
+{
+    match object {
+        TargetObject::Description => 31,
+        TargetObject::AuxiliaryVector => 17,
+        TargetObject::SignalInfo => 20,
     }
 }
 

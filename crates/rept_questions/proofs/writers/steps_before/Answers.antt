@@ -16,7 +16,7 @@ back-preserved g c =
     let old = c.back.steps.items in
     let few = c.back.invariant.within in
     let one : c.back.below ≡ suc k = omega (arith, c.back-test.true) in
-    let grown : c.push_where.new.steps.items ≡ old ++ one_where (test k) k = c.in_ok-push_where.ensures ∙ ap (λ b. old ++ one_where b k) c.writes_some.ensures in
+    let grown : c.push_where.new.points.items ≡ old ++ one_where (test k) k = c.in_ok-push_where.ensures ∙ ap (λ b. old ++ one_where b k) c.writes_some.ensures in
     record {
       same = c.back.invariant.same ∙ ap (λ (xs : List ℕ). old ++ xs) (falling_where test c.back.below k one) ∙ sym (append_assoc old (one_where (test k) k) (filter test (falling k)))
           ∙ ap (λ (xs : List ℕ). xs ++ filter test (falling k)) (sym grown);

@@ -16,7 +16,7 @@ pub loop-i-preserved : goal.loop-i-preserved
 loop-i-preserved c =
     let ss = segments_of c.args.executable.now in
     let s = segment_of c.segment.result in
-    let miss = sym c.byte_in.ensures ∙ c.in-other.is in
+    let miss = sym c.byte_in.ensures ∙ c.in-None.is in
     c.loop-i.invariant ∙ kept-from c.args.a ss c.loop-i.i s c.segment.ensures.segment ∙ ap (λ o. option_or o (kept_at (drop (c.loop-i.i + 1) ss) c.args.a)) miss
 
 pub returns : goal.returns

@@ -13,7 +13,7 @@ invariant-dialog g l =
     let sink = g.K.Sink.port in
     let shown = g.F.Findings.shown in
     let reasons = g.F.Findings.reasons in
-    let rules = rules_of (parties_over (session_told (shown l.fn.findings) l.setting.skipped (reasons l.fn.findings)) l.setting.signal) in
+    let rules = rules_of (parties_over (session_told (shown l.fn.findings) l.setting.skipped (reasons l.fn.findings)) l.setting) in
     record {
       shown_stays : shown l.findings ≡ shown l.fn.findings;
       reasons_stay : SameReasons (reasons l.fn.findings) (reasons l.findings);
