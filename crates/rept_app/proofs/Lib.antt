@@ -14,3 +14,5 @@ pub mod MappedLemmas
 pub mod MappedTop
 pub mod MappedExits
 pub mod TrueLemmas
+pub mod LineLemmas
+pub mod TrueLineLemmas

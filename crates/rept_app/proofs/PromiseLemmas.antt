@@ -29,6 +29,8 @@ use Rattle.rept_opening.specs.declared.status.ExitStatus.{ExitStatus}
 use Rattle.rept_opening.specs.declared.status.ExitStatus.TheVariants as ends
 use Rattle.rept_opening.specs.declared.load.OpenOptions.{OpenOptions}
 use Rattle.rept_app.proofs.Failing.{load_ending}
+use Rattle.rept_app.proofs.TrueLineLemmas.{true_lines}
+use Rattle.rept_session.specs.Serving.Serving.{lines_read}
 use Rattle.rept_opening.proofs.BeyondLemmas.{told_beyond}
 use Rattle.rept_opening.proofs.RunLemmas.{IsWhole}
 use Rattle.rept_opening.proofs.TrueLemmas.{ReportsAreTrue, opened_whole}
@@ -238,7 +240,20 @@ module _ (true_of : ReportsAreTrue) (g : CallInput) (out : PortMove Port) where
   answered_by text written (o, lines, opened, inl (inr (point, reg, refuted, says))) = let bad : ends.Ok ≡ ends.Inconsistent = says.ending in let no : ⊥ = cc in absurd no
   answered_by text written (o, lines, opened, inr (a, is, answers)) =
       let holds = true_of (domain_at o) (crash_at o) o.run a.known (whole_of o lines opened) is.report in
-      record { opening = o; lines = lines; opened = opened; account = a; report = is; text = text; answers = answers; written = written; holds = holds; beyond = told_beyond (run_at o) a holds is.beyond }
+      let beyond = told_beyond (run_at o) a holds is.beyond in
+      record {
+        opening = o;
+        lines = lines;
+        opened = opened;
+        account = a;
+        report = is;
+        text = text;
+        answers = answers;
+        written = written;
+        holds = holds;
+        beyond = beyond;
+        true_lines = true_lines (run_at o) a (whole_of o lines opened) holds beyond (lines_read lines) text answers.answers;
+      }
 
   -- a made run isn't inconsistent
   made_ends_well : (l : Loading) (seed steps : ℕ) → l ≡ MadeRun seed steps → EndsAt g.files l ends.Inconsistent → ⊥

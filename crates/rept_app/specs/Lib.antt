@@ -11,4 +11,6 @@ pub mod Study
 pub mod Terminal
 pub mod Told
 pub mod Top
+pub mod TrueAnswers
+pub mod TrueLines
 pub mod Process

@@ -1,15 +1,17 @@
 -- The promise of the whole program, in one place: where a session ends well, its answers tell a
--- report that is true of every execution that ends in the crash, and by `infer` what is true of each
--- that keeps the premises; where the files are said to be inconsistent, there is none. This project's own.
+-- report that is true of every execution that ends in the crash, and by `infer` what is true of
+-- each that keeps the premises; where the files are said to be inconsistent, there is none. This
+-- project's own.
 use Rattle.std.specs.Prelude.{◌≡◌, ◌⊎◌, ℕ, List}
 use Rattle.std.specs.Io.KnownBytes.{Appends}
 use Rattle.rept_ports.specs.Port.{Port, PortMove}
-use Rattle.rept_session.specs.Serving.Serving.{InputEnded}
+use Rattle.rept_session.specs.Serving.Serving.{InputEnded, lines_read}
 use Rattle.rept_make.specs.Made.{IsMade}
 use Rattle.rept_make.specs.declared.made.Made.{Made}
 use Rattle.rept_opening.specs.Loading.{loading}
 use Rattle.rept_opening.specs.Loading.Loading.{MadeRun}
 use Rattle.rept_app.specs.Told.{CallInput, OpensMade, summary_line}
+use Rattle.rept_app.specs.TrueAnswers.{AreTrueLines}
 use Rattle.rept_opening.specs.Opened.{Opening, Opens, IsAccountOf, RunAccount, run_at, told_in}
 use Rattle.rept_opening.specs.True.{IsExcluded, IsTrue, IsTrueBeyond}
 use Rattle.rept_opening.specs.declared.status.ExitStatus.{ExitStatus}
@@ -26,10 +28,11 @@ IsOpened g o lines =
 -- run. Each register, byte, range, known bit and writer that is told of that report holds in every
 -- execution of all threads that ends in the crash; the facts that a reason rests on are of the
 -- report, and the ranges that it lists hold in each of those executions. Of a run that is one path
--- all of this holds of that path's executions too (`IsTrue`). By `infer` more is told of such a run:
--- each value, bound, known bit and writer that is told holds in every execution of the path that
--- ends in the crash and keeps the premises, and nothing that the report has is lost
--- (`IsTrueBeyond`).
+-- all of this holds of that path's executions too (`IsTrue`). By `infer` more is told of such a
+-- run: each value, bound, known bit and writer that is told holds in every execution of the path
+-- that ends in the crash and keeps the premises, and nothing that the report has is lost
+-- (`IsTrueBeyond`). So the lines of `reg`, `regs`, `range`, `mem` and `writer` claim only what each
+-- such execution has at the cursor (`AreTrueLines`).
 pub record IsAnswered (g : CallInput) (out : PortMove Port) : Type 0 where
   pub opening : Opening
   pub lines : List ℕ
@@ -41,6 +44,7 @@ pub record IsAnswered (g : CallInput) (out : PortMove Port) : Type 0 where
   pub written : Appends out.before.bytes out.after.bytes text
   pub holds : IsTrue (run_at opening) account.known
   pub beyond : IsTrueBeyond (run_at opening) account
+  pub true_lines : AreTrueLines (run_at opening) account (lines_read lines) text
 
 -- the files tell a run, and no execution of it ends in the crash; by `infer`, of a run that is one
 -- path, none that keeps the premises

@@ -4,12 +4,17 @@ pub mod DeliveredLemmas
 pub mod LoadLemmas
 pub mod LoadingLemmas
 pub mod LoneLemmas
+pub mod LoneNumbers
+pub mod LoneOrder
 pub mod LonePaths
+pub mod LoneShown
+pub mod LoneWriters
 pub mod MappedLemmas
 pub mod Notes
 pub mod OrderLemmas
 pub mod PathLemmas
 pub mod ReadingLemmas
+pub mod Renumbered
 pub mod ReportLemmas
 pub mod RunLemmas
 pub mod ToldLemmas

@@ -133,7 +133,7 @@ module _ (rows : List StepRow) (slices : List Slice) where
     never_back e f one other = precedes_irreflexive C sound e (precedes_trans C e f e (directly C e f one) (directly C f e other))
 
     -- an event that the order puts before another one is of an earlier row, or the same call
-    by_place : (e f : Event) → Before C e f → IsBefore B e f
+    pub by_place : (e f : Event) → Before C e f → IsBefore B e f
     by_place e f b =
         let same : e.row.thread ≡ f.row.thread = only_row e.row b.first.row ∙ sym (only_row f.row b.second.row) in
         elim (cases_order e.row.step f.row.step) [

@@ -22,7 +22,9 @@ use Rattle.rept_opening.specs.Opened.{Opening, ReadsNotes, crash_at, crash_run}
 use Rattle.rept_opening.specs.TraceRun.{IsRunOf}
 use Rattle.rept_opening.specs.True.{IsTrue}
 use Rattle.rept_opening.proofs.LoneLemmas.{lone_run, lone_told}
+use Rattle.rept_opening.proofs.LoneNumbers.{TouchesByStores}
 use Rattle.rept_opening.proofs.LonePaths.{lone_path}
+use Rattle.rept_opening.proofs.LoneShown.{atomic_touches, lone_report, lone_same}
 use Rattle.rept_opening.proofs.Notes.{some_said}
 use Rattle.rept_opening.proofs.OrderLemmas.{by_order}
 use Rattle.rept_opening.proofs.RunLemmas.{IsWhole, whole_run}
@@ -31,9 +33,9 @@ abbrev pub TrueOf : {W : Type 0} → Means W → Type 0
 TrueOf m = (crash : Crash) (run : Run) (known : Knowledge) → IsWhole crash run → IsReport (setting m crash (course_of run)) known → IsTrue (crash_run m crash run) known
 
 -- of all threads, and of one path in its own words
-pub true_of : {W : Type 0} (m : Means W) → ((C : Course) (D : Ending) (K : Knowledge) → IsSoundCourse C → 0 < length C.threads → IsReport (setting_on (trip_by m C D)) K → IsTrueTrip (trip_by m C D) K)
+true_by : {W : Type 0} (m : Means W) → TouchesByStores m.rules → ((C : Course) (D : Ending) (K : Knowledge) → IsSoundCourse C → 0 < length C.threads → IsReport (setting_on (trip_by m C D)) K → IsTrueTrip (trip_by m C D) K)
     → ((crash : Crash) (rows : List StepRow) (K : Knowledge) → IsReport (path_setting (path_of m crash rows)) K → IsTrueReport (path_of m crash rows) K) → TrueOf m
-true_of {W} m trips paths crash run known whole report = record {
+true_by {W} m touches trips paths crash run known whole report = record {
   threads = trips (course_of run) (ending_of crash) known whole.sound whole.some report;
   alone = λ rows one. record {
     shown = λ scene. alone_shown m rows crash (course_of run) known scene one whole.noted;
@@ -44,16 +46,29 @@ true_of {W} m trips paths crash run known whole report = record {
     of_path = λ h x. lone_path m crash.exe crash.core crash.notes (course_of run) rows h whole.sound one noted x;
     told = λ scene states x.
         lone_told m (course_of run) (ending_of crash) known rows states whole.sound one (trips (course_of run) (ending_of crash) known whole.sound whole.some report) (lone_run m crash.exe crash.core crash.notes (course_of run) rows states whole.sound one noted x) scene;
+    report = lone_report m touches crash.exe crash.core (course_of run) rows known crash.notes whole.sound one noted report;
+    same = λ scene. lone_same m touches crash.exe crash.core (course_of run) rows known crash.notes whole.sound one noted scene;
   };
   order = λ several. by_order (route m crash (course_of run)) known whole.sound several;
 }
+
+-- in each domain its rows touch bytes only where they store
+touches_in : (d : Domain) → TouchesByStores (means_of d).rules
+touches_in domain.Ranges = atomic_touches
+touches_in domain.KnownBits = atomic_touches
+touches_in domain.Inferred = atomic_touches
+
+pub true_of : (d : Domain)
+    → ((C : Course) (D : Ending) (K : Knowledge) → IsSoundCourse C → 0 < length C.threads → IsReport (setting_on (trip_by (means_of d) C D)) K → IsTrueTrip (trip_by (means_of d) C D) K)
+    → ((crash : Crash) (rows : List StepRow) (K : Knowledge) → IsReport (path_setting (path_of (means_of d) crash rows)) K → IsTrueReport (path_of (means_of d) crash rows) K) → TrueOf (means_of d)
+true_of d trips paths = true_by (means_of d) (touches_in d) trips paths
 
 -- so it is where more is inferred beyond the report
 still_true : {W : Type 0} (m : Means W) (crash : Crash) (run : Run) (known : Knowledge) → IsTrue (crash_run m crash run) known → IsTrue (crash_run (means_beyond m) crash run) known
 still_true m crash run known t = record {
   threads = t.threads;
   alone = λ rows one. let a = t.alone rows one in record { shown = a.shown; holds = a.holds };
-  lone = λ rows one noted. let l = t.lone rows one noted in record { shared = l.shared; of_path = l.of_path; told = l.told };
+  lone = λ rows one noted. let l = t.lone rows one noted in record { shared = l.shared; of_path = l.of_path; told = l.told; report = l.report; same = l.same };
   order = t.order;
 }
 

@@ -1,14 +1,17 @@
 -- What is true of the report of a run, and what a conflict excludes: in every execution of all
 -- threads, and of a run that is one path in every execution of that path; and what is true of what
 -- is inferred beyond the report. This project's own.
-use Rattle.std.specs.Prelude.{◌≡◌, ◌≤◌, ◌⊎◌, ℕ, true, false, List, [], ◌∷◌, length, Option, Some, None, bit_and}
+use Rattle.std.specs.Prelude.{◌≡◌, ◌≤◌, ◌⊎◌, ℕ, nat_le, if◌then◌else◌, true, false, List, [], ◌∷◌, length, Option, Some, None, bit_and}
 use Rattle.rept_isa.specs.declared.row.StepRow.{StepRow}
 use Rattle.rept_machine.specs.State.{State}
 use Rattle.rept_moments.specs.Numbers.{numbers_of}
+use Rattle.rept_moments.specs.Seen.{seen, moment_in}
 use Rattle.rept_order.specs.Alone.{IsShared, ShowsRun}
 use Rattle.rept_order.specs.History.{History, IsExecution}
+use Rattle.rept_reason.specs.declared.fact.Cell.TheVariants.{Register, Byte}
 use Rattle.rept_reason.specs.Facts.{Knowledge}
-use Rattle.rept_report.specs.OneThread.{ThreadPath}
+use Rattle.rept_report.specs.Closure.{IsReport}
+use Rattle.rept_report.specs.OneThread.{ThreadPath, path_setting}
 use Rattle.rept_streams.specs.Runs.Kind.{path_rows}
 use Rattle.rept_steps.specs.Course.{Course}
 use Rattle.rept_steps.specs.Runs.{course_of}
@@ -57,6 +60,23 @@ pub record IsTrueAtPoints (s : Shown) (rows : List StepRow) (states : ℕ → St
   pub notes : (q r : ℕ) (n : ℕ × ℕ) → q ≤ length rows → s.note (number s (first_at q)) r ≡ Some n → bit_and ((states q).register r) n.0 ≡ n.1
   pub bytes : (q a v : ℕ) → q ≤ length rows → s.byte (moment_at s (first_at q)) a ≡ Some v → (states q).memory a ≡ v
 
+-- What is known of a run of one thread, by its points alone: of a byte what is known at the memory
+-- point there. The path of a thread by itself has no other numbers.
+abbrev pub known_at_points : Course → ℕ → Knowledge → Knowledge
+known_at_points C last K p (Register r) = K p (Register r)
+known_at_points C last K p (Byte a) = if nat_le p last then K (moment_in (seen C) p) (Byte a) else None
+
+-- At each point of one thread the same is told: of registers, and of the bytes there and the steps
+-- that wrote them last. So it is of the code, and of how much is known.
+pub record IsSameAtPoints (rows : List StepRow) (s t : Shown) : Type 0 where
+  pub registers : (q r : ℕ) → q ≤ length rows → s.register (number s (first_at q)) r ≡ t.register (number t (first_at q)) r
+  pub ranges : (q r : ℕ) → q ≤ length rows → s.range (number s (first_at q)) r ≡ t.range (number t (first_at q)) r
+  pub notes : (q r : ℕ) → q ≤ length rows → s.note (number s (first_at q)) r ≡ t.note (number t (first_at q)) r
+  pub bytes : (q a : ℕ) → q ≤ length rows → s.byte (moment_at s (first_at q)) a ≡ t.byte (moment_at t (first_at q)) a
+  pub writers : (q a : ℕ) → q ≤ length rows → s.writer (moment_at s (first_at q)) a ≡ t.writer (moment_at t (first_at q)) a
+  pub code : (a : ℕ) → s.code a ≡ t.code a
+  pub counts : s.counts ≡ t.counts
+
 -- the execution of the run is one of the path, with the same registers at each point and the same
 -- memory at each moment
 abbrev pub IsOfPath : {W : Type 0} → ThreadPath W → Course → History → Type 0
@@ -65,11 +85,14 @@ IsOfPath P C h = (states : ℕ → State) × ExecutesPath P states × ShowsRun C
 -- Of a run of one thread, in however many slices, all of which is told: the executions of the run
 -- that end in the crash are those of its steps by themselves, in both directions, with the same
 -- registers at each point and the same memory at each moment; and what is told at points holds in
--- each of them.
+-- each of them. What is known of the run is at points the report of its path, no more and no less,
+-- and what is told of the run is at points what is told of its path.
 pub record IsTrueLone {W : Type 0} (p : CrashRun W) (known : Knowledge) (rows : List StepRow) : Type 0 where
   pub shared : (states : ℕ → State) → ExecutesPath (path_by p rows) states → IsShared (course_of p.run) (ending_of p.crash) states
   pub of_path : (h : History) → IsExecution (course_of p.run) (ending_of p.crash) h → IsOfPath (path_by p rows) (course_of p.run) h
   pub told : (scene : Scene) (states : ℕ → State) → ExecutesPath (path_by p rows) states → IsTrueAtPoints (shown_on (route_of p) known scene) rows states
+  pub report : IsReport (path_setting (path_by p rows)) (known_at_points (course_of p.run) (length rows) known)
+  pub same : (scene : Scene) → IsSameAtPoints rows (shown_on (route_of p) known scene) (shown_of (path_by p rows) (known_at_points (course_of p.run) (length rows) known) scene)
 
 -- What a session tells of a report of the run holds in every execution of all threads that ends in
 -- the crash, and reasons rest on the report; and of one path the same in its own words. So it does

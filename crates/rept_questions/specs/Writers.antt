@@ -11,7 +11,7 @@ use Rattle.rept_isa.specs.declared.row.StepRow.{StepRow}
 use Rattle.rept_isa.specs.Operands.{is_call}
 use Rattle.rept_findings.specs.Shown.{Shown, moment_at, number}
 use Rattle.rept_findings.specs.Texts.{wrapped}
-use Rattle.rept_questions.specs.Trail.{address_by, base_of, falling}
+use Rattle.rept_questions.specs.Trail.{address_by, base_of, falling, own_step}
 use Rattle.rept_questions.specs.declared.writers.SoughtBytes.{SoughtBytes}
 use Rattle.rept_findings.specs.declared.place.ThreadPoint.{ThreadPoint}
 
@@ -93,3 +93,15 @@ has_place s c instr = is_call instr || is_some (address_by s (number s c) (base_
 -- a step is known to have written one of some bytes
 abbrev pub is_sure_of_some : Shown → SoughtBytes → ThreadPoint → Bool
 is_sure_of_some s b c = list_any (λ i. is_sure_writer s (wrapped (b.address + i)) c) (range_with_len 0 b.count)
+
+-- after a step of the thread, or else the point itself
+abbrev pub after_step : ThreadPoint → Option ℕ → ℕ
+after_step c None = c.point
+after_step c (Some step) = step + 1
+
+-- where what is told of a byte's last writer at a point names none of the steps up to the point
+abbrev pub quiet_after : Shown → ThreadPoint → Writer → ℕ
+quiet_after s c (writer.Writes row) = after_step c (own_step c (s.point row))
+quiet_after s c (writer.MayWrite row) = after_step c (own_step c (s.point row))
+quiet_after s c writer.Several = c.point
+quiet_after s c writer.None = 0

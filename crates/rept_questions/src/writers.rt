@@ -1,15 +1,17 @@
 //! The steps that wrote some bytes, or may have, by instruction.
 
-ghost use Rattle.std.specs.Prelude.{◌≡◌, ◌<◌, ◌≤◌, ◌++◌, length, slice_get, true, IfOk, OnOk};
+ghost use Rattle.std.specs.Prelude.{◌≡◌, ℕ, ◌<◌, ◌≤◌, ◌++◌, false, length, slice_get, true, IfOk, OnOk};
 ghost use Rattle.std.specs.Fmt.{decimal};
 ghost use Rattle.std.specs.List.{filter, flat_map};
 ghost use Rattle.rept_findings.specs.Shown.{IsThreadPoint};
+ghost use Rattle.rept_findings.specs.Texts.{at as at_of};
 ghost use Rattle.rept_questions.specs.Texts.{group_at, group_counts, group_entry, group_line, group_of, is_of, is_sure_step, is_value, left_line, newest_of, unwritten_line, writers_lines};
-ghost use Rattle.rept_questions.specs.Writers.{has_place, is_some_writer, is_step, is_store, is_sure_of_some, is_sure_writer, is_writer, may_touch, names, names_surely, stored, stored_by, touches, writers_before, writes_some};
+ghost use Rattle.rept_questions.specs.Trail.{own_step};
+ghost use Rattle.rept_questions.specs.Writers.{after_step, has_place, is_some_writer, is_step, is_store, is_sure_of_some, is_sure_writer, is_writer, may_touch, names, names_surely, quiet_after, stored, stored_by, touches, writers_before};
 
 use crate::rows::push_named_row;
 use crate::spots::{push_point, push_where};
-use crate::trail::address_at;
+use crate::trail::{address_at, own_step};
 use rept_findings::findings::{moment_of, number_of};
 use rept_findings::lines::writer_text;
 use rept_findings::{Findings, ThreadPoint};
@@ -107,26 +109,113 @@ fn steps_before<F: Findings>(
     let mut steps = Vec::new(alloc);
     let mut below = at.point;
     'back: while below > 0 {
-        below -= 1;
         let here = ThreadPoint {
             thread: at.thread,
             point: below,
         };
-        push_where(&mut steps, below, writes_some(findings, here, bytes))?;
+        below = look_back(&mut steps, findings, here, bytes)?;
     }
     Ok(steps)
 }
 
-/// Whether the step at a point wrote one of these bytes, or may have.
-fn writes_some<F: Findings>(findings: &F, at: ThreadPoint, bytes: SoughtBytes) -> bool
-    requires { IsThreadPoint (F.shown findings.now) at }
-    ensures { result ≡ writes_some (F.shown findings.now) bytes at }
+/// Appends the step before a point, where it wrote one of these bytes, or may have, and answers
+/// where to look on.
+fn look_back<F: Findings>(
+    steps: &mut Vec<u32>,
+    findings: &F,
+    at: ThreadPoint,
+    bytes: SoughtBytes,
+) -> Result<u32, OutOfMemory>
+    requires point { IsThreadPoint (F.shown findings.now) at }
+    requires some { 0 < at.point }
+    ensures same { IfOk result (λ below. steps.old.items ++ writers_before (F.shown findings.now) bytes at ≡ steps.new.items ++ writers_before (F.shown findings.now) bytes (at_of at.thread below)) }
+    ensures within { IfOk result (λ below. below < at.point) }
 {
-    let rows = findings.rows(at.thread);
-    if !is_store(rows, at.point) {
-        return false;
+    let before = ThreadPoint {
+        thread: at.thread,
+        point: at.point - 1,
+    };
+    if !is_store(findings.rows(at.thread), before.point) {
+        return Ok(before.point);
     }
-    is_some_writer(findings, at, bytes)
+    let writes = is_some_writer(findings, before, bytes);
+    push_where(steps, before.point, writes)?;
+    Ok(next_below(findings, before, bytes, writes))
+}
+
+/// Where to look on below a step: right below it where it may have written, else below the steps
+/// that can't have.
+fn next_below<F: Findings>(findings: &F, at: ThreadPoint, bytes: SoughtBytes, writes: bool) -> u32
+    requires { IsThreadPoint (F.shown findings.now) at }
+    ensures quiet { (k : ℕ) → result ≤ k → k < at.point → is_some_writer (F.shown findings.now) bytes (at_of at.thread k) ≡ false }
+    ensures within { result ≤ at.point }
+{
+    if writes {
+        at.point
+    } else {
+        quiet_from(findings, at, bytes)
+    }
+}
+
+/// A point from which on up to this one no step can have written one of these bytes.
+fn quiet_from<F: Findings>(findings: &F, at: ThreadPoint, bytes: SoughtBytes) -> u32
+    requires { IsThreadPoint (F.shown findings.now) at }
+    ensures quiet { (k : ℕ) → result ≤ k → k < at.point → is_some_writer (F.shown findings.now) bytes (at_of at.thread k) ≡ false }
+    ensures within { result ≤ at.point }
+{
+    let mut least = 0;
+    for i in 0..bytes.count {
+        if least == at.point {
+            return least;
+        }
+        least = greater_of(
+            least,
+            quiet_byte(findings, at, bytes.address.wrapping_add(i)),
+        );
+    }
+    least
+}
+
+fn greater_of(a: u32, b: u32) -> u32
+    ensures first { a ≤ result }
+    ensures second { b ≤ result }
+    ensures least { (m : ℕ) → a ≤ m → b ≤ m → result ≤ m }
+{
+    if a < b { b } else { a }
+}
+
+/// A point from which on up to this one no step can have written a byte.
+fn quiet_byte<F: Findings>(findings: &F, at: ThreadPoint, address: u32) -> u32
+    requires { IsThreadPoint (F.shown findings.now) at }
+    ensures quiet { (k : ℕ) → result ≤ k → k < at.point → is_writer (F.shown findings.now) address (at_of at.thread k) ≡ false }
+    ensures within { result ≤ at.point }
+{
+    let writer = findings.writer(moment_of(findings, at), address);
+    quiet_after(findings, at, writer)
+}
+
+/// The point after the step of the thread that is told as a byte's writer: no step after it and up
+/// to this point is one. It is this point where no step of the thread is told, and 0 where no step
+/// wrote the byte.
+fn quiet_after<F: Findings>(findings: &F, at: ThreadPoint, writer: Writer) -> u32
+    ensures value { result ≡ quiet_after (F.shown findings.now) at writer }
+    ensures within { result ≤ at.point }
+{
+    match writer {
+        Writer::Writes(row) | Writer::MayWrite(row) => after_step(at, findings.point(row)),
+        Writer::Several => at.point,
+        Writer::None => 0,
+    }
+}
+
+fn after_step(at: ThreadPoint, step: ThreadPoint) -> u32
+    ensures value { result ≡ after_step at (own_step at step) }
+    ensures within { result ≤ at.point }
+{
+    match own_step(at, step) {
+        Some(own) => own + 1,
+        None => at.point,
+    }
 }
 
 /// Whether a step stores or calls.

@@ -13,7 +13,6 @@ use Rattle.rept_app.proofs.MadeLemmas.{made_holds}
 use Rattle.rept_app.proofs.WordsLemmas.{asks_few}
 use Rattle.rept_app.proofs.MappedTop.{as_before, both_asks, both_at, both_loads, both_mean, both_named, mapped_causes, mapped_ends, mapped_excludes, mapped_holds, mapped_loads, mapped_once, mapped_stays, mapped_usage, mapped_writes}
 use Rattle.rept_app.specs.Claims.{BitsKnowMore, ComeToReport, ReportHolds, NoExecution}
-use Rattle.rept_opening.specs.Domains.{means_of}
 use Rattle.rept_app.specs.Told.{CallWrites, call_input}
 use Rattle.rept_app.specs.Top.{EndsByFiles}
 use Rattle.rept_opening.specs.Words.Words.{meaning_of}
@@ -87,7 +86,7 @@ returns-in-Ok-Files-clause-complete g c =
     (returns-in-Ok-Files-clause-text g c)))
 
 pub returns-in-Ok-Files-clause-sound : goal.returns-in-Ok-Files-clause-sound
-returns-in-Ok-Files-clause-sound g c = where_told (g.H.FileStore.port c.args.file_store.now).files (ReportHolds (map string_bytes c.args.words.now)) (λ files told. reports_hold (map string_bytes c.args.words.now) files (true_in_both (true_of (means_of domain.Ranges) c.trips_are_true.ensures.report c.reports_are_true.ensures.report) (true_of (means_of domain.KnownBits) c.trips_are_true-2.ensures.report c.reports_are_true-2.ensures.report)))
+returns-in-Ok-Files-clause-sound g c = where_told (g.H.FileStore.port c.args.file_store.now).files (ReportHolds (map string_bytes c.args.words.now)) (λ files told. reports_hold (map string_bytes c.args.words.now) files (true_in_both (true_of domain.Ranges c.trips_are_true.ensures.report c.reports_are_true.ensures.report) (true_of domain.KnownBits c.trips_are_true-2.ensures.report c.reports_are_true-2.ensures.report)))
 
 pub returns-in-Ok-Files-clause-impossible : goal.returns-in-Ok-Files-clause-impossible
 returns-in-Ok-Files-clause-impossible g c =
@@ -170,7 +169,7 @@ returns-in-Err-clause-complete g c =
     (returns-in-Err-clause-text g c)))
 
 pub returns-in-Err-clause-sound : goal.returns-in-Err-clause-sound
-returns-in-Err-clause-sound g c = where_told (g.H.FileStore.port c.args.file_store.now).files (ReportHolds (map string_bytes c.args.words.now)) (λ files told. reports_hold (map string_bytes c.args.words.now) files (true_in_both (true_of (means_of domain.Ranges) c.trips_are_true.ensures.report c.reports_are_true.ensures.report) (true_of (means_of domain.KnownBits) c.trips_are_true-2.ensures.report c.reports_are_true-2.ensures.report)))
+returns-in-Err-clause-sound g c = where_told (g.H.FileStore.port c.args.file_store.now).files (ReportHolds (map string_bytes c.args.words.now)) (λ files told. reports_hold (map string_bytes c.args.words.now) files (true_in_both (true_of domain.Ranges c.trips_are_true.ensures.report c.reports_are_true.ensures.report) (true_of domain.KnownBits c.trips_are_true-2.ensures.report c.reports_are_true-2.ensures.report)))
 
 pub returns-in-Ok-Files-clause-unread : goal.returns-in-Ok-Files-clause-unread
 returns-in-Ok-Files-clause-unread g c = λ none. loads_named (meaning_of (map string_bytes c.args.words.now)) (g.H.FileStore.port c.args.file_store.now) (g.H.FileStore.port c.load_files.new.file_store)
@@ -181,10 +180,10 @@ returns-in-Ok-Files-clause-made g c = loaded_asks (meaning_of (map string_bytes 
     (all_at c.load_files.result c.in-Ok-Files.field-0 c.in-Ok-Files.files (meaning_of (map string_bytes c.args.words.now)) (g.H.FileStore.port c.args.file_store.now) (g.H.FileStore.port c.load_files.new.file_store) c.in-Ok-Files.is c.in-Ok-Files.field-0-is c.load_files.ensures.asked)
 
 pub returns-in-Ok-Files-clause-executed : goal.returns-in-Ok-Files-clause-executed
-returns-in-Ok-Files-clause-executed g c = asked_holds (meaning_of (map string_bytes c.args.words.now)) (λ seed steps. made_holds seed steps (true_of (means_of domain.Ranges) c.trips_are_true.ensures.report c.reports_are_true.ensures.report))
+returns-in-Ok-Files-clause-executed g c = asked_holds (meaning_of (map string_bytes c.args.words.now)) (λ seed steps. made_holds seed steps (true_of domain.Ranges c.trips_are_true.ensures.report c.reports_are_true.ensures.report))
 
 pub returns-in-Err-clause-executed : goal.returns-in-Err-clause-executed
-returns-in-Err-clause-executed g c = asked_holds (meaning_of (map string_bytes c.args.words.now)) (λ seed steps. made_holds seed steps (true_of (means_of domain.Ranges) c.trips_are_true.ensures.report c.reports_are_true.ensures.report))
+returns-in-Err-clause-executed g c = asked_holds (meaning_of (map string_bytes c.args.words.now)) (λ seed steps. made_holds seed steps (true_of domain.Ranges c.trips_are_true.ensures.report c.reports_are_true.ensures.report))
 
 pub returns-in-Err-clause-made : goal.returns-in-Err-clause-made
 returns-in-Err-clause-made g c = refused_asks (meaning_of (map string_bytes c.args.words.now)) (g.H.FileStore.port c.args.file_store.now) (g.H.FileStore.port c.load_files.new.file_store) c.in-Err.refusal c.tell.result c.in-Err.ensures.refused (ends_told c.in-Err.refusal _ c.tell.result c.tell.ensures)
@@ -223,10 +222,10 @@ pub returns-in-Ok-Made-clause-made : goal.returns-in-Ok-Made-clause-made
 returns-in-Ok-Made-clause-made g c = made_asks (meaning_of (map string_bytes c.args.words.now)) c.in-Ok-Made.seed c.in-Ok-Made.steps (made_at c.load_files.result c.in-Ok-Made.field-0 c.in-Ok-Made.seed c.in-Ok-Made.steps (meaning_of (map string_bytes c.args.words.now)) (g.H.FileStore.port c.args.file_store.now) (g.H.FileStore.port c.load_files.new.file_store) c.in-Ok-Made.is c.in-Ok-Made.field-0-is c.load_files.ensures.asked) c.tell_made_run.result c.tell_made_run.ensures.yields
 
 pub returns-in-Ok-Made-clause-executed : goal.returns-in-Ok-Made-clause-executed
-returns-in-Ok-Made-clause-executed g c = asked_holds (meaning_of (map string_bytes c.args.words.now)) (λ seed steps. made_holds seed steps (true_of (means_of domain.Ranges) c.trips_are_true.ensures.report c.reports_are_true.ensures.report))
+returns-in-Ok-Made-clause-executed g c = asked_holds (meaning_of (map string_bytes c.args.words.now)) (λ seed steps. made_holds seed steps (true_of domain.Ranges c.trips_are_true.ensures.report c.reports_are_true.ensures.report))
 
 pub returns-in-Ok-Made-clause-sound : goal.returns-in-Ok-Made-clause-sound
-returns-in-Ok-Made-clause-sound g c = where_told (g.H.FileStore.port c.args.file_store.now).files (ReportHolds (map string_bytes c.args.words.now)) (λ files told. reports_hold (map string_bytes c.args.words.now) files (true_in_both (true_of (means_of domain.Ranges) c.trips_are_true.ensures.report c.reports_are_true.ensures.report) (true_of (means_of domain.KnownBits) c.trips_are_true-2.ensures.report c.reports_are_true-2.ensures.report)))
+returns-in-Ok-Made-clause-sound g c = where_told (g.H.FileStore.port c.args.file_store.now).files (ReportHolds (map string_bytes c.args.words.now)) (λ files told. reports_hold (map string_bytes c.args.words.now) files (true_in_both (true_of domain.Ranges c.trips_are_true.ensures.report c.reports_are_true.ensures.report) (true_of domain.KnownBits c.trips_are_true-2.ensures.report c.reports_are_true-2.ensures.report)))
 
 pub returns-in-Ok-Made-clause-impossible : goal.returns-in-Ok-Made-clause-impossible
 returns-in-Ok-Made-clause-impossible g c =
@@ -268,7 +267,7 @@ returns-in-Ok-Files-clause-promise g c =
     let source = move (g.S.Source.port c.args.input.now) (g.S.Source.port c.examine.new.input) in
     let sink = move (g.K.Sink.port c.args.out.now) (g.K.Sink.port c.examine.new.out) in
     both file_store.before.files source.before.bytes _ (λ files told left told_left.
-    promised (true_in_both (true_of (means_of domain.Ranges) c.trips_are_true.ensures.report c.reports_are_true.ensures.report) (true_of (means_of domain.KnownBits) c.trips_are_true-2.ensures.report c.reports_are_true-2.ensures.report)) (call_input words files file_store (reading_of left source.after.bytes)) sink c.examine.result
+    promised (true_in_both (true_of domain.Ranges c.trips_are_true.ensures.report c.reports_are_true.ensures.report) (true_of domain.KnownBits c.trips_are_true-2.ensures.report c.reports_are_true-2.ensures.report)) (call_input words files file_store (reading_of left source.after.bytes)) sink c.examine.result
     (of_both file_store.before.files source.before.bytes (λ fs input. Delivers (CallWrites (call_input words fs file_store (reading_of input source.after.bytes))) sink c.examine.result) files left told told_left (returns-in-Ok-Files-clause-text g c))
     (at_some file_store.before.files files (λ fs. EndsByFiles words fs c.examine.result) told (returns-in-Ok-Files-clause-files g c))
     (at_some file_store.before.files files (λ fs. c.examine.result ≡ ends.Inconsistent → NoExecution words fs) told (returns-in-Ok-Files-clause-impossible g c)))
@@ -280,7 +279,7 @@ returns-in-Ok-Made-clause-promise g c =
     let source = move (g.S.Source.port c.args.input.now) (g.S.Source.port c.args.input.now) in
     let sink = move (g.K.Sink.port c.args.out.now) (g.K.Sink.port c.tell_made_run.new.out) in
     both file_store.before.files source.before.bytes _ (λ files told left told_left.
-    promised (true_in_both (true_of (means_of domain.Ranges) c.trips_are_true.ensures.report c.reports_are_true.ensures.report) (true_of (means_of domain.KnownBits) c.trips_are_true-2.ensures.report c.reports_are_true-2.ensures.report)) (call_input words files file_store (reading_of left source.after.bytes)) sink c.tell_made_run.result
+    promised (true_in_both (true_of domain.Ranges c.trips_are_true.ensures.report c.reports_are_true.ensures.report) (true_of domain.KnownBits c.trips_are_true-2.ensures.report c.reports_are_true-2.ensures.report)) (call_input words files file_store (reading_of left source.after.bytes)) sink c.tell_made_run.result
     (of_both file_store.before.files source.before.bytes (λ fs input. Delivers (CallWrites (call_input words fs file_store (reading_of input source.after.bytes))) sink c.tell_made_run.result) files left told told_left (returns-in-Ok-Made-clause-text g c))
     (at_some file_store.before.files files (λ fs. EndsByFiles words fs c.tell_made_run.result) told (returns-in-Ok-Made-clause-files g c))
     (at_some file_store.before.files files (λ fs. c.tell_made_run.result ≡ ends.Inconsistent → NoExecution words fs) told (returns-in-Ok-Made-clause-impossible g c)))
@@ -292,7 +291,7 @@ returns-in-Err-clause-promise g c =
     let source = move (g.S.Source.port c.args.input.now) (g.S.Source.port c.args.input.now) in
     let sink = move (g.K.Sink.port c.args.out.now) (g.K.Sink.port c.tell.new.out) in
     both file_store.before.files source.before.bytes _ (λ files told left told_left.
-    promised (true_in_both (true_of (means_of domain.Ranges) c.trips_are_true.ensures.report c.reports_are_true.ensures.report) (true_of (means_of domain.KnownBits) c.trips_are_true-2.ensures.report c.reports_are_true-2.ensures.report)) (call_input words files file_store (reading_of left source.after.bytes)) sink c.tell.result
+    promised (true_in_both (true_of domain.Ranges c.trips_are_true.ensures.report c.reports_are_true.ensures.report) (true_of domain.KnownBits c.trips_are_true-2.ensures.report c.reports_are_true-2.ensures.report)) (call_input words files file_store (reading_of left source.after.bytes)) sink c.tell.result
     (of_both file_store.before.files source.before.bytes (λ fs input. Delivers (CallWrites (call_input words fs file_store (reading_of input source.after.bytes))) sink c.tell.result) files left told told_left (returns-in-Err-clause-text g c))
     (at_some file_store.before.files files (λ fs. EndsByFiles words fs c.tell.result) told (returns-in-Err-clause-files g c))
     (at_some file_store.before.files files (λ fs. c.tell.result ≡ ends.Inconsistent → NoExecution words fs) told (returns-in-Err-clause-impossible g c)))
@@ -463,12 +462,12 @@ pub returns-in-Ok-Maps-clause-sound : goal.returns-in-Ok-Maps-clause-sound
 returns-in-Ok-Maps-clause-sound g c =
     let words = map string_bytes c.args.words.now in
     let old = g.H.FileStore.port c.args.file_store.now in
-    where_told old.files (ReportHolds words) (λ files told. reports_hold words files (true_in_both (true_of (means_of domain.Ranges) c.trips_are_true.ensures.report c.reports_are_true.ensures.report) (true_of (means_of domain.KnownBits) c.trips_are_true-2.ensures.report c.reports_are_true-2.ensures.report)))
+    where_told old.files (ReportHolds words) (λ files told. reports_hold words files (true_in_both (true_of domain.Ranges c.trips_are_true.ensures.report c.reports_are_true.ensures.report) (true_of domain.KnownBits c.trips_are_true-2.ensures.report c.reports_are_true-2.ensures.report)))
 
 pub returns-in-Ok-Maps-clause-executed : goal.returns-in-Ok-Maps-clause-executed
 returns-in-Ok-Maps-clause-executed g c =
     let words = map string_bytes c.args.words.now in
-    asked_holds (meaning_of words) (λ seed steps. made_holds seed steps (true_of (means_of domain.Ranges) c.trips_are_true.ensures.report c.reports_are_true.ensures.report))
+    asked_holds (meaning_of words) (λ seed steps. made_holds seed steps (true_of domain.Ranges c.trips_are_true.ensures.report c.reports_are_true.ensures.report))
 
 pub returns-in-Ok-Maps-clause-bits : goal.returns-in-Ok-Maps-clause-bits
 returns-in-Ok-Maps-clause-bits g c =
@@ -484,7 +483,7 @@ returns-in-Ok-Maps-clause-promise g c =
     let source = move (g.S.Source.port c.args.input.now) (g.S.Source.port c.examine_mapped.new.input) in
     let sink = move (g.K.Sink.port c.args.out.now) (g.K.Sink.port c.examine_mapped.new.out) in
     both old.files source.before.bytes _ (λ files told left told_left.
-    promised (true_in_both (true_of (means_of domain.Ranges) c.trips_are_true.ensures.report c.reports_are_true.ensures.report) (true_of (means_of domain.KnownBits) c.trips_are_true-2.ensures.report c.reports_are_true-2.ensures.report)) (call_input words files (move old new) (reading_of left source.after.bytes)) sink c.examine_mapped.result
+    promised (true_in_both (true_of domain.Ranges c.trips_are_true.ensures.report c.reports_are_true.ensures.report) (true_of domain.KnownBits c.trips_are_true-2.ensures.report c.reports_are_true-2.ensures.report)) (call_input words files (move old new) (reading_of left source.after.bytes)) sink c.examine_mapped.result
     (of_both old.files source.before.bytes (λ fs input. Delivers (CallWrites (call_input words fs (move old new) (reading_of input source.after.bytes))) sink c.examine_mapped.result) files left told told_left (returns-in-Ok-Maps-clause-text g c))
     (at_some old.files files (λ fs. EndsByFiles words fs c.examine_mapped.result) told (returns-in-Ok-Maps-clause-files g c))
     (at_some old.files files (λ fs. c.examine_mapped.result ≡ ends.Inconsistent → NoExecution words fs) told (returns-in-Ok-Maps-clause-impossible g c)))

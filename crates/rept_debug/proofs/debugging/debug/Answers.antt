@@ -6,7 +6,6 @@ use Rattle.rept_opening.specs.declared.words.request.Domain.TheVariants as domai
 use Rattle.rept_opening.proofs.ToldLemmas.{at_some, where_told}
 use Rattle.rept_opening.proofs.LoadingLemmas.{ok_at, stops}
 use Rattle.rept_opening.proofs.TrueLemmas.{true_in_both, true_of}
-use Rattle.rept_opening.specs.Domains.{means_of}
 use Rattle.rept_opening.specs.Loading.{IsAsked, asked_for, core_bytes, crash_bytes, loading}
 use Rattle.rept_opening.specs.Loading.Loading.{Loaded, LoadedCore}
 use Rattle.rept_opening.specs.Mapped.{mapped_crash}
@@ -29,7 +28,7 @@ returns-in-Ok-clause-debugged g c =
     let loaded : loading words files ≡ Loaded b =
     at_some file_store files (λ fs. loading words fs ≡ Loaded b) told
     (ok_at c.load_files.result c.in-Ok-Files.field-0 (asked.Files f) (λ a. IfSome file_store (λ fs. loading words fs ≡ asked_for a)) c.in-Ok-Files.is c.in-Ok-Files.field-0-is c.load_files.ensures.loaded) in
-    debugged_files words files b io c.in-Ok.talk (true_in_both (true_of (means_of domain.Ranges) c.trips_are_true.ensures.report c.reports_are_true.ensures.report) (true_of (means_of domain.KnownBits) c.trips_are_true-2.ensures.report c.reports_are_true-2.ensures.report)) loaded c.in-Ok.ensures.held)
+    debugged_files words files b io c.in-Ok.talk (true_in_both (true_of domain.Ranges c.trips_are_true.ensures.report c.reports_are_true.ensures.report) (true_of domain.KnownBits c.trips_are_true-2.ensures.report c.reports_are_true-2.ensures.report)) loaded c.in-Ok.ensures.held)
 
 pub returns-in-Ok-Files-clause-refused : goal.returns-in-Ok-Files-clause-refused
 returns-in-Ok-Files-clause-refused g c =
@@ -58,7 +57,7 @@ returns-in-Ok-Maps-clause-debugged g c =
     let loaded : loading words files ≡ LoadedCore b =
     at_some old.files files (λ fs. loading words fs ≡ LoadedCore b) told
     (ok_at c.load_files.result c.in-Ok-Maps.field-0 (asked.Maps f) (λ a. IfSome old.files (λ fs. loading words fs ≡ asked_for a)) c.in-Ok-Maps.is c.in-Ok-Maps.field-0-is c.load_files.ensures.loaded) in
-    debugged_mapped words files b io talk (true_in_both (true_of (means_of domain.Ranges) c.trips_are_true.ensures.report c.reports_are_true.ensures.report) (true_of (means_of domain.KnownBits) c.trips_are_true-2.ensures.report c.reports_are_true-2.ensures.report)) loaded
+    debugged_mapped words files b io talk (true_in_both (true_of domain.Ranges c.trips_are_true.ensures.report c.reports_are_true.ensures.report) (true_of domain.KnownBits c.trips_are_true-2.ensures.report c.reports_are_true-2.ensures.report)) loaded
     (at_some between.files files (λ fs. IsHeldMapped (mapped_crash fs b) io talk) (c.load_files.ensures.faults.files ∙ told) held)))
     c.debug_mapped.ensures.held
 
