@@ -14,5 +14,9 @@ pub mod MappedLemmas
 pub mod MappedTop
 pub mod MappedExits
 pub mod TrueLemmas
+pub mod HeldPoints
+pub mod StepLemmas
+pub mod FindLemmas
+pub mod TrailLineLemmas
 pub mod LineLemmas
 pub mod TrueLineLemmas

@@ -1,79 +1,65 @@
 -- Each line of a session is true of an execution, of which all that is told is true.
-use Rattle.std.proofs.Common.{◌≡◌, ◌⊎◌, ℕ, suc, ◌+◌, ◌-◌, ◌<◌, ◌≤◌, ◌^◌, min, Bool, true, false, List, [], ◌∷◌, ◌++◌, length, Option, Some, None, Ok, Err, IfOk, MatchBool, inl, inr, refl, sym, ap, ◌∙◌, subst, arith}
-use Rattle.std.specs.Prelude.{bit_and}
-use Rattle.rept_order.specs.Writers.{Writer}
-use Rattle.rept_order.specs.Writers.Writer.{writes, may_write, several, none}
-use Rattle.rept_report.specs.declared.writer.Writer as told
-use Rattle.rept_steps.specs.Course.{Row, row_of}
+use Rattle.std.proofs.Common.{◌≡◌, ℕ, Bool, true, false, List, [], ◌∷◌, ◌++◌, length, Ok, Err, IfOk, MatchBool, ap, ◌∙◌, arith}
 use Rattle.rept_findings.specs.Shown.{IsThreadPoint, SessionTold, Shown, moment_at, number}
-use Rattle.rept_findings.specs.Texts.{memory_lines, register_lines, writer_text}
 use Rattle.rept_findings.specs.declared.place.ThreadPoint.{ThreadPoint}
-use Rattle.rept_session.specs.Commands.{IsCommandWithin, command_of}
+use Rattle.rept_session.specs.Commands.{IsCommandWithin}
 use Rattle.rept_session.specs.Session.{IsDivided, IsReply, IsSession, Said, cursor_of, ends, said_at}
-use Rattle.rept_session.specs.Texts.{IsText, cursor_after, last_of, point_after}
+use Rattle.rept_session.specs.Texts.{IsAnswered, IsText, cursor_after}
 use Rattle.rept_session.specs.declared.command.Command.{Command}
 use Rattle.rept_session.specs.declared.command.Command.TheVariants as command
+use Rattle.rept_session.specs.declared.question.Question.{Question}
+use Rattle.rept_session.specs.declared.question.Question.TheVariants as question
 use Rattle.rept_session.proofs.WithinLemmas.{command_within}
-use Rattle.rept_app.specs.TrueLines.{AreBytesTrue, AreLinesTrue, AreRegisterLinesTrue, IsLineTrue, IsReplyTrue, PointHeld, bytes_lines, last_writer_text}
+use Rattle.rept_app.specs.TrueLines.{AreLinesTrue, IsLineTrue, IsReplyTrue, IsReplyToQuestionTrue}
+use Rattle.rept_app.specs.TrueValues.{PointHeld}
+use Rattle.rept_app.proofs.HeldPoints.{IsHeldAt, bytes_are, registers_are, writer_is, writer_told}
+use Rattle.rept_app.proofs.FindLemmas.{find_true}
+use Rattle.rept_app.proofs.StepLemmas.{at_true, around_true}
+use Rattle.rept_app.proofs.TrailLineLemmas.{from_byte_true, from_register_true, lost_byte_true, lost_register_true}
 
--- the step of a number that is told
-abbrev pub row_told : Shown → ℕ → Row
-row_told s j = row_of (s.point j).thread (s.point j).point
+module _ (t : SessionTold) (held : ThreadPoint → PointHeld) (all : (c : ThreadPoint) → IsThreadPoint t.shown c → IsHeldAt t.shown c (held c)) where
+  question_true : (c : ThreadPoint) (text : List ℕ) → IsThreadPoint t.shown c → (q : Question) → IsAnswered t.shown c q text → IsReplyToQuestionTrue held t.shown c q text
+  question_true c text is question.At e = at_true t.shown held all c text is e
+  question_true c text is (question.Around count) e = around_true t.shown held all c count text is e
+  question_true c text is (question.Visits address) e = tt
+  question_true c text is (question.Find r value) e = find_true t.shown held all c r value text is e
+  question_true c text is question.Pc e = tt
+  question_true c text is question.Recent e = tt
+  question_true c text is (question.FromRegister r) e = from_register_true t.shown held all c r text is e
+  question_true c text is (question.FromByte a) e = from_byte_true t.shown held all c a text is e
+  question_true c text is (question.Writers a count) e = tt
+  question_true c text is question.Premises e = tt
+  question_true c text is (question.Calls count) e = tt
+  question_true c text is (question.LostRegister r) e = lost_register_true t.shown held all c r text is e
+  question_true c text is (question.LostByte a) e = lost_byte_true t.shown held all c a text is e
+  question_true c text is question.Help e = tt
 
-abbrev pub writer_told : Shown → told.Writer → Writer
-writer_told s (told.TheVariants.Writes j) = writes (row_told s j)
-writer_told s (told.TheVariants.MayWrite j) = may_write (row_told s j)
-writer_told s told.TheVariants.Several = several
-writer_told s told.TheVariants.None = none
-
--- all that is told at a point is what an execution has there
-pub record IsHeldAt (s : Shown) (c : ThreadPoint) (x : PointHeld) : Type 0 where
-  pub registers : (r v : ℕ) → s.register (number s c) r ≡ Some v → x.register r ≡ v
-  pub ranges : (r : ℕ) → ((s.range (number s c) r).lo ≤ x.register r) × (x.register r ≤ (s.range (number s c) r).hi)
-  pub notes : (r : ℕ) (n : ℕ × ℕ) → s.note (number s c) r ≡ Some n → bit_and (x.register r) n.0 ≡ n.1
-  pub bytes : (a v : ℕ) → s.byte (moment_at s c) a ≡ Some v → x.memory a ≡ v
-  pub writers : (a : ℕ) → a < 2 ^ 32 → x.last_writer a (writer_told s (s.writer (moment_at s c) a))
-
-writer_is : (s : Shown) (w : told.Writer) → writer_text s w ≡ last_writer_text s.threads (writer_told s w)
-writer_is s (told.TheVariants.Writes j) = refl
-writer_is s (told.TheVariants.MayWrite j) = refl
-writer_is s told.TheVariants.Several = refl
-writer_is s told.TheVariants.None = refl
-
-registers_are : (s : Shown) (c : ThreadPoint) (x : PointHeld) (text : List ℕ) → IsHeldAt s c x → text ≡ register_lines s (number s c) → AreRegisterLinesTrue x text
-unfolding register_lines
-registers_are s c x text h e = (s.register (number s c), h.registers, e)
-
-bytes_are : (s : Shown) (c : ThreadPoint) (x : PointHeld) (address count : ℕ) (text : List ℕ) → IsHeldAt s c x → text ≡ memory_lines s (moment_at s c) address count → AreBytesTrue x address count text
-unfolding memory_lines
-bytes_are s c x address count text h e = (s.byte (moment_at s c), h.bytes, e)
-
-line_true : (t : SessionTold) (c : ThreadPoint) (x : PointHeld) (text : List ℕ) → IsHeldAt t.shown c x → (k : Command) → IsText t c k text → IsLineTrue t.shown.threads x k text
-line_true t c x text h (command.Reg r) e = (t.shown.register (number t.shown c) r, h.registers r, e)
-line_true t c x text h command.Regs e = registers_are t.shown c x text h e
-line_true t c x text h (command.Range r) e = record {
-  range = t.shown.range (number t.shown c) r;
-  note = t.shown.note (number t.shown c) r;
-  from = (h.ranges r).0;
-  to = (h.ranges r).1;
-  bits = h.notes r;
-  is = e;
-}
-line_true t c x text h (command.Mem address count) e = bytes_are t.shown c x address count text h e
-line_true t c x text h (command.Writer a) e = λ small. (writer_told t.shown (t.shown.writer (moment_at t.shown c) a), h.writers a small, e ∙ ap (λ (ws : List ℕ). ws ++ 10 ∷ []) (writer_is t.shown (t.shown.writer (moment_at t.shown c) a)))
-line_true t c x text h command.Where e = tt
-line_true t c x text h (command.Back k) e = tt
-line_true t c x text h (command.Fwd k) e = tt
-line_true t c x text h (command.Goto i) e = tt
-line_true t c x text h (command.WhyReg r) e = tt
-line_true t c x text h (command.WhyByte a) e = tt
-line_true t c x text h (command.List first count) e = tt
-line_true t c x text h (command.Thread thread) e = tt
-line_true t c x text h command.Stack e = tt
-line_true t c x text h command.Summary e = tt
-line_true t c x text h command.Quit e = tt
-line_true t c x text h command.Nothing e = tt
-line_true t c x text h (command.Ask question) e = tt
+  line_true : (c : ThreadPoint) (text : List ℕ) → IsThreadPoint t.shown c → (k : Command) → IsText t c k text → IsLineTrue held t.shown c k text
+  line_true c text is (command.Reg r) e = (t.shown.register (number t.shown c) r, (all c is).registers r, e)
+  line_true c text is command.Regs e = registers_are t.shown c (held c) text (all c is) e
+  line_true c text is (command.Range r) e = record {
+    range = t.shown.range (number t.shown c) r;
+    note = t.shown.note (number t.shown c) r;
+    from = ((all c is).ranges r).0;
+    to = ((all c is).ranges r).1;
+    bits = (all c is).notes r;
+    is = e;
+  }
+  line_true c text is (command.Mem address count) e = bytes_are t.shown c (held c) address count text (all c is) e
+  line_true c text is (command.Writer a) e = λ small. (writer_told t.shown (t.shown.writer (moment_at t.shown c) a), (all c is).writers a small, e ∙ ap (λ (ws : List ℕ). ws ++ 10 ∷ []) (writer_is t.shown (t.shown.writer (moment_at t.shown c) a)))
+  line_true c text is command.Where e = tt
+  line_true c text is (command.Back k) e = tt
+  line_true c text is (command.Fwd k) e = tt
+  line_true c text is (command.Goto i) e = tt
+  line_true c text is (command.WhyReg r) e = tt
+  line_true c text is (command.WhyByte a) e = tt
+  line_true c text is (command.List first count) e = tt
+  line_true c text is (command.Thread thread) e = tt
+  line_true c text is command.Stack e = tt
+  line_true c text is command.Summary e = tt
+  line_true c text is command.Quit e = tt
+  line_true c text is command.Nothing e = tt
+  line_true c text is (command.Ask question) e = question_true c text is question e
 
 module _ (s : Shown) where
   -- the cursor stays at a point of a thread
@@ -106,7 +92,7 @@ module _ (s : Shown) where
 
 module _ (t : SessionTold) (held : ThreadPoint → PointHeld) (all : (c : ThreadPoint) → IsThreadPoint t.shown c → IsHeldAt t.shown c (held c)) where
   reply_true : (c : ThreadPoint) (said : Said) (text : List ℕ) → IsThreadPoint t.shown (cursor_of t.shown c said) → IsReply t c said text → IsReplyTrue held t.shown c said text
-  reply_true c (Ok k) text is e = line_true t (cursor_after t.shown c k) (held (cursor_after t.shown c k)) text (all (cursor_after t.shown c k) is) k e
+  reply_true c (Ok k) text is e = line_true t held all (cursor_after t.shown c k) text is k e
   reply_true c (Err refusal) text is e = e
 
   goes_on : (over : Bool) (text : List ℕ) (F F' G G' : List ℕ → Type 0) → ((first : List ℕ) → F first → F' first) → ((rest : List ℕ) → G rest → G' rest) → MatchBool over (text ≡ []) (IsDivided text F G) → MatchBool over (text ≡ []) (IsDivided text F' G')

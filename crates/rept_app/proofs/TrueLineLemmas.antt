@@ -40,7 +40,8 @@ use Rattle.rept_session.specs.Texts.{last_of}
 use Rattle.rept_streams.specs.Runs.Kind.{path_rows}
 use Rattle.rept_app.specs.TrueAnswers.{AreTrueLines, WritesOnPath, held_in, held_on}
 use Rattle.rept_app.specs.TrueLines.{AreLinesTrue}
-use Rattle.rept_app.proofs.LineLemmas.{IsHeldAt, lines_true, writer_told}
+use Rattle.rept_app.proofs.HeldPoints.{IsHeldAt, writer_told}
+use Rattle.rept_app.proofs.LineLemmas.{lines_true}
 
 -- of all threads
 module _ {W : Type 0} (t : Trip W) (K : Knowledge) (scene : Scene) (sound : IsSoundCourse t.course) (some : 0 < length t.course.threads) (trip : IsTrueTrip t K) (h : History) (is_history : IsHistoryOf t h) where

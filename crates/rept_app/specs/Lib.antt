@@ -13,4 +13,7 @@ pub mod Told
 pub mod Top
 pub mod TrueAnswers
 pub mod TrueLines
+pub mod TrueSteps
+pub mod TrueTrails
+pub mod TrueValues
 pub mod Process

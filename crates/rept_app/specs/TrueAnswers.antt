@@ -20,7 +20,8 @@ use Rattle.rept_opening.specs.Beyond.{story_of}
 use Rattle.rept_opening.specs.Opened.{CrashRun, RunAccount, route_of, told_in}
 use Rattle.rept_opening.specs.True.{path_by}
 use Rattle.rept_session.specs.Texts.{last_of}
-use Rattle.rept_app.specs.TrueLines.{AreLinesTrue, PointHeld}
+use Rattle.rept_app.specs.TrueLines.{AreLinesTrue}
+use Rattle.rept_app.specs.TrueValues.{PointHeld}
 
 -- what an execution of all threads has at a point of a thread
 abbrev pub held_in : {W : Type 0} → Trip W → History → ThreadPoint → PointHeld

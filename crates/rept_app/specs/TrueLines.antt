@@ -1,90 +1,47 @@
 -- What the lines of a session claim of an execution, line by line. Nothing here speaks of rules, of
--- sets or of a report. HEX below is `0x` and eight lower-case hexadecimal digits. This project's
--- own.
-use Rattle.std.specs.Prelude.{◌≡◌, ℕ, ◌+◌, ◌*◌, ◌-◌, ◌/◌, ◌<◌, ◌≤◌, ◌^◌, min, List, [], ◌∷◌, ◌++◌, Option, Some, Ok, Err, MatchBool, codes, bit_and}
-use Rattle.std.specs.List.{flat_map, range_with_len}
-use Rattle.std.specs.Fmt.{decimal}
-use Rattle.rept_word.specs.Hex.{hex_word}
-use Rattle.rept_partial.specs.declared.range.Range.{Range}
-use Rattle.rept_steps.specs.Course.{Row}
-use Rattle.rept_order.specs.Writers.{Writer}
-use Rattle.rept_order.specs.Writers.Writer.{writes, may_write, several, none}
+-- sets or of a report. This project's own.
+use Rattle.std.specs.Prelude.{◌≡◌, ℕ, ◌<◌, ◌^◌, List, [], ◌∷◌, Ok, Err, MatchBool}
 use Rattle.rept_findings.specs.Shown.{Shown}
-use Rattle.rept_findings.specs.Texts.{byte_text, note_text, range_text, thread_named, value_line, wrapped}
 use Rattle.rept_findings.specs.declared.place.ThreadPoint.{ThreadPoint}
+use Rattle.rept_questions.specs.Trail.{register_source}
 use Rattle.rept_session.specs.Session.{IsDivided, Said, cursor_of, ends, said_at}
 use Rattle.rept_session.specs.Texts.{cursor_after, refusal_line}
 use Rattle.rept_session.specs.declared.command.Command.{Command}
 use Rattle.rept_session.specs.declared.command.Command.TheVariants as command
+use Rattle.rept_session.specs.declared.question.Question.{Question}
+use Rattle.rept_session.specs.declared.question.Question.TheVariants as question
+use Rattle.rept_app.specs.TrueSteps.{AreStepsTrue, IsAtTrue, IsFindTrue}
+use Rattle.rept_app.specs.TrueTrails.{IsFromByteTrue, IsFromRegisterTrue, IsLostByteTrue, IsLostRegisterTrue}
+use Rattle.rept_app.specs.TrueValues.{AreBytesTrue, AreRegisterLinesTrue, IsRangeLineTrue, IsRegisterLineTrue, IsWriterLineTrue, PointHeld}
 
--- What an execution has at a point of a thread: the thread's registers, the memory, and what holds
--- there of the step that last wrote a byte.
-pub record PointHeld : Type 1 where
-  pub register : ℕ → ℕ
-  pub memory : ℕ → ℕ
-  pub last_writer : ℕ → Writer → Type 0
+-- Whether the answer to a question is true of an execution, by what it has at each point. `visits`,
+-- `calls`, `help`, `premises` and the questions of the debugger tell the path or words. What
+-- `writers` tells of steps isn't said here.
+abbrev pub IsReplyToQuestionTrue : (ThreadPoint → PointHeld) → Shown → ThreadPoint → Question → List ℕ → Type 0
+IsReplyToQuestionTrue held s c question.At text = IsAtTrue held s c text
+IsReplyToQuestionTrue held s c (question.Around count) text = AreStepsTrue held s c count text
+IsReplyToQuestionTrue held s c (question.Find r value) text = IsFindTrue held c r value text
+IsReplyToQuestionTrue held s c (question.FromRegister r) text = IsFromRegisterTrue held s c r (register_source (s.rows c.thread) c.point r) text
+IsReplyToQuestionTrue held s c (question.FromByte a) text = IsFromByteTrue held s c a text
+IsReplyToQuestionTrue held s c (question.LostRegister r) text = IsLostRegisterTrue held s c r text
+IsReplyToQuestionTrue held s c (question.LostByte a) text = IsLostByteTrue held s c a text
+IsReplyToQuestionTrue held s c _ text = Unit {0}
 
--- all values that are told of some registers or addresses are those that it has
-abbrev pub IsHeld : (ℕ → Option ℕ) → (ℕ → ℕ) → Type 0
-IsHeld told held = (k v : ℕ) → told k ≡ Some v → held k ≡ v
-
--- `xN HEX`: the register has that value. `xN unknown` claims nothing.
-abbrev pub IsRegisterLineTrue : PointHeld → ℕ → List ℕ → Type 0
-IsRegisterLineTrue x r text = (told : Option ℕ) × ((v : ℕ) → told ≡ Some v → x.register r ≡ v) × (text ≡ value_line r told)
-
--- a line for each of x1 to x31
-abbrev pub AreRegisterLinesTrue : PointHeld → List ℕ → Type 0
-AreRegisterLinesTrue x text = (told : ℕ → Option ℕ) × IsHeld told x.register × (text ≡ flat_map (λ r. value_line r (told r)) (range_with_len 1 31))
-
--- `xN HEX..HEX known HEX value HEX`: the register's value lies between the first two, and has under
--- the mask these bits
-pub record IsRangeLineTrue (x : PointHeld) (r : ℕ) (text : List ℕ) : Type 0 where
-  pub range : Range
-  pub note : Option (ℕ × ℕ)
-  pub from : range.lo ≤ x.register r
-  pub to : x.register r ≤ range.hi
-  pub bits : (n : ℕ × ℕ) → note ≡ Some n → bit_and (x.register r) n.0 ≡ n.1
-  pub is : text ≡ range_text r range ++ note_text note ++ 10 ∷ []
-
--- `HEX:` and the bytes from there on, each of them as two digits or `??`
-abbrev pub bytes_line : (ℕ → Option ℕ) → ℕ → ℕ → List ℕ
-bytes_line told address count = hex_word address ++ codes ":" ++ flat_map (λ i. codes " " ++ byte_text (told (wrapped (address + i)))) (range_with_len 0 count) ++ 10 ∷ []
-
-abbrev pub bytes_lines : (ℕ → Option ℕ) → ℕ → ℕ → List ℕ
-bytes_lines told address count = flat_map (λ k. bytes_line told (wrapped (address + 16 * k)) (min 16 (count - 16 * k))) (range_with_len 0 ((count + 15) / 16))
-
--- each byte that is shown is the one that memory has
-abbrev pub AreBytesTrue : PointHeld → ℕ → ℕ → List ℕ → Type 0
-AreBytesTrue x address count text = (told : ℕ → Option ℕ) × IsHeld told x.memory × (text ≡ bytes_lines told address count)
-
--- `J`, and ` of T` in a run of several threads
-abbrev pub step_named : ℕ → Row → List ℕ
-step_named threads r = decimal r.step ++ thread_named threads r.thread
-
-abbrev pub last_writer_text : ℕ → Writer → List ℕ
-last_writer_text threads (writes r) = codes "writes " ++ step_named threads r
-last_writer_text threads (may_write r) = codes "may write " ++ step_named threads r
-last_writer_text threads several = codes "several"
-last_writer_text threads none = codes "none"
-
--- `writes J`: step J wrote the byte, and no later step did; `may write J`: no step after J did;
--- `none`: no step wrote it. `several` claims nothing.
-abbrev pub IsWriterLineTrue : ℕ → PointHeld → ℕ → List ℕ → Type 0
-IsWriterLineTrue threads x a text = (w : Writer) × x.last_writer a w × (text ≡ last_writer_text threads w ++ 10 ∷ [])
-
--- Whether the answer to a command is true of what an execution has at the cursor. The other
--- commands tell the path, or what they tell of values isn't said here.
-abbrev pub IsLineTrue : ℕ → PointHeld → Command → List ℕ → Type 0
-IsLineTrue threads x (command.Reg r) text = IsRegisterLineTrue x r text
-IsLineTrue threads x command.Regs text = AreRegisterLinesTrue x text
-IsLineTrue threads x (command.Range r) text = IsRangeLineTrue x r text
-IsLineTrue threads x (command.Mem address count) text = AreBytesTrue x address count text
-IsLineTrue threads x (command.Writer a) text = a < 2 ^ 32 → IsWriterLineTrue threads x a text
-IsLineTrue threads x _ text = Unit {0}
+-- Whether the answer to a command is true of an execution, with the cursor after it. `where`,
+-- `back`, `fwd`, `goto`, `thread`, `list` and `stack` tell the path, `summary` how much is known.
+-- What `why` tells isn't said here.
+abbrev pub IsLineTrue : (ThreadPoint → PointHeld) → Shown → ThreadPoint → Command → List ℕ → Type 0
+IsLineTrue held s c (command.Reg r) text = IsRegisterLineTrue (held c) r text
+IsLineTrue held s c command.Regs text = AreRegisterLinesTrue (held c) text
+IsLineTrue held s c (command.Range r) text = IsRangeLineTrue (held c) r text
+IsLineTrue held s c (command.Mem address count) text = AreBytesTrue (held c) address count text
+IsLineTrue held s c (command.Writer a) text = a < 2 ^ 32 → IsWriterLineTrue s.threads (held c) a text
+IsLineTrue held s c (command.Ask question) text = IsReplyToQuestionTrue held s c question text
+IsLineTrue held s c _ text = Unit {0}
 
 -- the same of an input line, at the cursor before it
 abbrev pub IsReplyTrue : (ThreadPoint → PointHeld) → Shown → ThreadPoint → Said → List ℕ → Type 0
-IsReplyTrue held s cursor (Ok command) text = IsLineTrue s.threads (held (cursor_after s cursor command)) command text
+IsReplyTrue held s cursor (Ok command) text = IsLineTrue held s (cursor_after s cursor command) command text
 IsReplyTrue held s cursor (Err refusal) text = text ≡ refusal_line refusal
 
 -- Of an execution, by what it has at each point: the text is an answer for each input line in their
