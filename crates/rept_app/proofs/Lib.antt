@@ -17,6 +17,7 @@ pub mod TrueLemmas
 pub mod HeldPoints
 pub mod StepLemmas
 pub mod FindLemmas
+pub mod ReasonLineLemmas
 pub mod TrailLineLemmas
 pub mod LineLemmas
 pub mod TrueLineLemmas

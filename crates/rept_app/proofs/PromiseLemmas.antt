@@ -252,7 +252,7 @@ module _ (true_of : ReportsAreTrue) (g : CallInput) (out : PortMove Port) where
         written = written;
         holds = holds;
         beyond = beyond;
-        true_lines = true_lines (run_at o) a (whole_of o lines opened) holds beyond (lines_read lines) text answers.answers;
+        true_lines = true_lines (run_at o) a (whole_of o lines opened) is holds beyond (lines_read lines) text answers.answers;
       }
 
   -- a made run isn't inconsistent

@@ -13,6 +13,7 @@ pub mod Told
 pub mod Top
 pub mod TrueAnswers
 pub mod TrueLines
+pub mod TrueReasons
 pub mod TrueSteps
 pub mod TrueTrails
 pub mod TrueValues

@@ -10,9 +10,10 @@ use Rattle.rept_session.specs.declared.command.Command.{Command}
 use Rattle.rept_session.specs.declared.command.Command.TheVariants as command
 use Rattle.rept_session.specs.declared.question.Question.{Question}
 use Rattle.rept_session.specs.declared.question.Question.TheVariants as question
+use Rattle.rept_app.specs.TrueReasons.{IsWhyTrue}
 use Rattle.rept_app.specs.TrueSteps.{AreStepsTrue, IsAtTrue, IsFindTrue}
 use Rattle.rept_app.specs.TrueTrails.{IsFromByteTrue, IsFromRegisterTrue, IsLostByteTrue, IsLostRegisterTrue}
-use Rattle.rept_app.specs.TrueValues.{AreBytesTrue, AreRegisterLinesTrue, IsRangeLineTrue, IsRegisterLineTrue, IsWriterLineTrue, PointHeld}
+use Rattle.rept_app.specs.TrueValues.{AreBytesTrue, AreRegisterLinesTrue, ExecutionHeld, IsRangeLineTrue, IsRegisterLineTrue, IsWriterLineTrue, PointHeld}
 
 -- Whether the answer to a question is true of an execution, by what it has at each point. `visits`,
 -- `calls`, `help`, `premises` and the questions of the debugger tell the path or words. What
@@ -29,25 +30,26 @@ IsReplyToQuestionTrue held s c _ text = Unit {0}
 
 -- Whether the answer to a command is true of an execution, with the cursor after it. `where`,
 -- `back`, `fwd`, `goto`, `thread`, `list` and `stack` tell the path, `summary` how much is known.
--- What `why` tells isn't said here.
-abbrev pub IsLineTrue : (ThreadPoint → PointHeld) → Shown → ThreadPoint → Command → List ℕ → Type 0
-IsLineTrue held s c (command.Reg r) text = IsRegisterLineTrue (held c) r text
-IsLineTrue held s c command.Regs text = AreRegisterLinesTrue (held c) text
-IsLineTrue held s c (command.Range r) text = IsRangeLineTrue (held c) r text
-IsLineTrue held s c (command.Mem address count) text = AreBytesTrue (held c) address count text
-IsLineTrue held s c (command.Writer a) text = a < 2 ^ 32 → IsWriterLineTrue s.threads (held c) a text
-IsLineTrue held s c (command.Ask question) text = IsReplyToQuestionTrue held s c question text
-IsLineTrue held s c _ text = Unit {0}
+abbrev pub IsLineTrue : ExecutionHeld → Shown → ThreadPoint → Command → List ℕ → Type 0
+IsLineTrue x s c (command.Reg r) text = IsRegisterLineTrue (x.at c) r text
+IsLineTrue x s c command.Regs text = AreRegisterLinesTrue (x.at c) text
+IsLineTrue x s c (command.Range r) text = IsRangeLineTrue (x.at c) r text
+IsLineTrue x s c (command.Mem address count) text = AreBytesTrue (x.at c) address count text
+IsLineTrue x s c (command.Writer a) text = a < 2 ^ 32 → IsWriterLineTrue s.threads (x.at c) a text
+IsLineTrue x s c (command.Ask question) text = IsReplyToQuestionTrue x.at s c question text
+IsLineTrue x s c (command.WhyReg r) text = IsWhyTrue x s text
+IsLineTrue x s c (command.WhyByte a) text = IsWhyTrue x s text
+IsLineTrue x s c _ text = Unit {0}
 
 -- the same of an input line, at the cursor before it
-abbrev pub IsReplyTrue : (ThreadPoint → PointHeld) → Shown → ThreadPoint → Said → List ℕ → Type 0
-IsReplyTrue held s cursor (Ok command) text = IsLineTrue held s (cursor_after s cursor command) command text
-IsReplyTrue held s cursor (Err refusal) text = text ≡ refusal_line refusal
+abbrev pub IsReplyTrue : ExecutionHeld → Shown → ThreadPoint → Said → List ℕ → Type 0
+IsReplyTrue x s cursor (Ok command) text = IsLineTrue x s (cursor_after s cursor command) command text
+IsReplyTrue x s cursor (Err refusal) text = text ≡ refusal_line refusal
 
 -- Of an execution, by what it has at each point: the text is an answer for each input line in their
 -- order, up to `quit`, and each answer is true of it.
-abbrev pub AreLinesTrue : (ThreadPoint → PointHeld) → Shown → ThreadPoint → List (List ℕ) → List ℕ → Type 0
-AreLinesTrue held s cursor [] text = text ≡ []
-AreLinesTrue held s cursor (line ∷ lines) text =
+abbrev pub AreLinesTrue : ExecutionHeld → Shown → ThreadPoint → List (List ℕ) → List ℕ → Type 0
+AreLinesTrue x s cursor [] text = text ≡ []
+AreLinesTrue x s cursor (line ∷ lines) text =
     MatchBool (ends (said_at s cursor line)) (text ≡ [])
-    (IsDivided text (IsReplyTrue held s cursor (said_at s cursor line)) (AreLinesTrue held s (cursor_of s cursor (said_at s cursor line)) lines))
+    (IsDivided text (IsReplyTrue x s cursor (said_at s cursor line)) (AreLinesTrue x s (cursor_of s cursor (said_at s cursor line)) lines))

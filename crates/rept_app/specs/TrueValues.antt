@@ -8,6 +8,8 @@ use Rattle.rept_partial.specs.declared.range.Range.{Range}
 use Rattle.rept_steps.specs.Course.{Row}
 use Rattle.rept_order.specs.Writers.{Writer}
 use Rattle.rept_order.specs.Writers.Writer.{writes, may_write, several, none}
+use Rattle.rept_findings.specs.declared.place.ThreadPlace.{ThreadPlace}
+use Rattle.rept_findings.specs.declared.place.ThreadPoint.{ThreadPoint}
 use Rattle.rept_findings.specs.Texts.{byte_text, note_text, range_text, thread_named, value_line, wrapped}
 
 -- What an execution has at a point of a thread: the thread's registers, the memory, and what holds
@@ -16,6 +18,12 @@ pub record PointHeld : Type 1 where
   pub register : ℕ → ℕ
   pub memory : ℕ → ℕ
   pub last_writer : ℕ → Writer → Type 0
+
+-- What an execution has at each point of each thread, and its memory at each place that a line
+-- names.
+pub record ExecutionHeld : Type 1 where
+  pub at : ThreadPoint → PointHeld
+  pub memory : ThreadPlace → ℕ → ℕ
 
 -- all values that are told of some registers or addresses are those that it has
 abbrev pub IsHeld : (ℕ → Option ℕ) → (ℕ → ℕ) → Type 0
