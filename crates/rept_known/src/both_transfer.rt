@@ -45,6 +45,10 @@ impl Transfer for Both {
         }
     }
 
+    fn is_same(self, other: Both) -> bool {
+        self == other
+    }
+
     fn note(self) -> Option<(u32, u32)> {
         self.bits().note()
     }

@@ -65,6 +65,10 @@ impl Transfer for Bits {
         }
     }
 
+    fn is_same(self, other: Bits) -> bool {
+        self == other
+    }
+
     fn note(self) -> Option<(u32, u32)> {
         Some((!self.loose(), self.value()))
     }
