@@ -10,7 +10,7 @@ ghost use Rattle.rept_extents.specs.Tables.{AreTables};
 
 use crate::extents::Extents;
 use crate::reaches::NextTables;
-use crate::surely_blocks::surely_blocks;
+use crate::surely_blocks::{has_equal_numbers, surely_blocks};
 use rept_isa::StepRow;
 use rept_report::paths::{NumberChain, Strip};
 use rept_report::{NumberWindow, Paths, Reaches};
@@ -167,6 +167,10 @@ impl<'a> Reaches for RunRows<'a> {
 
     fn extent(&self, row: u32) -> NumberWindow {
         self.extents.of(self.paths.ways().course(), row)
+    }
+
+    fn has_equal_numbers(&self) -> bool {
+        has_equal_numbers(self.paths.ways().course())
     }
 
     fn leaving_from(&self, least: u32, known: NumberWindow) -> u32 {

@@ -1,11 +1,14 @@
-//! Which rows may act after a moment, whatever comes next.
+//! Which rows may act after a moment, whatever comes next, and whether rows have the numbers of
+//! moments.
 
 ghost use Rattle.std.specs.Prelude.{◌≡◌, true, IsSome};
 ghost use Rattle.rept_steps.specs.Course.{IsSoundCourse};
 ghost use Rattle.rept_moments.specs.Courses.{seen_in};
 ghost use Rattle.rept_moments.specs.Several.{seen_of};
 ghost use Rattle.rept_report.specs.Reach.Reaching.{IsBar};
+ghost use Rattle.rept_report.specs.Timeline.{HasEqualNumbers};
 ghost use Rattle.rept_timeline.specs.Listed.{IsSoundIn};
+ghost use Rattle.rept_timeline.specs.Times.{time_of};
 
 use rept_moments::{Many, NumberedRun};
 
@@ -32,5 +35,15 @@ pub fn surely_blocks(course: &NumberedRun<'_>, row: u32, number: u32) -> bool
     match course {
         NumberedRun::One { .. } => row == number,
         NumberedRun::Many(many) => is_crossing(many, row, number),
+    }
+}
+
+/// Whether the moment before each row has the row's number: of one thread in one slice it has.
+pub fn has_equal_numbers(course: &NumberedRun<'_>) -> bool
+    ensures { result ≡ true → HasEqualNumbers (time_of course.now) }
+{
+    match course {
+        NumberedRun::One { .. } => true,
+        NumberedRun::Many(_many) => false,
     }
 }

@@ -7,6 +7,7 @@ pub mod Counting
 pub mod Conclusion
 pub mod Ending
 pub mod Following
+pub mod Last
 pub mod Latest
 pub mod Learning
 pub mod Listing

@@ -1,6 +1,6 @@
 -- Whether all that may write a byte lies wholly before a moment, found by the list of the rows that
 -- may write.
-use Rattle.std.proofs.Common.{◌≡◌, ℕ, zero, suc, ◌+◌, ◌-◌, ◌<◌, ◌≤◌, ◌^◌, ◌⊎◌, Bool, true, false, not, ◌&&◌, ◌||◌, length, Option, Some, None, inl, inr, refl, sym, subst, ◌∙◌, arith, slice_get, cond}
+use Rattle.std.proofs.Common.{◌≡◌, ℕ, zero, suc, ◌+◌, ◌-◌, ◌<◌, ◌≤◌, ◌^◌, ◌⊎◌, Bool, true, false, not, ◌&&◌, ◌||◌, length, Option, Some, None, inl, inr, refl, sym, subst, ◌∙◌, arith, slice_get}
 use Rattle.std.specs.Option.{IsSome}
 use Rattle.std.proofs.lemmas.Bool.{cases_Bool, cases_eq, cases_lt, and_parts, and_from, false_from_ne_true, false≢true}
 use Rattle.std.proofs.lemmas.Option.{slice_get_within}
@@ -21,8 +21,6 @@ use Rattle.rept_report.specs.Spots.{spot}
 use Rattle.rept_report.specs.Views.{may_write, registers_at, touched_by}
 use Rattle.rept_report.specs.Implied.{all_past, is_settled}
 use Rattle.rept_report.specs.Log.{oldest}
-use Rattle.rept_report.specs.Writers.{IsWriter}
-use Rattle.rept_report.specs.declared.writer.Writer as writers
 use Rattle.rept_report.proofs.Registers.{may_write_same}
 use Rattle.rept_facts.specs.State.{AnalysisState, all_known, along, timeline_of}
 use Rattle.rept_facts.specs.Inferring.{IsSpared, IsSettled, IsHitBy, AreWritings, AreHitsPast, AreFormerPast, AreLaterPast, IsLateHit}
@@ -129,7 +127,7 @@ module _ {W : Type 0} (s : AnalysisState W) (settled : IsSettled s) (a : ℕ) (s
   told_spared i (inl old) = old
   told_spared i (inr now) = may_write_same S K (all_known s) (λ q r. rw (filled_all s settled) refl) i a ∙ now settled.quiet
 
-  listed_hit : (i : ℕ) → may_write S K i a ≡ true → IsHitBy a i s
+  pub listed_hit : (i : ℕ) → may_write S K i a ≡ true → IsHitBy a i s
   listed_hit i may =
       elim (settled.writings.barriers.all i (row_there S (S.legs.row i) (registers_at S K i) a may)) [
         | inr silent ↦ absurd (false≢true (sym (silent a small) ∙ may))
@@ -166,8 +164,3 @@ module _ {W : Type 0} (s : AnalysisState W) (settled : IsSettled s) (a : ℕ) (s
       let within = slice_get_within s.work.writing h.index h.writing h.found in
       let hits : hits_at s.work.writing h.index a ≡ true = rw h.found h.hits in
       false≢true (sym (none h.index (omega arith) (omega (arith, within, all))) ∙ hits)
-
-  -- then this is said of the writer
-  pub no_writer : (m : ℕ) (b : Bool) → b ≡ s.path.given.moments.is_untraced → ((i : ℕ) → may_write S K i a ≡ true → ⊥) → IsWriter S K (spot m a) (cond b writers.TheVariants.Several writers.TheVariants.None)
-  no_writer m true is none = (λ j last. none j last.one.may, λ h. false≢true (sym h.light ∙ sym is))
-  no_writer m false is none = record { rows = λ k c. none k c.may; light = sym is }

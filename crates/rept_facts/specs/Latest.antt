@@ -1,4 +1,5 @@
 -- Which rows may write which bytes, by what is known. This project's own.
+use Rattle.std.specs.Prelude.{◌≡◌, ℕ, ◌<◌, true}
 use Rattle.rept_reason.specs.Facts.{Knowledge}
 use Rattle.rept_report.specs.Setting.{Setting}
 use Rattle.rept_report.specs.Timeline.{Timeline}
@@ -13,3 +14,7 @@ time_of S = record { legs = S.legs; moments = S.moments }
 -- they may write
 abbrev pub writes_by : {W : Type 0} → Setting W → Knowledge → Writes
 writes_by S K = record { may = may_write S K; sure = is_sure S K }
+
+-- each row below a number that may write the byte at an address is below another number too
+abbrev pub ArePassed : {W : Type 0} → Setting W → Knowledge → ℕ → ℕ → ℕ → Type 0
+ArePassed S K n a end = (i : ℕ) → i < n → may_write S K i a ≡ true → i < end

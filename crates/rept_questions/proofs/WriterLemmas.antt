@@ -1,7 +1,7 @@
 -- The steps that wrote some bytes, one step and one byte at a time.
-use Rattle.std.proofs.Common.{◌≡◌, ℕ, zero, suc, ◌+◌, ◌<◌, ◌≤◌, ◌∷◌, [], ◌++◌, List, Bool, true, false, cond, nat_lt, nat_le, Option, None, Some, ap, refl, sym, subst, ◌∙◌, arith}
+use Rattle.std.proofs.Common.{◌≡◌, ℕ, zero, suc, ◌+◌, ◌<◌, ◌≤◌, ◌∷◌, [], ◌++◌, List, take, Bool, true, false, cond, nat_lt, nat_le, Option, None, Some, ap, refl, sym, subst, ◌∙◌, arith}
 use Rattle.std.proofs.lemmas.Bool.Decides.{nat_tests}
-use Rattle.std.specs.Prelude.{◌||◌, ◌&&◌, ◌==◌, if◌then◌else◌}
+use Rattle.std.specs.Prelude.{◌||◌, ◌&&◌, ◌==◌, if◌then◌else◌, slice_get}
 use Rattle.std.specs.List.{filter, list_any, range_with_len}
 use Rattle.rept_report.specs.declared.writer.Writer.{Writer}
 use Rattle.rept_report.specs.declared.writer.Writer.TheVariants as writer
@@ -104,3 +104,15 @@ module _ (s : Shown) (thread a p : ℕ) (last : AreLastWriters s thread a) (insi
 
   pub quiet_byte : Quiet (quiet_after s (at thread p) (writer_at s (at thread p) a))
   quiet_byte = by_writer (writer_at s (at thread p) a) refl
+
+-- the first number that passes, where none before an index does
+pub first_passing : (test : ℕ → Bool) (xs : List ℕ) (i x : ℕ) → filter test (take i xs) ≡ [] → slice_get xs i ≡ Some x → test x ≡ true → slice_get (filter test xs) 0 ≡ Some x
+first_passing test [] i x none here passes = let bad : ⊥ = cc in absurd bad
+first_passing test (y ∷ ys) zero x none here passes =
+    let same : y ≡ x = cc in
+    ap (λ (b : Bool). slice_get (cond b (y ∷ filter test ys) (filter test ys)) 0) (ap test same ∙ passes) ∙ here
+first_passing test (y ∷ ys) (suc i) x none here passes = by_test (test y) refl none (λ rest. first_passing test ys i x rest here passes)
+  where
+    by_test : (b : Bool) → test y ≡ b → cond b (y ∷ filter test (take i ys)) (filter test (take i ys)) ≡ [] → (filter test (take i ys) ≡ [] → slice_get (filter test ys) 0 ≡ Some x) → slice_get (filter test (y ∷ ys)) 0 ≡ Some x
+    by_test true e bad onward = let no : ⊥ = cc in absurd no
+    by_test false e rest onward = ap (λ (b : Bool). slice_get (cond b (y ∷ filter test ys) (filter test ys)) 0) e ∙ onward rest

@@ -369,8 +369,8 @@ fn push_group<F: Findings>(
     ensures { OnOk result (text.new ≡ text.old ++ group_at (F.shown findings.now) sought.bytes sought.thread step row.now (group_of (F.shown findings.now) sought.thread row.now.at steps.now)) }
 {
     let rows = findings.rows(sought.thread);
-    let group = group_of(alloc, rows, row.at, steps)?;
-    if is_first(group.as_slice(), step) {
+    if is_newest(rows, row.at, steps, step) {
+        let group = group_of(alloc, rows, row.at, steps)?;
         push_line(alloc, text, findings, sought, group.as_slice(), step, row)?;
         return Ok(());
     }
@@ -422,14 +422,16 @@ fn is_of(pc: u32, rows: &[StepRow], step: u32) -> bool
     }
 }
 
-/// Whether a step is the first of these.
-fn is_first(steps: &[u32], step: u32) -> bool
-    ensures { result ≡ is_value step (slice_get steps.now 0) }
+/// Whether a step is the first one of the instruction at an address, among these.
+fn is_newest(rows: &[StepRow], pc: u32, steps: &[u32], step: u32) -> bool
+    ensures { result ≡ is_value step (slice_get (filter (λ k. is_of pc (slice_get rows.now k)) steps.now) 0) }
 {
-    match steps.first() {
-        Some(first) => *first == step,
-        None => false,
+    for other in steps {
+        if is_of(pc, rows, *other) {
+            return *other == step;
+        }
     }
+    false
 }
 
 /// Those of the steps that are known to have written one of the bytes.

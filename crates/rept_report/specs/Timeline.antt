@@ -82,6 +82,10 @@ abbrev pub IsRowBetween : Timeline → ℕ → ℕ → Option ℕ → Type 0
 IsRowBetween t m w None = (i : ℕ) → IsBetween t m w i → ⊥
 IsRowBetween t m w (Some i) = IsBetween t m w i × ((j : ℕ) → IsBetween t m w j → j ≡ i)
 
+-- the moment before each row has the row's number, as in a run of one thread
+abbrev pub HasEqualNumbers : Timeline → Type 0
+HasEqualNumbers t = (i : ℕ) → IsSome (t.legs.row i) → t.moments.before i ≡ i
+
 -- a row that doesn't lie wholly before a moment
 pub record IsOpen (t : Timeline) (m i : ℕ) : Type 0 where
   pub row : IsSome (t.legs.row i)

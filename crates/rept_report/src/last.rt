@@ -5,6 +5,6 @@ pub mod sought;
 pub mod writers;
 pub mod writes;
 
-pub use sought::SoughtRows;
+pub use sought::{SoughtByte, SoughtRows};
 pub use writers::{last_writer, possible_writer};
 pub use writes::RowWrites;

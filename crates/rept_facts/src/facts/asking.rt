@@ -1,24 +1,25 @@
 //! What facts and sets answer.
 
-ghost use Rattle.std.specs.Prelude.{◌≡◌, ◌+◌, ◌<◌, ◌≤◌, ◌==◌, ◌&&◌, if◌then◌else◌, length, true, false, Some, None, IfSome, is_some, ◌*◌, ◌-◌, ◌↔◌, IsTrue};
+ghost use Rattle.std.specs.Prelude.{◌≡◌, ◌+◌, ◌<◌, ◌≤◌, ◌==◌, ◌&&◌, length, true, false, Some, None, IfSome, is_some, ◌*◌, ◌-◌, ◌↔◌, IsTrue};
 ghost use Rattle.rept_reason.specs.declared.fact.Cell.TheVariants.{Byte, Register};
 ghost use Rattle.rept_reason.specs.Facts.{told, register_fact, register_known};
 ghost use Rattle.rept_span.specs.Filled.{entry_at};
 ghost use Rattle.rept_report.specs.Spots.{spot};
-ghost use Rattle.rept_report.specs.Timeline.{IsBegun};
+ghost use Rattle.rept_report.specs.Timeline.{HasEqualNumbers, IsBegun, IsGreatestTo};
 ghost use Rattle.rept_report.specs.Writers.{IsWriter};
 ghost use Rattle.rept_report.specs.Log.{oldest, entry, place_of};
 ghost use Rattle.rept_facts.specs.State.{setting_of, state_of, reader};
 ghost use Rattle.rept_facts.specs.Inferring.{IsFitted, IsSettled};
 ghost use Rattle.rept_facts.specs.Kept.{answers};
-ghost use Rattle.rept_report.specs.Last.Latest.{IsPossibleWriter};
+ghost use Rattle.rept_report.specs.Last.Latest.{IsMaybe, IsNoneFrom, IsPossibleWriter};
+ghost use Rattle.rept_facts.specs.Latest.{ArePassed, writes_by};
 
 use super::CrashFacts;
 use rept_isa::Reg;
 use rept_log::LastValues;
 use rept_partial::Flat;
 use rept_reason::{Fact, RowRules};
-use rept_report::{Paths, Reaches, SoughtRows, Writer, last_writer, possible_writer};
+use rept_report::{Paths, Reaches, SoughtByte, SoughtRows, Writer, last_writer, possible_writer};
 use rept_span::Transfer;
 use rept_versions::ByteFacts;
 
@@ -42,35 +43,74 @@ impl<
     }
 
     /// What is said of the row that last wrote a byte before a moment, by these facts.
-    fn last_writer(&self, moment: u32, a: u32) -> Writer
+    fn last_writer(&self, byte: SoughtByte) -> Writer
         requires fitted { IsFitted (state_of (reader P.timeline L.values) W.sets W.moves R.rules B.store self.now) }
-        ensures { IsWriter (setting_of (reader P.timeline L.values) W.sets W.moves R.rules self.now) (told (oldest self.now.filled self.now.known.log)) (spot moment a) result }
+        requires none { IsNoneFrom (IsMaybe (P.timeline self.now.paths) (writes_by (setting_of (reader P.timeline L.values) W.sets W.moves R.rules self.now) (told (oldest self.now.filled self.now.known.log))) (spot byte.moment byte.address)) byte.end }
+        ensures { IsWriter (setting_of (reader P.timeline L.values) W.sets W.moves R.rules self.now) (told (oldest self.now.filled self.now.known.log)) (spot byte.moment byte.address) result }
     {
-        last_writer(&self.paths, self, moment, a)
+        last_writer(&self.paths, self, byte)
     }
 
-    /// What is said of the row that last wrote a byte that no row may write.
-    fn no_writer(&self) -> Writer
-        ensures { result ≡ (if (P.timeline self.now.paths).moments.is_untraced then Writer.Several else Writer.None) }
+    /// The number after the greatest one below a given one of a row that may write a byte, or 0,
+    /// where all is learnt and rows have the numbers of moments.
+    fn past_writer(&self, number: u32, a: u32) -> u32
+        requires settled { IsSettled (state_of (reader P.timeline L.values) W.sets W.moves R.rules B.store self.now) }
+        requires equal { HasEqualNumbers (P.timeline self.now.paths) }
+        ensures { ArePassed (setting_of (reader P.timeline L.values) W.sets W.moves R.rules self.now) (told (oldest self.now.filled self.now.known.log)) number a result }
     {
-        if self.paths.is_untraced() {
-            Writer::Several
-        } else {
-            Writer::None
+        let past = self.past_hit(0, number, a);
+        self.number_past(past)
+    }
+
+    /// The greatest row that doesn't lie wholly after a moment, if there is one.
+    fn last_begun(&self, moment: u32) -> Option<u32>
+        ensures row { IsGreatestTo (IsBegun (P.timeline self.now.paths) moment) (P.timeline self.now.paths).legs.count result }
+        ensures inside { IfSome result (λ i. i < (P.timeline self.now.paths).legs.count) }
+    {
+        self.paths.begun_to(moment, self.count())
+    }
+
+    /// The number after the greatest one of a row that may have written a byte before a moment,
+    /// where all is learnt and rows have the numbers of moments.
+    fn past_begun(&self, moment: u32, a: u32) -> u32
+        requires settled { IsSettled (state_of (reader P.timeline L.values) W.sets W.moves R.rules B.store self.now) }
+        requires equal { HasEqualNumbers (P.timeline self.now.paths) }
+        ensures { IsNoneFrom (IsMaybe (P.timeline self.now.paths) (writes_by (setting_of (reader P.timeline L.values) W.sets W.moves R.rules self.now) (told (oldest self.now.filled self.now.known.log))) (spot moment a)) result }
+    {
+        let _count = self.count();
+        match self.last_begun(moment) {
+            None => 0,
+            Some(row) => self.past_writer(row + 1, a),
         }
     }
 
-    /// What is said of the row that last wrote a byte before a moment, where all is learnt. The
-    /// rows are gone through only where one of the list may write the byte.
+    /// A row's number where all is learnt: no row that may have written a byte before a moment has
+    /// this one or a greater one.
+    fn end_of_writers(&self, moment: u32, a: u32) -> u32
+        requires settled { IsSettled (state_of (reader P.timeline L.values) W.sets W.moves R.rules B.store self.now) }
+        ensures { IsNoneFrom (IsMaybe (P.timeline self.now.paths) (writes_by (setting_of (reader P.timeline L.values) W.sets W.moves R.rules self.now) (told (oldest self.now.filled self.now.known.log))) (spot moment a)) result }
+    {
+        if self.paths.has_equal_numbers() {
+            return self.past_begun(moment, a);
+        }
+        let listed = self.writing_count();
+        match self.next_hit(0, listed, a) {
+            None => 0,
+            Some(_) => self.count(),
+        }
+    }
+
+    /// What is said of the row that last wrote a byte before a moment, where all is learnt.
     fn settled_writer(&self, moment: u32, a: u32) -> Writer
         requires settled { IsSettled (state_of (reader P.timeline L.values) W.sets W.moves R.rules B.store self.now) }
         ensures { IsWriter (setting_of (reader P.timeline L.values) W.sets W.moves R.rules self.now) (told (oldest self.now.filled self.now.known.log)) (spot moment a) result }
     {
-        let count = self.writing_count();
-        match self.next_hit(0, count, a) {
-            Some(_) => self.last_writer(moment, a),
-            None => self.no_writer(),
-        }
+        let end = self.end_of_writers(moment, a);
+        self.last_writer(SoughtByte {
+            moment,
+            address: a,
+            end,
+        })
     }
 
     /// The byte that a fact tells, of those that are answered.
@@ -103,8 +143,13 @@ impl<
         if self.ended() {
             return self.settled_writer(moment, a);
         }
-        let address = None;
-        possible_writer(&self.paths, self, SoughtRows { moment, address })
+        let end = self.count();
+        let rows = SoughtRows {
+            moment,
+            address: None,
+            end,
+        };
+        possible_writer(&self.paths, self, rows)
     }
 
     /// Whether the value of a register other than x0 is answered.

@@ -1,11 +1,7 @@
 -- What a search for the last one of some rows has found so far.
-use Rattle.std.proofs.Common.{◌≡◌, ◌≢◌, ℕ, ◌<◌, ◌≤◌}
+use Rattle.std.proofs.Common.{◌≡◌, ◌≢◌, ℕ, ◌<◌}
 use Rattle.rept_report.specs.Latest.{IsEarlierRow, IsLatest}
 use Rattle.rept_report.specs.Moments.{Moments}
-
--- none of them has this number or a greater one
-abbrev pub IsNoneFrom : (ℕ → Type 0) → ℕ → Type 0
-IsNoneFrom Is n = (k : ℕ) → n ≤ k → Is k → ⊥
 
 -- each of them below a number lies before this one, but for it
 abbrev pub AreBefore : Moments → (ℕ → Type 0) → ℕ → ℕ → Type 0

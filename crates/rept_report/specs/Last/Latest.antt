@@ -1,6 +1,6 @@
 -- Which of some rows is the last one, and what is said of the row that last wrote a byte. This
 -- project's own.
-use Rattle.std.specs.Prelude.{◌≡◌, ℕ, ◌<◌, Bool, true, false, ◌&&◌, Option, Some, None}
+use Rattle.std.specs.Prelude.{◌≡◌, ℕ, ◌<◌, ◌≤◌, Bool, true, false, ◌&&◌, Option, Some, None}
 use Rattle.rept_report.specs.Latest.{IsLatest, HasNone}
 use Rattle.rept_report.specs.Moments.{Moments}
 use Rattle.rept_report.specs.Spots.{Spot, spot}
@@ -46,6 +46,10 @@ IsLastWriter t writes x (writers.TheVariants.Writes j) = IsLatest t.moments (IsM
 IsLastWriter t writes x (writers.TheVariants.MayWrite j) = IsLatest t.moments (IsMaybe t writes x) j × (is_certain t.moments writes x.moment j ≡ false)
 IsLastWriter t writes x writers.TheVariants.Several = ((j : ℕ) → IsLatest t.moments (IsMaybe t writes x) j → ⊥) × (HasNone t.moments (IsMaybe t writes x) → ⊥)
 IsLastWriter t writes x writers.TheVariants.None = HasNone t.moments (IsMaybe t writes x)
+
+-- none of some has this number or a greater one
+abbrev pub IsNoneFrom : (ℕ → Type 0) → ℕ → Type 0
+IsNoneFrom Is n = (k : ℕ) → n ≤ k → Is k → ⊥
 
 -- the greatest number of some, or that there is none
 abbrev pub IsGreatest : (ℕ → Type 0) → Option ℕ → Type 0

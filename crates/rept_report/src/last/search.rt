@@ -4,7 +4,7 @@
 ghost use Rattle.std.specs.Prelude.{◌≡◌, ◌≢◌, ◌<◌, ◌≤◌, ◌↔◌, if◌then◌else◌, ℕ, true, false, IfSome, IsSome};
 ghost use Rattle.rept_report.specs.Latest.{IsEarlierRow, IsLatest};
 ghost use Rattle.rept_report.specs.Timeline.{IsLeastFrom, IsGreatestTo, IsBegun, IsClose};
-ghost use Rattle.rept_report.specs.Last.Latest.{CanAsk, IsGreatest, IsPossibleWriter, IsSought};
+ghost use Rattle.rept_report.specs.Last.Latest.{CanAsk, IsGreatest, IsNoneFrom, IsPossibleWriter, IsSought};
 
 use crate::last::sought::SoughtRows;
 use crate::last::writes::RowWrites;
@@ -80,10 +80,11 @@ impl<'k, P: Paths, M: RowWrites> LastRowSearch<'k, P, M> {
     /// The last of these rows by number: the first one back from the moment.
     fn greatest(&self) -> Option<u32>
         requires ready { CanAsk (P.timeline self.now.paths.now) (M.ready self.now.rows.now) self.now.sought }
+        requires none { IsNoneFrom (IsSought (P.timeline self.now.paths.now) (M.writes self.now.rows.now) self.now.sought) self.now.sought.end }
         ensures row { IsGreatest (IsSought (P.timeline self.now.paths.now) (M.writes self.now.rows.now) self.now.sought) result }
         ensures inside { IfSome result (λ i. i < (P.timeline self.now.paths.now).legs.count) }
     {
-        let mut high = self.paths.last_point();
+        let mut high = self.sought.end;
         while high > 0 {
             let Some(i) = begun_to(self.paths, self.sought.moment, high - 1) else {
                 return None;
@@ -156,6 +157,7 @@ impl<'k, P: Paths, M: RowWrites> LastRowSearch<'k, P, M> {
     /// other did.
     pub fn writer(&self) -> Writer
         requires ready { CanAsk (P.timeline self.now.paths.now) (M.ready self.now.rows.now) self.now.sought }
+        requires none { IsNoneFrom (IsSought (P.timeline self.now.paths.now) (M.writes self.now.rows.now) self.now.sought) self.now.sought.end }
         ensures { IsPossibleWriter (P.timeline self.now.paths.now).moments (IsSought (P.timeline self.now.paths.now) (M.writes self.now.rows.now) self.now.sought) result }
     {
         let Some(top) = self.greatest() else {

@@ -8,4 +8,17 @@ pub struct SoughtRows {
     pub moment: u32,
     /// The address.
     pub address: Option<u32>,
+    /// A row's number: none of them has this one or a greater one. The search begins below it.
+    pub end: u32,
+}
+
+/// A byte of which the last writer is sought.
+#[derive(Clone, Copy)]
+pub struct SoughtByte {
+    /// The number of the moment.
+    pub moment: u32,
+    /// The address.
+    pub address: u32,
+    /// A row's number: no row that may have written the byte has this one or a greater one.
+    pub end: u32,
 }

@@ -2,17 +2,18 @@
 
 ghost use Rattle.std.specs.Prelude.{◌≡◌, ◌<◌, ℕ, IsSome};
 ghost use Rattle.rept_report.specs.Spots.{spot};
-ghost use Rattle.rept_report.specs.Last.Latest.{CanAsk, IsLastWriter, IsPossibleWriter, IsSought, is_certain};
+ghost use Rattle.rept_report.specs.Last.Latest.{CanAsk, IsLastWriter, IsMaybe, IsNoneFrom, IsPossibleWriter, IsSought, is_certain};
 
 use crate::last::search::LastRowSearch;
-use crate::last::sought::SoughtRows;
+use crate::last::sought::{SoughtByte, SoughtRows};
 use crate::last::writes::RowWrites;
 use crate::{Paths, Writer};
 
 /// What is said of the row that last wrote, where each of the rows that are sought may have written
 /// and no other did.
 pub fn possible_writer<P: Paths, M: RowWrites>(paths: &P, rows: &M, sought: SoughtRows) -> Writer
-    requires { CanAsk (P.timeline paths.now) (M.ready rows.now) sought }
+    requires ready { CanAsk (P.timeline paths.now) (M.ready rows.now) sought }
+    requires none { IsNoneFrom (IsSought (P.timeline paths.now) (M.writes rows.now) sought) sought.end }
     ensures { IsPossibleWriter (P.timeline paths.now).moments (IsSought (P.timeline paths.now) (M.writes rows.now) sought) result }
 {
     let search = LastRowSearch {
@@ -33,12 +34,23 @@ fn is_certain<P: Paths, M: RowWrites>(paths: &P, rows: &M, row: u32, moment: u32
 }
 
 /// What is said of the row that last wrote a byte before a moment.
-pub fn last_writer<P: Paths, M: RowWrites>(paths: &P, rows: &M, moment: u32, a: u32) -> Writer
-    requires { (i : ℕ) → i < (P.timeline paths.now).legs.count → M.ready rows.now i }
-    ensures { IsLastWriter (P.timeline paths.now) (M.writes rows.now) (spot moment a) result }
+pub fn last_writer<P: Paths, M: RowWrites>(paths: &P, rows: &M, byte: SoughtByte) -> Writer
+    requires ready { (i : ℕ) → i < (P.timeline paths.now).legs.count → M.ready rows.now i }
+    requires none { IsNoneFrom (IsMaybe (P.timeline paths.now) (M.writes rows.now) (spot byte.moment byte.address)) byte.end }
+    ensures { IsLastWriter (P.timeline paths.now) (M.writes rows.now) (spot byte.moment byte.address) result }
 {
-    let address = Some(a);
-    match possible_writer(paths, rows, SoughtRows { moment, address }) {
+    let moment = byte.moment;
+    let address = Some(byte.address);
+    let end = byte.end;
+    match possible_writer(
+        paths,
+        rows,
+        SoughtRows {
+            moment,
+            address,
+            end,
+        },
+    ) {
         Writer::MayWrite(row) => {
             if is_certain(paths, rows, row, moment) {
                 Writer::Writes(row)

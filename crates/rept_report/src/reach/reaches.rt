@@ -3,6 +3,7 @@
 ghost use Rattle.std.specs.Prelude.{◌≡◌, ◌≤◌, ◌<◌, ◌+◌, true};
 ghost use Rattle.std.specs.Option.{IsSome};
 ghost use Rattle.rept_report.specs.Reach.Reaching.{IsBar, IsExtent, IsLeaving, IsReachedUp, IsReachedDown};
+ghost use Rattle.rept_report.specs.Timeline.{HasEqualNumbers};
 
 use crate::Paths;
 
@@ -34,6 +35,11 @@ pub trait Reaches: Paths {
     fn extent(&self, row: u32) -> NumberWindow
         requires row { IsSome ((Self.timeline self.now).legs.row row) }
         ensures { IsExtent (Self.timeline self.now).moments row result };
+
+    /// Whether the moment before each row has the row's number, as in a run of one thread. False
+    /// says nothing.
+    fn has_equal_numbers(&self) -> bool
+        ensures { result ≡ true → HasEqualNumbers (Self.timeline self.now) };
 
     /// A number from one of a window on, before the window's end, before which no number from there
     /// on has a next one outside the window.

@@ -5,8 +5,8 @@ use Rattle.rept_isa.specs.declared.row.StepRow.{StepRow}
 use Rattle.rept_questions.specs.Texts.{group_line, group_of, is_of, is_value}
 use Rattle.rept_questions.proofs.writers.push_group.Goals as goal
 
-pub returns-then-is_first : goal.returns-then-is_first
-returns-then-is_first g c =
+pub returns-then-is_newest : goal.returns-then-is_newest
+returns-then-is_newest g c =
     let s = g.F.Findings.shown c.args.findings.now in
     let t = c.args.sought.thread in
     let row = c.args.row.now in
@@ -15,8 +15,8 @@ returns-then-is_first g c =
     c.in_ok-group.ensures ∙ ap (λ (rows : List StepRow). filter (λ k. is_of row.at (slice_get rows k)) c.args.steps.now) c.rows-rows.ensures.list
     in
     let first : is_value j (slice_get (group_of s t row.at c.args.steps.now) 0) ≡ true =
-    ap (λ (xs : List ℕ). is_value j (slice_get xs 0)) (sym (c.as_slice.ensures.value ∙ group)) ∙ sym c.is_first.ensures ∙ c.if-is_first.true
+    ap (λ (rows : List StepRow). is_value j (slice_get (filter (λ k. is_of row.at (slice_get rows k)) c.args.steps.now) 0)) (sym c.rows-rows.ensures.list) ∙ sym c.is_newest.ensures ∙ c.if-is_newest.true
     in
     c.in_ok-push_line.ensures
-    ∙ ap (λ (xs : List ℕ). c.args.text.now ++ group_line s c.args.sought.bytes t j row xs) (c.as_slice-then-is_first.ensures.value ∙ group)
+    ∙ ap (λ (xs : List ℕ). c.args.text.now ++ group_line s c.args.sought.bytes t j row xs) (c.as_slice.ensures.value ∙ group)
     ∙ ap (λ (b : Bool). c.args.text.now ++ (if b then group_line s c.args.sought.bytes t j row (group_of s t row.at c.args.steps.now) else [])) (sym first)

@@ -1,7 +1,8 @@
-use Rattle.std.proofs.Common.{subst}
+use Rattle.std.proofs.Common.{◌<◌, subst, arith}
 use Rattle.rept_report.specs.Timeline.{IsBegun}
 use Rattle.rept_report.specs.Last.Latest.{IsPossibleWriter}
 use Rattle.rept_facts.specs.State.{AnalysisState, Whole, state_of, reader}
+use Rattle.rept_facts.proofs.Along.{there_inside}
 use Rattle.rept_facts.proofs.Answering.{writer_answers}
 use Rattle.rept_facts.proofs.facts.CrashFacts.writer.Goals as goal
 
@@ -13,3 +14,9 @@ returns-then-ended-clause-ended g c = λ complete.
 pub returns-clause-open : goal.returns-clause-open
 returns-clause-open g c = λ unfinished.
     subst (λ (x : Whole g.row.P.Denot g.row.L.Denot g.row.B.Denot g.row.W.Denot g.row.R.Denot). IsPossibleWriter (g.P.Paths.timeline x.paths).moments (IsBegun (g.P.Paths.timeline x.paths) c.args.moment) c.possible_writer.result) c.self.view_is c.possible_writer.ensures
+
+pub possible_writer-requires-clause-none : goal.possible_writer-requires-clause-none
+possible_writer-requires-clause-none g c = λ k out h.
+    let its = there_inside (g.P.Paths.timeline c.self.inside.paths) (g.met.P.Paths.lawful c.self.inside.paths).legs k h.row in
+    let inside = subst (λ (x : Whole g.row.P.Denot g.row.L.Denot g.row.B.Denot g.row.W.Denot g.row.R.Denot). k < (g.P.Paths.timeline x.paths).legs.count) c.self.view_is its in
+    omega (arith, inside, out, c.count-end.ensures.value)

@@ -1,5 +1,4 @@
-use Rattle.rept_report.specs.Last.Latest.{IsSought}
-use Rattle.rept_report.proofs.LastLemmas.Latest.{IsNoneFrom}
+use Rattle.rept_report.specs.Last.Latest.{IsNoneFrom, IsSought}
 use Rattle.rept_report.proofs.last.search.LastRowSearch.greatest.Given as goal
 
 abbrev pub invariant-loop-high : goal.invariant-loop-high
