@@ -1,6 +1,6 @@
 //! The rules of RV32IMA.
 
-ghost use Rattle.std.specs.Prelude.{◌≡◌, ℕ, ◌+◌, ◌++◌, ◌^◌, ◌<◌, min, Contains, Some};
+ghost use Rattle.std.specs.Prelude.{◌≡◌, ◌+◌, ◌++◌, ◌<◌, min, Contains, Some};
 ghost use Rattle.rept_reason.specs.declared.view.inferred.Conclusion.{Conclusion};
 ghost use Rattle.rept_amo.specs.Conclusions.{AtomicConcludes, form_of};
 ghost use Rattle.rept_amo.specs.Listing.{inferred_of, access_inferred};
@@ -29,18 +29,6 @@ use std::alloc::Global;
 pub struct Atomic {
     base: Base,
     infers: u64,
-}
-
-impl Atomic {
-    /// The rules, by which nothing was inferred yet.
-    pub fn new() -> Self
-        ensures { result.infers ≡ 0 }
-    {
-        Atomic {
-            base: Base::new(),
-            infers: 0,
-        }
-    }
 }
 
 /// All that a row of this form gives, where its address is known.
@@ -76,6 +64,13 @@ impl RowRules for Atomic {
     ghost infers = { λ a. a.infers };
 
     ghost lawful = { atomic_lawful };
+
+    fn new() -> Self {
+        Atomic {
+            base: Base::new(),
+            infers: 0,
+        }
+    }
 
     fn infer<V: RowView>(
         &mut self,

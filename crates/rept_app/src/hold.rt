@@ -1,8 +1,8 @@
 //! Holding a session over what an analysis found.
 
-ghost use Rattle.std.specs.Prelude.{◌≡◌, IfSome};
+ghost use Rattle.std.specs.Prelude.{IfSome};
 ghost use Rattle.rept_ports.specs.Port.{move};
-ghost use Rattle.rept_findings.specs.Shown.{SameReasons, session_told};
+ghost use Rattle.rept_findings.specs.Shown.{session_told};
 ghost use Rattle.rept_opening.specs.Delivered.{Delivers};
 ghost use Rattle.rept_app.specs.Ends.{IsCaused};
 ghost use Rattle.rept_app.specs.Held.{HoldsSession, IsHeldSession};
@@ -17,15 +17,13 @@ use std::alloc::Global;
 /// the count of packets that the path was read without.
 pub fn hold<F: Findings, S: Source, K: Sink>(
     alloc: Global,
-    findings: &mut F,
+    findings: &F,
     skipped: u32,
     input: &mut S,
     out: &mut K,
 ) -> ExitStatus
-    ensures text { IfSome (S.port input.old).bytes (λ bytes. Delivers (IsHeldSession (session_told (F.shown findings.old) skipped (F.reasons findings.old)) (record { input = bytes; left = (S.port input.new).bytes })) (move (K.port out.old) (K.port out.new)) result) }
+    ensures text { IfSome (S.port input.old).bytes (λ bytes. Delivers (IsHeldSession (session_told (F.shown findings.now) skipped (F.reasons findings.now)) (record { input = bytes; left = (S.port input.new).bytes })) (move (K.port out.old) (K.port out.new)) result) }
     ensures causes { IsCaused (move (S.port input.old) (S.port input.new)) (move (K.port out.old) (K.port out.new)) result }
-    ensures same { F.shown findings.new ≡ F.shown findings.old }
-    ensures same_reasons { SameReasons (F.reasons findings.old) (F.reasons findings.new) }
 {
     match serve(alloc, findings, skipped, input, out) {
         Served::Ended => ExitStatus::Ok,
@@ -48,7 +46,7 @@ impl Asking for LineSession {
     fn ask<F: Findings, S: Source, K: Sink>(
         &mut self,
         alloc: Global,
-        findings: &mut F,
+        findings: &F,
         circumstances: Circumstances,
         input: &mut S,
         out: &mut K,

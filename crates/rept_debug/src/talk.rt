@@ -100,7 +100,7 @@ impl<'a> Asking for OpenDialog<'a> {
     fn ask<F: Findings, S: Source, K: Sink>(
         &mut self,
         alloc: Global,
-        findings: &mut F,
+        findings: &F,
         circumstances: Circumstances,
         input: &mut S,
         out: &mut K,

@@ -19,18 +19,14 @@ use Rattle.rept_report.proofs.Places.{oldest_all, oldest_less, place_none}
 use Rattle.rept_report.proofs.Standing.{front_quiet}
 use Rattle.rept_report.proofs.Explained.{known_by, inferred_by, carried_by}
 use Rattle.rept_report.proofs.Implied.{known_stands}
-use Rattle.rept_isa.specs.declared.row.StepRow.{StepRow}
 use Rattle.rept_partial.specs.Sets.{Sets}
 use Rattle.rept_span.specs.Moves.{Moves}
 use Rattle.rept_reason.specs.View.Rules.{Rules}
 use Rattle.rept_versions.specs.Facts.{Store}
-use Rattle.rept_log.specs.Fronts.{FrontView, Stored, IsFront, basis_of, front_of, stands}
-use Rattle.rept_facts.specs.State.{AnalysisState, Whole, Reader, setting_of, state_of, with_infers, along}
-use Rattle.rept_facts.specs.Inferring.{IsRowInferred, IsSettled}
+use Rattle.rept_log.specs.Fronts.{Stored, IsFront, basis_of, front_of, stands}
+use Rattle.rept_facts.specs.State.{AnalysisState, Whole, Reader, setting_of, state_of, along}
 use Rattle.rept_facts.specs.Kept.{is_among, answers, IsFinished, IsKept}
 use Rattle.rept_facts.specs.Reasoned.{front_below, AreSetsOf, IsNotLast}
-use Rattle.rept_facts.proofs.Barriers.{writings_still}
-use Rattle.rept_facts.proofs.Passing.{passes_more}
 use Rattle.rept_facts.proofs.Learning.{known_words}
 use Rattle.rept_facts.proofs.Answering.{answers_early}
 use Rattle.rept_facts.proofs.Explaining.{has_ended, ends_with, front_at, front_finds, one_stands, bytes_early}
@@ -207,44 +203,3 @@ front_same {P} {L} read sets moves rules a t b is = ap (λ (x : Stored P L). fro
 
 pub front_by : {P L B W R : Type 0} (read : Reader P L) (sets : Sets W) (moves : Moves W) (rules : Rules) (store : B → Store) (a : Whole P L B W R) (t : ℕ) (spans : View W) → HasLaws (setting_of read sets moves rules a) → IsKept (state_of read sets moves rules store a) → IsFinished (state_of read sets moves rules store a) → AreSetsOf (setting_of read sets moves rules a) (oldest t a.known.log) spans → IsFront (front_of sets moves rules (basis_of read.timeline read.last (record { paths = a.paths; last = a.last; exe = a.exe; core = a.core; facts = oldest t a.known.log }))) a.known.last spans
 front_by read sets moves rules store a t spans laws kept finished its = front_is (state_of read sets moves rules store a) laws kept finished t spans its
-
--- an analysis stays what it is, however often rules were applied
-module _ {W : Type 0} (s : AnalysisState W) (kept : IsKept s) (n : ℕ) where
-  row_again : (i : ℕ) (row : StepRow) → IsRowInferred row i s → IsRowInferred row i (with_infers s n)
-  row_again i row d = record { registers = λ r named in_file kept'. let k = d.registers r named in_file kept' in record { onward = k.onward; back = k.back }; tracked = d.tracked; inferred = d.inferred }
-
-  settled_again : IsSettled s → IsSettled (with_infers s n)
-  settled_again h = record {
-    quiet = h.quiet;
-    fitted = h.fitted;
-    filled = h.filled;
-    inferred = record {
-      last = h.inferred.last;
-      rows = λ i inside row found. row_again i row (h.inferred.rows i inside row found);
-      bytes = h.inferred.bytes;
-      carried = λ a m w at. let k = h.inferred.carried a m w at in record { onward = k.onward; back = k.back };
-      singles = h.inferred.singles;
-    };
-    writings = writings_still s (with_infers s n) refl refl refl (λ p c v e. e) refl (λ x. x) h.writings;
-    exact = h.exact;
-  }
-
-  pub kept_inferred_again : IsKept (with_infers s n)
-  kept_inferred_again = record {
-    few = kept.few;
-    registers = kept.registers;
-    last_is = kept.last_is;
-    sized = kept.sized;
-    filled = kept.filled;
-    once = kept.once;
-    traced = record { entries = kept.traced.entries; trace = kept.traced.trace; logged = kept.traced.logged; agree = kept.traced.agree };
-    listed = kept.listed;
-    shown = kept.shown;
-    calm = kept.calm;
-    stopped = kept.stopped;
-    finished = λ e. let h = kept.finished e in record { settled = settled_again h.settled; report = h.report; all = h.all };
-    room = kept.room;
-    rows = kept.rows;
-    inferred = passes_more s (with_infers s n) refl (λ p c v e. e) refl kept.inferred;
-    roomy = kept.roomy;
-  }

@@ -8,9 +8,8 @@ use Rattle.rept_report.specs.Log.{oldest, entry}
 use Rattle.rept_partial.specs.Sets.{Sets}
 use Rattle.rept_span.specs.Moves.{Moves}
 use Rattle.rept_reason.specs.View.Rules.{Rules}
-use Rattle.rept_report.specs.Timeline.{Timeline}
 use Rattle.rept_log.specs.Fronts.{FrontView}
-use Rattle.rept_facts.specs.State.{Whole, AnalysisState, Reader, given_of}
+use Rattle.rept_facts.specs.State.{Whole, Reader, given_of}
 
 -- the facts at places below t, of what is given
 abbrev pub front_below : {P L B W R : Type 0} → Reader P L → Sets W → Moves W → Rules → Whole P L B W R → ℕ → FrontView W
@@ -26,17 +25,6 @@ front_below read sets moves rules a t = record {
 pub record AreSetsOf {W : Type 0} (S : Setting W) (facts : List Fact) (spans : View W) : Type 0 where
   pub sized : spans.points ≡ S.legs.count + 1
   pub filled : IsFilled (way_of S) spans (told facts)
-
--- All that an analysis answers, and all that it holds but for how often rules were applied, is as
--- it was.
-pub record KeepsAll {W : Type 0} (old new : AnalysisState W) : Type 0 where
-  pub path : new.path ≡ old.path
-  pub known : new.known ≡ old.known
-  pub spans : new.spans ≡ old.spans
-  pub filled : new.filled ≡ old.filled
-  pub shown : new.shown ≡ old.shown
-  pub complete : new.complete ≡ old.complete
-  pub conflict : new.conflict ≡ old.conflict
 
 -- the fact isn't the newest one of those at places below t
 abbrev pub IsNotLast : List Fact → Fact → ℕ → Type 0

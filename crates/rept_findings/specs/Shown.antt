@@ -1,6 +1,6 @@
 -- What a session tells of an analysis of a run of threads. Registers go by their numbers. This
 -- project's own.
-use Rattle.std.specs.Prelude.{ℕ, Bool, ◌↔◌, ◌+◌, ◌<◌, ◌≤◌, List, length, Option}
+use Rattle.std.specs.Prelude.{ℕ, Bool, ◌+◌, ◌<◌, ◌≤◌, List, length, Option}
 use Rattle.rept_elf.specs.Symbols.{FunctionSymbol}
 use Rattle.rept_isa.specs.declared.row.StepRow.{StepRow}
 use Rattle.rept_partial.specs.declared.range.Range.{Range}
@@ -77,10 +77,6 @@ pub record SessionTold : Type 1 where
 
 abbrev pub session_told : Shown → ℕ → (Fact → Because → Type 0) → SessionTold
 session_told shown skipped reasons = record { shown = shown; skipped = skipped; reasons = reasons }
-
--- the same reasons of each fact
-abbrev pub SameReasons : (Fact → Because → Type 0) → (Fact → Because → Type 0) → Type 0
-SameReasons old new = (fact : Fact) (why : Because) → old fact why ↔ new fact why
 
 -- the value of a register at a point, or of a byte at a moment
 abbrev pub known_value : Shown → ℕ → Cell → Option ℕ

@@ -4,7 +4,7 @@ ghost use Rattle.std.specs.Prelude.{◌≡◌, ◌≢◌, ℕ, ◌<◌, ◌≤�
 ghost use Rattle.std.specs.Option.{option_map};
 ghost use Rattle.rept_elf.specs.Symbols.{symbol_of};
 ghost use Rattle.rept_findings.specs.LastWriters.{AreLastWriters};
-ghost use Rattle.rept_findings.specs.Shown.{IsThreadPoint, SameReasons, Shown, explained, known_value, moment_at, number, places_of};
+ghost use Rattle.rept_findings.specs.Shown.{IsThreadPoint, Shown, explained, known_value, moment_at, number, places_of};
 ghost use Rattle.rept_findings.specs.Texts.{pc_at};
 ghost use Rattle.rept_reason.specs.declared.fact.Fact.{Fact};
 ghost use Rattle.rept_reason.specs.declared.fact.Cell.TheVariants.{Register};
@@ -65,7 +65,7 @@ pub enum BeyondRule {
 /// steps has the points 0 to n. The points of all threads have numbers, those of a thread side by
 /// side, and so have the moments at which bytes have values; of one thread both are its points.
 /// `shown` is all that a session tells of it but for reasons, and `reasons` says what is a reason
-/// of a fact; no call changes what they are.
+/// of a fact.
 pub trait Findings {
     ghost shown: { Self → Shown };
 
@@ -187,14 +187,12 @@ pub trait Findings {
 
     /// A reason of a fact of the report, which isn't one of x0: its value needs no reason. None
     /// only where the fact isn't known. A refusal is for running out of memory alone.
-    fn why(&mut self, alloc: Global, fact: Fact) -> Result<Option<Reason>, OutOfMemory>
-        requires point { fact.point < places_of (shown self.old) fact.cell }
+    fn why(&self, alloc: Global, fact: Fact) -> Result<Option<Reason>, OutOfMemory>
+        requires point { fact.point < places_of (shown self.now) fact.cell }
         requires named { fact.cell ≢ Register 0 }
-        requires reported { (shown self.old).is_inferred fact.point fact.cell ≡ false }
-        ensures none { IfOk result (λ found. IfNone found (known_value (shown self.old) fact.point fact.cell ≢ Some fact.value)) }
-        ensures reason { IfOk result (λ found. IfSome found (λ reason. reasons self.old fact (explained reason))) }
-        ensures same { shown self.new ≡ shown self.old }
-        ensures same_reasons { SameReasons (reasons self.old) (reasons self.new) };
+        requires reported { (shown self.now).is_inferred fact.point fact.cell ≡ false }
+        ensures none { IfOk result (λ found. IfNone found (known_value (shown self.now) fact.point fact.cell ≢ Some fact.value)) }
+        ensures reason { IfOk result (λ found. IfSome found (λ reason. reasons self.now fact (explained reason))) };
 }
 
 /// The address at a point of a thread.

@@ -152,7 +152,7 @@ impl<'a, W: Transfer, R: RowRules> Findings for AnalysedCrash<'a, W, R> {
         false
     }
 
-    fn why(&mut self, alloc: Global, fact: Fact) -> Result<Option<Reason>, OutOfMemory> {
+    fn why(&self, alloc: Global, fact: Fact) -> Result<Option<Reason>, OutOfMemory> {
         self.analysis.why(alloc, fact)
     }
 }

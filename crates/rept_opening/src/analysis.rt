@@ -1,6 +1,6 @@
 //! From a run and its dump to what an analysis found, or the refusal of a conflict.
 
-ghost use Rattle.std.specs.Prelude.{◌≡◌, ℕ, List, IfOk, IfErr};
+ghost use Rattle.std.specs.Prelude.{ℕ, List, IfOk, IfErr};
 ghost use Rattle.rept_steps.specs.Runs.{course_of};
 ghost use Rattle.rept_moments.specs.Courses.{IsCourseOf};
 ghost use Rattle.rept_found.specs.Crash.{crash_of, means};
@@ -15,6 +15,7 @@ use rept_amo::Atomic;
 use rept_dump::Dump;
 use rept_facts::Stop;
 use rept_found::{AnalysedCrash, ThreadEnds, name_conflict, prepare, reports_are_true, search};
+use rept_reason::RowRules;
 use rept_span::Transfer;
 use rept_steps::Run;
 use rept_timeline::RunPaths;

@@ -52,12 +52,12 @@ pub trait Asking {
     fn ask<F: Findings, S: Source, K: Sink>(
         &mut self,
         alloc: Global,
-        findings: &mut F,
+        findings: &F,
         circumstances: Circumstances,
         input: &mut S,
         out: &mut K,
     ) -> Self::End
-        ensures { asks self.old (session_told (F.shown findings.old) circumstances.skipped (F.reasons findings.old)) circumstances.signal (move (S.port input.old) (S.port input.new)) (move (K.port out.old) (K.port out.new)) result };
+        ensures { asks self.old (session_told (F.shown findings.now) circumstances.skipped (F.reasons findings.now)) circumstances.signal (move (S.port input.old) (S.port input.new)) (move (K.port out.old) (K.port out.new)) result };
 }
 
 /// Analyses a run that ends in a dump, with values followed in a domain, and answers what is asked
@@ -149,6 +149,5 @@ fn ask_found<A: Asking, F: Findings + Drop, S: Source, K: Sink>(
 ) -> A::End
     ensures { A.asks asking.old (session_told (F.shown findings) circumstances.skipped (F.reasons findings)) circumstances.signal (move (S.port input.old) (S.port input.new)) (move (K.port out.old) (K.port out.new)) result }
 {
-    let mut findings = findings;
-    asking.ask(alloc, &mut findings, circumstances, input, out)
+    asking.ask(alloc, &findings, circumstances, input, out)
 }

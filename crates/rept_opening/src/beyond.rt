@@ -15,9 +15,9 @@ ghost use Rattle.rept_amo.specs.Atomic.{atomic_rules};
 ghost use Rattle.rept_narrow.specs.Admitted.{IsAdmitted};
 ghost use Rattle.rept_infer.specs.Holding.{Holds};
 ghost use Rattle.rept_infer.specs.Path.{path_reader, told_in};
-ghost use Rattle.rept_machine.specs.State.{State};
 ghost use Rattle.rept_found.specs.Inferred.Narrowed.{beyond_of, narrowed};
 ghost use Rattle.rept_findings.specs.Shown.{session_told};
+ghost use Rattle.rept_machine.specs.State.{State};
 ghost use Rattle.rept_opening.specs.Beyond.{begun_file, executable_of, story_of};
 ghost use Rattle.rept_opening.specs.Opened.{crash_run};
 ghost use Rattle.rept_opening.specs.Reading.{AreNotesOf};
@@ -34,9 +34,9 @@ use crate::refusal::Refusal;
 use crate::taken::premises_taken;
 use rept_amo::Atomic;
 use rept_dump::Dump;
-use rept_findings::{Findings, PremisesTaken};
+use rept_findings::Findings;
 use rept_found::{AnalysedCrash, InferredCrash, Reported, reports_are_true};
-use rept_infer::{InferStop, InferredPath, infer};
+use rept_infer::{InferStop, infer};
 use rept_known::Both;
 use rept_moments::one_path;
 use rept_narrow::{InferPath, KnownPath, PathPremises};
@@ -146,17 +146,15 @@ fn open_known<A: Asking, S: Source, K: Sink>(
         process: process_told(&path.images.core, image_end, (status.pid, status.regs[2])),
         begun: begun_program(path.images.executable, path.run.skipped, steps),
     };
+    let taken = premises_taken(premises.begun, steps);
     let rows = InferPath {
         rows: steps,
         image_end,
     };
     match infer(alloc, rows, &reported, &premises) {
         Ok(inferred) => {
-            let beyond = TakenPath {
-                inferred,
-                taken: premises_taken(premises.begun, steps),
-            };
-            ask_beyond::<Both, A, _, _, S, K>(alloc, path, beyond, asking, input, out)
+            let told = InferredCrash::new(known, inferred, taken);
+            Ok(ask_beyond(alloc, path, told, asking, input, out))
         }
         Err(InferStop::Contradiction(empty)) => Err(Refusal::Refuted {
             point: empty.point,
@@ -166,59 +164,38 @@ fn open_known<A: Asking, S: Source, K: Sink>(
     }
 }
 
-/// What was inferred of a path, and by which premises.
-#[derive(Drop)]
-struct TakenPath<'a, P: KnownPath, Q: PathPremises> {
-    inferred: InferredPath<'a, P, Q>,
-    taken: PremisesTaken,
-}
-
-/// Answers what is asked of the report of the path and of what was inferred beyond it. The report
-/// is made anew: what was inferred borrows the one from which it follows, and a reason of a fact
-/// changes the report that tells it.
+/// Answers what is asked of the report of the path and of what was inferred beyond it.
 fn ask_beyond<W: Transfer, A: Asking, P: KnownPath, Q: PathPremises, S: Source, K: Sink>(
     alloc: Global,
     path: PathCrash<'_>,
-    beyond: TakenPath<'_, P, Q>,
+    told: InferredCrash<'_, AnalysedCrash<'_, W, Atomic>, P, Q>,
     asking: &mut A,
     input: &mut S,
     out: &mut K,
-) -> Result<A::End, Refusal>
-    requires fits { FitsDump path.dump.now path.run.now }
-    requires course { IsCourseOf (course_of path.run.now) path.basis.now.paths.ways }
-    requires ended { AreEndsOf path.dump.now path.run.now path.basis.now.ends }
+) -> A::End
     requires one { path_rows path.run.now ≡ Some path.steps.now }
-    requires holds { (notes : List (List ℕ)) → AreNotesOf path.dump.now notes → (states : ℕ → State) → IsAdmitted (story_of (crash_of path.dump.now notes) path.run.now.skipped path.steps.now) states → Holds (story_of (crash_of path.dump.now notes) path.run.now.skipped path.steps.now) (told_in (path_reader P.set P.byte Q.premises) beyond.inferred) states }
-    requires taken { beyond.taken ≡ taken_by (begun_file (executable_of (exe_of path.dump.now)) path.run.now.skipped path.steps.now) path.steps.now }
-    ensures asked { (notes : List (List ℕ)) → AreNotesOf path.entry.dump.now notes → IfOk result (IsAsked (A.asks asking.old) (crash_run (means_beyond (means W.sets W.moves atomic_rules)) (crash_of path.entry.dump.now notes) path.entry.run.now) (move (S.port input.old) (S.port input.new)) (move (K.port out.old) (K.port out.new))) }
-    ensures refused { (notes : List (List ℕ)) → AreNotesOf path.entry.dump.now notes → IfErr result (HasNoReport (crash_run (means_beyond (means W.sets W.moves atomic_rules)) (crash_of path.entry.dump.now notes) path.entry.run.now)) }
-    ensures unread { IfErr result (λ _. (input.new ≡ input.old) × (out.new ≡ out.old)) }
+    requires found { (notes : List (List ℕ)) → AreNotesOf path.dump.now notes → IsFoundOf (crash_run (means W.sets W.moves atomic_rules) (crash_of path.dump.now notes) path.run.now) told.found.now }
+    requires holds { (notes : List (List ℕ)) → AreNotesOf path.dump.now notes → (states : ℕ → State) → IsAdmitted (story_of (crash_of path.dump.now notes) path.run.now.skipped path.steps.now) states → Holds (story_of (crash_of path.dump.now notes) path.run.now.skipped path.steps.now) (told_in (path_reader P.set P.byte Q.premises) told.inferred) states }
+    requires taken { told.taken ≡ taken_by (begun_file (executable_of (exe_of path.dump.now)) path.run.now.skipped path.steps.now) path.steps.now }
+    ensures { (notes : List (List ℕ)) → AreNotesOf path.entry.dump.now notes → IsAsked (A.asks asking.old) (crash_run (means_beyond (means W.sets W.moves atomic_rules)) (crash_of path.entry.dump.now notes) path.entry.run.now) (move (S.port input.old) (S.port input.new)) (move (K.port out.old) (K.port out.new)) result }
 {
-    match analyse::<W>(alloc, path.run, path.basis, path.dump) {
-        Ok(found) => {
-            let circumstances = Circumstances {
-                skipped: path.run.skipped,
-                signal: path.dump.status().signal,
-            };
-            Ok(ask_narrowed(alloc, found, beyond, circumstances, asking, input, out))
-        }
-        Err(refusal) => Err(refusal),
-    }
+    let circumstances = Circumstances {
+        skipped: path.run.skipped,
+        signal: path.dump.status().signal,
+    };
+    ask_narrowed(alloc, told, circumstances, asking, input, out)
 }
 
 /// Answers by findings with what was inferred beyond them.
-fn ask_narrowed<A: Asking, F: Findings + Drop, P: KnownPath, Q: PathPremises, S: Source, K: Sink>(
+fn ask_narrowed<A: Asking, F: Findings, P: KnownPath, Q: PathPremises, S: Source, K: Sink>(
     alloc: Global,
-    found: F,
-    beyond: TakenPath<'_, P, Q>,
+    told: InferredCrash<'_, F, P, Q>,
     circumstances: Circumstances,
     asking: &mut A,
     input: &mut S,
     out: &mut K,
 ) -> A::End
-    ensures { A.asks asking.old (session_told (narrowed (beyond_of (told_in (path_reader P.set P.byte Q.premises) beyond.entry.inferred) beyond.entry.taken) (F.shown found)) circumstances.skipped (F.reasons found)) circumstances.signal (move (S.port input.old) (S.port input.new)) (move (K.port out.old) (K.port out.new)) result }
+    ensures { A.asks asking.old (session_told (narrowed (beyond_of (told_in (path_reader P.set P.byte Q.premises) told.entry.inferred) told.entry.taken) (F.shown told.entry.found.now)) circumstances.skipped (F.reasons told.entry.found.now)) circumstances.signal (move (S.port input.old) (S.port input.new)) (move (K.port out.old) (K.port out.new)) result }
 {
-    let TakenPath { inferred, taken } = beyond;
-    let mut findings = InferredCrash::new(found, inferred, taken);
-    asking.ask(alloc, &mut findings, circumstances, input, out)
+    asking.ask(alloc, &told, circumstances, input, out)
 }

@@ -3,7 +3,7 @@
 ghost use Rattle.std.specs.Prelude.{◌≡◌, ◌≢◌, ℕ, ◌<◌, ◌++◌, false, IfOk, OnOk, Some};
 ghost use Rattle.std.specs.List.{flat_map};
 ghost use Rattle.rept_reason.specs.declared.fact.Cell.TheVariants.{Byte, Register};
-ghost use Rattle.rept_findings.specs.Shown.{IsThreadPoint, SameReasons, explained, known_value, number, places_of, session_told};
+ghost use Rattle.rept_findings.specs.Shown.{IsThreadPoint, explained, known_value, number, places_of, session_told};
 ghost use Rattle.rept_findings.specs.Texts.{looked_line, premise_line};
 ghost use Rattle.rept_questions.specs.Texts.{IsByteExplained, IsExplained, IsReasoned, IsRegisterExplained, IsRuled, byte_row, reason_lines, register_row};
 
@@ -20,14 +20,12 @@ use std::alloc::Global;
 /// Why a register's value is known at a point.
 pub fn why_register<F: Findings>(
     alloc: Global,
-    findings: &mut F,
+    findings: &F,
     at: ThreadPoint,
     register: Reg,
 ) -> Result<Text, OutOfMemory>
-    requires { IsThreadPoint (F.shown findings.old) at }
-    ensures text { (skipped : ℕ) → IfOk result (IsRegisterExplained (session_told (F.shown findings.old) skipped (F.reasons findings.old)) at register) }
-    ensures same { F.shown findings.new ≡ F.shown findings.old }
-    ensures same_reasons { SameReasons (F.reasons findings.old) (F.reasons findings.new) }
+    requires { IsThreadPoint (F.shown findings.now) at }
+    ensures text { (skipped : ℕ) → IfOk result (IsRegisterExplained (session_told (F.shown findings.now) skipped (F.reasons findings.now)) at register) }
 {
     if register.number() == 0 {
         return whole_text(alloc, b"constant\n");
@@ -38,15 +36,13 @@ pub fn why_register<F: Findings>(
 /// Why a register other than x0 has its value at a point.
 fn why_value<F: Findings>(
     alloc: Global,
-    findings: &mut F,
+    findings: &F,
     at: ThreadPoint,
     register: Reg,
 ) -> Result<Text, OutOfMemory>
-    requires point { IsThreadPoint (F.shown findings.old) at }
+    requires point { IsThreadPoint (F.shown findings.now) at }
     requires named { register ≢ 0 }
-    ensures text { (skipped : ℕ) → IfOk result (IsExplained (session_told (F.shown findings.old) skipped (F.reasons findings.old)) (register_row (F.shown findings.old) at register) (number (F.shown findings.old) at) (Register register) ((F.shown findings.old).register (number (F.shown findings.old) at) register)) }
-    ensures same { F.shown findings.new ≡ F.shown findings.old }
-    ensures same_reasons { SameReasons (F.reasons findings.old) (F.reasons findings.new) }
+    ensures text { (skipped : ℕ) → IfOk result (IsExplained (session_told (F.shown findings.now) skipped (F.reasons findings.now)) (register_row (F.shown findings.now) at register) (number (F.shown findings.now) at) (Register register) ((F.shown findings.now).register (number (F.shown findings.now) at) register)) }
 {
     let row = register_row(findings, at, register);
     let point = number_of(findings, at);
@@ -77,14 +73,12 @@ fn register_row<F: Findings>(findings: &F, at: ThreadPoint, register: Reg) -> u3
 /// Why the byte at an address is known at a point.
 pub fn why_byte<F: Findings>(
     alloc: Global,
-    findings: &mut F,
+    findings: &F,
     at: ThreadPoint,
     address: u32,
 ) -> Result<Text, OutOfMemory>
-    requires { IsThreadPoint (F.shown findings.old) at }
-    ensures text { (skipped : ℕ) → IfOk result (IsByteExplained (session_told (F.shown findings.old) skipped (F.reasons findings.old)) at address) }
-    ensures same { F.shown findings.new ≡ F.shown findings.old }
-    ensures same_reasons { SameReasons (F.reasons findings.old) (F.reasons findings.new) }
+    requires { IsThreadPoint (F.shown findings.now) at }
+    ensures text { (skipped : ℕ) → IfOk result (IsByteExplained (session_told (F.shown findings.now) skipped (F.reasons findings.now)) at address) }
 {
     let moment = moment_of(findings, at);
     let row = byte_row(findings, moment, address);
@@ -124,16 +118,14 @@ fn whole_text(alloc: Global, words: &[u8]) -> Result<Text, OutOfMemory>
 /// Why a known fact holds that a step left: it was inferred, or has a reason.
 fn explain<F: Findings>(
     alloc: Global,
-    findings: &mut F,
+    findings: &F,
     row: u32,
     fact: Fact,
 ) -> Result<Text, OutOfMemory>
-    requires place { fact.point < places_of (F.shown findings.old) fact.cell }
+    requires place { fact.point < places_of (F.shown findings.now) fact.cell }
     requires named { fact.cell ≢ Register 0 }
-    requires known { known_value (F.shown findings.old) fact.point fact.cell ≡ Some fact.value }
-    ensures text { (skipped : ℕ) → IfOk result (IsExplained (session_told (F.shown findings.old) skipped (F.reasons findings.old)) row fact.point fact.cell (Some fact.value)) }
-    ensures same { F.shown findings.new ≡ F.shown findings.old }
-    ensures same_reasons { SameReasons (F.reasons findings.old) (F.reasons findings.new) }
+    requires known { known_value (F.shown findings.now) fact.point fact.cell ≡ Some fact.value }
+    ensures text { (skipped : ℕ) → IfOk result (IsExplained (session_told (F.shown findings.now) skipped (F.reasons findings.now)) row fact.point fact.cell (Some fact.value)) }
 {
     if findings.is_inferred(fact.point, fact.cell) {
         return rule_text(alloc, row, findings.rule(fact.point, fact.cell));
@@ -153,16 +145,14 @@ fn rule_text(alloc: Global, row: u32, rule: BeyondRule) -> Result<Text, OutOfMem
 /// A reason of a known fact of the report.
 fn explain_reported<F: Findings>(
     alloc: Global,
-    findings: &mut F,
+    findings: &F,
     fact: Fact,
 ) -> Result<Text, OutOfMemory>
-    requires place { fact.point < places_of (F.shown findings.old) fact.cell }
+    requires place { fact.point < places_of (F.shown findings.now) fact.cell }
     requires named { fact.cell ≢ Register 0 }
-    requires known { known_value (F.shown findings.old) fact.point fact.cell ≡ Some fact.value }
-    requires reported { (F.shown findings.old).is_inferred fact.point fact.cell ≡ false }
-    ensures text { (skipped : ℕ) → IfOk result (IsReasoned (session_told (F.shown findings.old) skipped (F.reasons findings.old)) fact) }
-    ensures same { F.shown findings.new ≡ F.shown findings.old }
-    ensures same_reasons { SameReasons (F.reasons findings.old) (F.reasons findings.new) }
+    requires known { known_value (F.shown findings.now) fact.point fact.cell ≡ Some fact.value }
+    requires reported { (F.shown findings.now).is_inferred fact.point fact.cell ≡ false }
+    ensures text { (skipped : ℕ) → IfOk result (IsReasoned (session_told (F.shown findings.now) skipped (F.reasons findings.now)) fact) }
 {
     match findings.why(alloc, fact)? {
         Some(reason) => reason_text(alloc, findings, &reason),

@@ -26,15 +26,6 @@ pub struct Base {
     infers: u64,
 }
 
-impl Base {
-    /// The rules, by which nothing was inferred yet.
-    pub fn new() -> Self
-        ensures { result.infers ≡ 0 }
-    {
-        Base { infers: 0 }
-    }
-}
-
 impl RowRules for Base {
     ghost use Rattle.rept_rules.specs.Base.{base_rules};
     ghost use Rattle.rept_rules.specs.Laws.BaseLaws.{base_lawful};
@@ -44,6 +35,10 @@ impl RowRules for Base {
     ghost infers = { λ b. b.infers };
 
     ghost lawful = { base_lawful };
+
+    fn new() -> Self {
+        Base { infers: 0 }
+    }
 
     fn infer<V: RowView>(
         &mut self,

@@ -1,18 +1,16 @@
 -- A session line by line: what was answered so far, and what one line more makes of it.
-use Rattle.std.specs.Prelude.{◌≡◌, ℕ, List, [], ◌∷◌, ◌++◌, length, Bool, true, false, Option, None, Some, Ok, Err, MatchBool, ◌==◌, ◌&&◌, nat_le, nat_lt, codes, if◌then◌else◌}
+use Rattle.std.specs.Prelude.{◌≡◌, ℕ, List, [], ◌∷◌, ◌++◌, length, Bool, true, false, Option, None, Some, MatchBool, ◌&&◌, nat_le, nat_lt, codes, if◌then◌else◌}
 use Rattle.std.specs.Str.{bytes_eq}
 use Rattle.std.proofs.Common.{refl, sym, subst, subst₂, ◌∙◌, append_assoc, append-nil}
 use Rattle.rept_session.specs.Session.{HasAnswered, IsDivided, IsReply, IsSession, Said, cursor_of, ends, said_at}
 use Rattle.rept_findings.specs.declared.place.ThreadPoint.{ThreadPoint}
-use Rattle.rept_findings.specs.Shown.{SameReasons, SessionTold, Shown, moment_at, number, session_told}
-use Rattle.rept_questions.specs.Texts.{IsExplained, IsReasoned, byte_row, register_row}
-use Rattle.rept_session.specs.Texts.{IsText, cursor_after, is_quit}
+use Rattle.rept_findings.specs.Shown.{SessionTold, number}
+use Rattle.rept_session.specs.Texts.{is_quit}
 use Rattle.rept_session.specs.Commands.{address_of, around_command, asked_command, bare_command, calls_command, command_of, command_of_first, command_of_verb, command_of_words, double_command, find_command, first_number, from_command, goto_command, is_count, lost_command, reg_command, single_command, thread_command, verb_of, why_command, with_cell, with_number, with_register, writers_command}
 use Rattle.rept_session.specs.Registers.{register_of}
 use Rattle.rept_session.specs.Words.{words_in}
 use Rattle.rept_word.specs.Parsing.Numbers.{number_of_word}
 use Rattle.rept_session.specs.declared.command.Command.{Command}
-use Rattle.rept_session.specs.declared.command.BadCommand.TheVariants as bad
 use Rattle.rept_session.specs.declared.verb.Verb.{Verb}
 use Rattle.rept_session.specs.declared.verb.Verb.TheVariants.{Lone, One, Two, Ask}
 use Rattle.rept_session.specs.declared.question.Question.TheVariants as question
@@ -23,10 +21,6 @@ use Rattle.rept_session.specs.declared.verb.Single.TheVariants as single
 use Rattle.rept_session.specs.declared.verb.Double.{Double}
 use Rattle.rept_session.specs.declared.verb.Double.TheVariants as double
 use Rattle.rept_session.specs.declared.command.Command.TheVariants as command
-use Rattle.rept_reason.specs.declared.fact.Fact.{Fact}
-use Rattle.rept_reason.specs.declared.fact.Cell.{Cell}
-use Rattle.rept_reason.specs.declared.fact.Cell.TheVariants.{Register, Byte}
-use Rattle.rept_report.specs.Why.{Because}
 
 -- a line ends the session at each cursor or at none
 ends_by : (b : Bool) (x y x' y' : Said) → ends x ≡ ends x' → ends y ≡ ends y' → ends (if b then x else y) ≡ ends (if b then x' else y')
@@ -198,40 +192,3 @@ module _ (t : SessionTold) (start : ThreadPoint) (lines : List (List ℕ)) (writ
       let none : List ℕ = [] in
       let here : IsSession t cursor (line ∷ more) none = subst (λ b. MatchBool b (none ≡ []) (IsDivided none First Rest)) (sym over) refl in
       subst (IsSession t start (lines ++ line ∷ more)) (append-nil written) (so_far.onward (line ∷ more) [] here)
-
-otherwise : (b : Bool) (A B C : Type 0) → (B → C) → MatchBool b A B → MatchBool b A C
-otherwise true A B C f h = h
-otherwise false A B C f h = f h
-
--- what answers a line by one account of reasons answers it by the same account
-module _ (s : Shown) (skipped : ℕ) (old new : Fact → Because → Type 0) (same : SameReasons old new) where
-  reasoned_same : (fact : Fact) (text : List ℕ) → IsReasoned (session_told s skipped new) fact text → IsReasoned (session_told s skipped old) fact text
-  reasoned_same fact text h = (h.0, ((same fact h.0).1 h.1.0, h.1.1))
-
-  explained_same : (row point : ℕ) (cell : Cell) (value : Option ℕ) (text : List ℕ) → IsExplained (session_told s skipped new) row point cell value text → IsExplained (session_told s skipped old) row point cell value text
-  explained_same row point cell None text h = h
-  explained_same row point cell (Some v) text h = otherwise (s.is_inferred point cell) _ _ _ (reasoned_same (record { point = point; cell = cell; value = v }) text) h
-
-  text_same : (at : ThreadPoint) (c : Command) (text : List ℕ) → IsText (session_told s skipped new) at c text → IsText (session_told s skipped old) at c text
-  text_same at (command.WhyReg r) text h = otherwise (r == 0) _ _ _ (explained_same (register_row s at r) (number s at) (Register r) (s.register (number s at) r) text) h
-  text_same at (command.WhyByte a) text h = explained_same (byte_row s (moment_at s at) a) (moment_at s at) (Byte a) (s.byte (moment_at s at) a) text h
-  text_same at command.Where text h = h
-  text_same at (command.Back k) text h = h
-  text_same at (command.Fwd k) text h = h
-  text_same at (command.Goto i) text h = h
-  text_same at command.Regs text h = h
-  text_same at (command.Reg r) text h = h
-  text_same at (command.Range r) text h = h
-  text_same at (command.Mem a k) text h = h
-  text_same at (command.Writer a) text h = h
-  text_same at (command.List i k) text h = h
-  text_same at (command.Thread t) text h = h
-  text_same at command.Stack text h = h
-  text_same at command.Summary text h = h
-  text_same at command.Quit text h = h
-  text_same at command.Nothing text h = h
-  text_same at (command.Ask question) text h = h
-
-  pub reply_same : (cursor : ThreadPoint) (said : Said) (text : List ℕ) → IsReply (session_told s skipped new) cursor said text → IsReply (session_told s skipped old) cursor said text
-  reply_same cursor (Ok c) text h = text_same (cursor_after s cursor c) c text h
-  reply_same cursor (Err refusal) text h = h

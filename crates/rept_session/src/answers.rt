@@ -3,8 +3,8 @@
 ghost use Rattle.std.specs.Prelude.{◌≡◌, ℕ, ◌<◌, ◌≤◌, ◌++◌, false, length, IfOk, OnOk};
 ghost use Rattle.rept_session.specs.Commands.{IsCommandWithin};
 ghost use Rattle.rept_session.specs.Session.{IsReply, cursor_of, ends, said_at};
-ghost use Rattle.rept_findings.specs.Shown.{IsThreadPoint, SameReasons, session_told};
-ghost use Rattle.rept_findings.specs.Texts.{beyond_line, register_line};
+ghost use Rattle.rept_findings.specs.Shown.{IsThreadPoint, session_told};
+ghost use Rattle.rept_findings.specs.Texts.{register_line};
 ghost use Rattle.rept_session.specs.Texts.{IsText, cursor_after, is_quit, last_of, point_after, point_line, range_line, refusal_line, registers_line, steps_line, stores_line, summary_lines, thread_lines};
 
 use crate::command::{BadCommand, Command};
@@ -25,22 +25,20 @@ use std::alloc::Global;
 /// The answer to a command at a cursor. `skipped` is the count of packets that the path was read
 /// without.
 ///
-/// The only refusal is out of memory. In each case the findings stay as they were.
+/// The only refusal is out of memory.
 pub fn answer<F: Findings>(
     alloc: Global,
-    findings: &mut F,
+    findings: &F,
     skipped: u32,
     cursor: ThreadPoint,
     command: &Command,
 ) -> Result<Answer, OutOfMemory>
-    requires cursor { IsThreadPoint (F.shown findings.old) cursor }
-    requires command { IsCommandWithin (length ((F.shown findings.old).rows cursor.thread)) (F.shown findings.old).threads command.now }
-    ensures text { IfOk result (λ answer. IsText (session_told (F.shown findings.old) skipped (F.reasons findings.old)) answer.cursor command.now answer.text) }
-    ensures cursor { IfOk result (λ answer. answer.cursor ≡ cursor_after (F.shown findings.old) cursor command.now) }
-    ensures within { IfOk result (λ answer. IsThreadPoint (F.shown findings.old) answer.cursor) }
+    requires cursor { IsThreadPoint (F.shown findings.now) cursor }
+    requires command { IsCommandWithin (length ((F.shown findings.now).rows cursor.thread)) (F.shown findings.now).threads command.now }
+    ensures text { IfOk result (λ answer. IsText (session_told (F.shown findings.now) skipped (F.reasons findings.now)) answer.cursor command.now answer.text) }
+    ensures cursor { IfOk result (λ answer. answer.cursor ≡ cursor_after (F.shown findings.now) cursor command.now) }
+    ensures within { IfOk result (λ answer. IsThreadPoint (F.shown findings.now) answer.cursor) }
     ensures quit { IfOk result (λ answer. answer.quit ≡ is_quit command.now) }
-    ensures same { F.shown findings.new ≡ F.shown findings.old }
-    ensures same_reasons { SameReasons (F.reasons findings.old) (F.reasons findings.new) }
 {
     let moved = next_cursor(findings, cursor, command);
     let text = text_of(alloc, findings, skipped, moved, command)?;
@@ -54,21 +52,19 @@ pub fn answer<F: Findings>(
 /// The answer to a line at a cursor: that to its command, or `? N` for a line that is none, which
 /// leaves the cursor where it is.
 ///
-/// The only refusal is out of memory. In each case the findings stay as they were.
+/// The only refusal is out of memory.
 pub fn answer_line<F: Findings>(
     alloc: Global,
-    findings: &mut F,
+    findings: &F,
     skipped: u32,
     cursor: ThreadPoint,
     line: &[u8],
 ) -> Result<Answer, OutOfMemory>
-    requires { IsThreadPoint (F.shown findings.old) cursor }
-    ensures text { IfOk result (λ answer. IsReply (session_told (F.shown findings.old) skipped (F.reasons findings.old)) cursor (said_at (F.shown findings.old) cursor line.now) answer.text) }
-    ensures cursor { IfOk result (λ answer. answer.cursor ≡ cursor_of (F.shown findings.old) cursor (said_at (F.shown findings.old) cursor line.now)) }
-    ensures within { IfOk result (λ answer. IsThreadPoint (F.shown findings.old) answer.cursor) }
-    ensures quit { IfOk result (λ answer. answer.quit ≡ ends (said_at (F.shown findings.old) cursor line.now)) }
-    ensures same { F.shown findings.new ≡ F.shown findings.old }
-    ensures same_reasons { SameReasons (F.reasons findings.old) (F.reasons findings.new) }
+    requires { IsThreadPoint (F.shown findings.now) cursor }
+    ensures text { IfOk result (λ answer. IsReply (session_told (F.shown findings.now) skipped (F.reasons findings.now)) cursor (said_at (F.shown findings.now) cursor line.now) answer.text) }
+    ensures cursor { IfOk result (λ answer. answer.cursor ≡ cursor_of (F.shown findings.now) cursor (said_at (F.shown findings.now) cursor line.now)) }
+    ensures within { IfOk result (λ answer. IsThreadPoint (F.shown findings.now) answer.cursor) }
+    ensures quit { IfOk result (λ answer. answer.quit ≡ ends (said_at (F.shown findings.now) cursor line.now)) }
 {
     let last = findings.rows(cursor.thread).len() as u32;
     let threads = findings.threads();
@@ -161,16 +157,14 @@ fn is_quit(command: &Command) -> bool
 /// The text that answers a command, with the cursor after it.
 fn text_of<F: Findings>(
     alloc: Global,
-    findings: &mut F,
+    findings: &F,
     skipped: u32,
     at: ThreadPoint,
     command: &Command,
 ) -> Result<Text, OutOfMemory>
-    requires cursor { IsThreadPoint (F.shown findings.old) at }
-    requires command { IsCommandWithin (length ((F.shown findings.old).rows at.thread)) (F.shown findings.old).threads command.now }
-    ensures text { IfOk result (λ text. IsText (session_told (F.shown findings.old) skipped (F.reasons findings.old)) at command.now text) }
-    ensures same { F.shown findings.new ≡ F.shown findings.old }
-    ensures same_reasons { SameReasons (F.reasons findings.old) (F.reasons findings.new) }
+    requires cursor { IsThreadPoint (F.shown findings.now) at }
+    requires command { IsCommandWithin (length ((F.shown findings.now).rows at.thread)) (F.shown findings.now).threads command.now }
+    ensures text { IfOk result (λ text. IsText (session_told (F.shown findings.now) skipped (F.reasons findings.now)) at command.now text) }
 {
     match command {
         Command::Where | Command::Back(_) | Command::Fwd(_) | Command::Goto(_) => {

@@ -1,8 +1,8 @@
 //! The answer to a packet.
 
-ghost use Rattle.std.specs.Prelude.{◌≡◌, ◌≤◌, ◌<◌, ◌++◌, [], drop, length, None, Some, option_map, IfOk, OnOk, OnErr, MatchBool};
+ghost use Rattle.std.specs.Prelude.{◌≡◌, ◌≤◌, ◌<◌, [], drop, length, None, Some, option_map, IfOk, OnOk, OnErr, MatchBool};
 ghost use Rattle.rept_remote.specs.Request.Requests.{request_of};
-ghost use Rattle.rept_findings.specs.Shown.{IsThreadPoint, SameReasons, session_told};
+ghost use Rattle.rept_findings.specs.Shown.{IsThreadPoint, session_told};
 ghost use Rattle.rept_stub.specs.Answers.{IsLineAnswered, IsMonitored, IsStubAnswer, changed, changed_reply, cursor_reply, fixed_reply, halt_by, is_far, line_before, monitored, move_line, move_reply, moved, selected_by, spots_after, stale_after, stand_after, still_reply, threads_still, watch_in};
 ghost use Rattle.rept_stub.specs.Monitoring.{asked_of, line_point};
 ghost use Rattle.rept_stub.specs.Replies.{decoded};
@@ -98,21 +98,18 @@ fn plain(alloc: Global, text: Text) -> PacketReply
 }
 
 /// The answer to a packet, and where the debugger stands then. The only refusal is out of memory.
-/// In each case the findings stay as they were.
 pub fn answer_packet<F: Findings>(
     alloc: Global,
-    findings: &mut F,
+    findings: &F,
     setting: Setting<'_>,
     stand: &mut Stand,
     packet: &[u8],
 ) -> Result<PacketReply, OutOfMemory>
-    requires { IsStandLawful (F.shown findings.old) stand.old }
-    ensures text { IfOk result (λ reply. IsStubAnswer (session_told (F.shown findings.old) setting.entry.skipped (F.reasons findings.old)) setting.entry stand.old packet.now reply.text) }
-    ensures line { IfOk result (λ reply. reply.line ≡ line_before (F.shown findings.old) stand.old packet.now) }
-    ensures stand { OnOk result (stand.new ≡ stand_after (F.shown findings.old) stand.old packet.now) }
-    ensures within { IsStandLawful (F.shown findings.old) stand.new }
-    ensures same { F.shown findings.new ≡ F.shown findings.old }
-    ensures same_reasons { SameReasons (F.reasons findings.old) (F.reasons findings.new) }
+    requires { IsStandLawful (F.shown findings.now) stand.old }
+    ensures text { IfOk result (λ reply. IsStubAnswer (session_told (F.shown findings.now) setting.entry.skipped (F.reasons findings.now)) setting.entry stand.old packet.now reply.text) }
+    ensures line { IfOk result (λ reply. reply.line ≡ line_before (F.shown findings.now) stand.old packet.now) }
+    ensures stand { OnOk result (stand.new ≡ stand_after (F.shown findings.now) stand.old packet.now) }
+    ensures within { IsStandLawful (F.shown findings.now) stand.new }
 {
     match parse(packet) {
         GdbRequest::Move(way, name) => {
@@ -260,18 +257,16 @@ fn select<F: Findings>(findings: &F, stand: &mut Stand, request: GdbRequest)
 /// The reply to a packet that carries a line of a debugger's user.
 fn reply_line<F: Findings>(
     alloc: Global,
-    findings: &mut F,
+    findings: &F,
     setting: Setting<'_>,
     stand: &mut Stand,
     packet: &[u8],
 ) -> Result<PacketReply, OutOfMemory>
-    requires { IsStandLawful (F.shown findings.old) stand.old }
-    ensures text { IfOk result (λ reply. IsMonitored (session_told (F.shown findings.old) setting.entry.skipped (F.reasons findings.old)) setting.entry.signal (here stand.old) (decoded (drop 6 packet.now)) reply.text) }
+    requires { IsStandLawful (F.shown findings.now) stand.old }
+    ensures text { IfOk result (λ reply. IsMonitored (session_told (F.shown findings.now) setting.entry.skipped (F.reasons findings.now)) setting.entry.signal (here stand.old) (decoded (drop 6 packet.now)) reply.text) }
     ensures line { IfOk result (λ reply. reply.line ≡ []) }
-    ensures stand { OnOk result (stand.new ≡ monitored (F.shown findings.old) stand.old (decoded (drop 6 packet.now))) }
-    ensures within { IsStandLawful (F.shown findings.old) stand.new }
-    ensures same { F.shown findings.new ≡ F.shown findings.old }
-    ensures same_reasons { SameReasons (F.reasons findings.old) (F.reasons findings.new) }
+    ensures stand { OnOk result (stand.new ≡ monitored (F.shown findings.now) stand.old (decoded (drop 6 packet.now))) }
+    ensures within { IsStandLawful (F.shown findings.now) stand.new }
 {
     let text = answer_monitor(alloc, findings, setting, stand, packet)?;
     Ok(plain(alloc, text))
@@ -281,17 +276,15 @@ fn reply_line<F: Findings>(
 /// its cursor along the thread leads the cursor of the selected thread there.
 fn answer_monitor<F: Findings>(
     alloc: Global,
-    findings: &mut F,
+    findings: &F,
     setting: Setting<'_>,
     stand: &mut Stand,
     packet: &[u8],
 ) -> Result<Text, OutOfMemory>
-    requires { IsStandLawful (F.shown findings.old) stand.old }
-    ensures text { IfOk result (IsMonitored (session_told (F.shown findings.old) setting.entry.skipped (F.reasons findings.old)) setting.entry.signal (here stand.old) (decoded (drop 6 packet.now))) }
-    ensures stand { OnOk result (stand.new ≡ monitored (F.shown findings.old) stand.old (decoded (drop 6 packet.now))) }
-    ensures within { IsStandLawful (F.shown findings.old) stand.new }
-    ensures same { F.shown findings.new ≡ F.shown findings.old }
-    ensures same_reasons { SameReasons (F.reasons findings.old) (F.reasons findings.new) }
+    requires { IsStandLawful (F.shown findings.now) stand.old }
+    ensures text { IfOk result (IsMonitored (session_told (F.shown findings.now) setting.entry.skipped (F.reasons findings.now)) setting.entry.signal (here stand.old) (decoded (drop 6 packet.now))) }
+    ensures stand { OnOk result (stand.new ≡ monitored (F.shown findings.now) stand.old (decoded (drop 6 packet.now))) }
+    ensures within { IsStandLawful (F.shown findings.now) stand.new }
 {
     let at = here(findings, stand);
     let Some(line) = line_in(alloc, packet)? else {
@@ -345,17 +338,15 @@ fn told_at(at: ThreadPoint, text: Text) -> LineAnswer
 /// What is said to such a line.
 fn line_answer<F: Findings>(
     alloc: Global,
-    findings: &mut F,
+    findings: &F,
     setting: Setting<'_>,
     at: ThreadPoint,
     line: &[u8],
 ) -> Result<LineAnswer, OutOfMemory>
-    requires { IsThreadPoint (F.shown findings.old) at }
-    ensures text { IfOk result (λ said. IsLineAnswered (session_told (F.shown findings.old) setting.entry.skipped (F.reasons findings.old)) setting.entry.signal at line.now (asked_of line.now) said.text) }
-    ensures point { IfOk result (λ said. said.point ≡ line_point (F.shown findings.old) at line.now (asked_of line.now)) }
-    ensures within { IfOk result (λ said. said.point ≤ length ((F.shown findings.old).rows at.thread)) }
-    ensures same { F.shown findings.new ≡ F.shown findings.old }
-    ensures same_reasons { SameReasons (F.reasons findings.old) (F.reasons findings.new) }
+    requires { IsThreadPoint (F.shown findings.now) at }
+    ensures text { IfOk result (λ said. IsLineAnswered (session_told (F.shown findings.now) setting.entry.skipped (F.reasons findings.now)) setting.entry.signal at line.now (asked_of line.now) said.text) }
+    ensures point { IfOk result (λ said. said.point ≡ line_point (F.shown findings.now) at line.now (asked_of line.now)) }
+    ensures within { IfOk result (λ said. said.point ≤ length ((F.shown findings.now).rows at.thread)) }
 {
     match asked_of(line) {
         MonitorRequest::Signal => Ok(told_at(at, signal_text(alloc, setting.signal)?)),

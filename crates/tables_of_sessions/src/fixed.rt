@@ -145,7 +145,7 @@ impl Findings for Fixed {
         number == 2
     }
 
-    fn why(&mut self, alloc: Global, fact: Fact) -> Result<Option<Reason>, OutOfMemory> {
+    fn why(&self, alloc: Global, fact: Fact) -> Result<Option<Reason>, OutOfMemory> {
         let mut reason = Reason::new(alloc, 10);
         let looked = RangePremise {
             point: fact.point,

@@ -33,7 +33,7 @@ fn asked(
         thread: 0,
         point: point.min(2),
     };
-    answer_line(alloc, &mut findings, 7, cursor, line.as_bytes())
+    answer_line(alloc, &findings, 7, cursor, line.as_bytes())
 }
 
 /// The point of the two steps after a line at one of them, whether the session ends there, and the
@@ -60,7 +60,7 @@ pub fn at(
 /// does, and what it writes.
 pub fn served<F: Findings>(
     alloc: Global,
-    findings: &mut F,
+    findings: &F,
     input: &[u8],
     n: &Numbers,
 ) -> Result<String, AllocError> {

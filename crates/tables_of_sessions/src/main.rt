@@ -92,7 +92,7 @@ impl Sessions {
     fn told<F: Findings>(
         &mut self,
         alloc: Global,
-        findings: &mut F,
+        findings: &F,
         (asked, said): (&str, &str),
         n: &Numbers,
     ) -> Result<String, AllocError> {

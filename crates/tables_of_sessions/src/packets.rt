@@ -50,7 +50,7 @@ pub fn push(alloc: Global, input: &mut Vec<u8>, text: &[u8]) -> Result<(), Alloc
 /// an auxiliary vector `auxv` and tells `signal` of the signal.
 pub fn dialog<F: Findings>(
     alloc: Global,
-    findings: &mut F,
+    findings: &F,
     input: &[u8],
     fail: u32,
 ) -> Result<String, AllocError> {
@@ -83,11 +83,7 @@ pub fn dialog<F: Findings>(
 }
 
 /// What a dialog writes after its last acknowledgment, and how it ends.
-pub fn reply<F: Findings>(
-    alloc: Global,
-    findings: &mut F,
-    input: &[u8],
-) -> Result<String, AllocError> {
+pub fn reply<F: Findings>(alloc: Global, findings: &F, input: &[u8]) -> Result<String, AllocError> {
     let told = dialog(alloc, findings, input, 0)?;
     match told.as_str().rsplit_once('+') {
         None => String::from_str(alloc, told.as_str()),

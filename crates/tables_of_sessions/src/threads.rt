@@ -33,7 +33,7 @@ pub struct TwoThreads {
 }
 
 impl Findings for TwoThreads {
-    ghost use Rattle.std.specs.Prelude.{None, Some, false, ◌+◌, ◌-◌, nat_lt, ◌==◌, ◌&&◌, if◌then◌else◌};
+    ghost use Rattle.std.specs.Prelude.{None, Some, false, ◌+◌, ◌-◌, nat_lt, ◌==◌, if◌then◌else◌};
     ghost use Rattle.rept_report.specs.declared.writer.Writer.TheVariants as writers;
     ghost use Rattle.rept_findings.specs.declared.place.Place.TheVariants as places;
 
@@ -172,7 +172,7 @@ impl Findings for TwoThreads {
         false
     }
 
-    fn why(&mut self, alloc: Global, _fact: Fact) -> Result<Option<Reason>, OutOfMemory> {
+    fn why(&self, alloc: Global, _fact: Fact) -> Result<Option<Reason>, OutOfMemory> {
         let mut reason = Reason::new(alloc, 16);
         let held = register_fact(6);
         let stored = byte_fact(7, 8);

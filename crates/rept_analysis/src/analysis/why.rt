@@ -8,7 +8,7 @@ ghost use Rattle.rept_report.specs.Why.{because, IsReason, IsLeastFront};
 ghost use Rattle.rept_log.specs.Fronts.{IsInPlace, told_by};
 ghost use Rattle.rept_facts.specs.State.{setting_of, state_of, reader};
 ghost use Rattle.rept_facts.specs.Kept.{answers};
-ghost use Rattle.rept_facts.specs.Reasoned.{AreSetsOf, KeepsAll, IsNotLast};
+ghost use Rattle.rept_facts.specs.Reasoned.{AreSetsOf, IsNotLast};
 
 use super::Analysis;
 use rept_facts::FrontSets;
@@ -67,18 +67,17 @@ impl<'a, P: Reaches + Drop, L: LastValues + Drop, B: ByteFacts, W: Transfer, R: 
 
     /// The reason of a register's fact, by what stands before its place.
     fn why_register(
-        &mut self,
+        &self,
         alloc: Global,
         fact: &Fact,
         r: Reg,
     ) -> Result<Option<Reason>, OutOfMemory>
-        requires point { fact.now.point ≤ (P.timeline self.old.propagation.facts.paths).legs.count }
+        requires point { fact.now.point ≤ (P.timeline self.now.propagation.facts.paths).legs.count }
         requires cell { fact.now.cell ≡ Register r }
-        requires complete { self.old.propagation.facts.complete ≡ true }
-        ensures none { IfOk result (λ found. IfNone found (answers (state_of (reader P.timeline L.values) W.sets W.moves R.rules B.store self.old.propagation.facts) fact.now.point fact.now.cell ≢ Some fact.now.value)) }
-        ensures reason { IfOk result (λ found. IfSome found (λ reason. IsReason (setting_of (reader P.timeline L.values) W.sets W.moves R.rules self.old.propagation.facts) self.old.propagation.facts.known.log fact.now (told_by reason))) }
+        requires complete { self.now.propagation.facts.complete ≡ true }
+        ensures none { IfOk result (λ found. IfNone found (answers (state_of (reader P.timeline L.values) W.sets W.moves R.rules B.store self.now.propagation.facts) fact.now.point fact.now.cell ≢ Some fact.now.value)) }
+        ensures reason { IfOk result (λ found. IfSome found (λ reason. IsReason (setting_of (reader P.timeline L.values) W.sets W.moves R.rules self.now.propagation.facts) self.now.propagation.facts.known.log fact.now (told_by reason))) }
         ensures room { IfOk result (λ found. IfSome found IsInPlace) }
-        ensures same { KeepsAll (state_of (reader P.timeline L.values) W.sets W.moves R.rules B.store self.old.propagation.facts) (state_of (reader P.timeline L.values) W.sets W.moves R.rules B.store self.new.propagation.facts) }
     {
         self.propagation.facts.held();
         match self.place(fact, r) {
@@ -155,23 +154,22 @@ impl<'a, P: Reaches + Drop, L: LastValues + Drop, B: ByteFacts, W: Transfer, R: 
 
     /// The reason of a byte's fact that is the last one of its least front.
     fn why_inferred(
-        &mut self,
+        &self,
         alloc: Global,
         sets: &mut FrontSets<W>,
         place: u32,
         fact: &Fact,
         a: u32,
     ) -> Result<Option<Reason>, OutOfMemory>
-        requires sets { AreSetsOf (setting_of (reader P.timeline L.values) W.sets W.moves R.rules self.old.propagation.facts) (oldest sets.old.limit self.old.propagation.facts.known.log) sets.old.spans }
-        requires moment { fact.now.point ≤ (P.timeline self.old.propagation.facts.paths).moments.end }
+        requires sets { AreSetsOf (setting_of (reader P.timeline L.values) W.sets W.moves R.rules self.now.propagation.facts) (oldest sets.old.limit self.now.propagation.facts.known.log) sets.old.spans }
+        requires moment { fact.now.point ≤ (P.timeline self.now.propagation.facts.paths).moments.end }
         requires cell { fact.now.cell ≡ Byte a }
-        requires complete { self.old.propagation.facts.complete ≡ true }
-        requires least { IsLeastFront (setting_of (reader P.timeline L.values) W.sets W.moves R.rules self.old.propagation.facts) self.old.propagation.facts.known.log fact.now (place + 1) }
-        requires entry { entry self.old.propagation.facts.known.log place ≡ Some fact.now }
-        ensures none { IfOk result (λ found. IfNone found (answers (state_of (reader P.timeline L.values) W.sets W.moves R.rules B.store self.old.propagation.facts) fact.now.point fact.now.cell ≢ Some fact.now.value)) }
-        ensures reason { IfOk result (λ found. IfSome found (λ reason. IsReason (setting_of (reader P.timeline L.values) W.sets W.moves R.rules self.old.propagation.facts) self.old.propagation.facts.known.log fact.now (told_by reason))) }
+        requires complete { self.now.propagation.facts.complete ≡ true }
+        requires least { IsLeastFront (setting_of (reader P.timeline L.values) W.sets W.moves R.rules self.now.propagation.facts) self.now.propagation.facts.known.log fact.now (place + 1) }
+        requires entry { entry self.now.propagation.facts.known.log place ≡ Some fact.now }
+        ensures none { IfOk result (λ found. IfNone found (answers (state_of (reader P.timeline L.values) W.sets W.moves R.rules B.store self.now.propagation.facts) fact.now.point fact.now.cell ≢ Some fact.now.value)) }
+        ensures reason { IfOk result (λ found. IfSome found (λ reason. IsReason (setting_of (reader P.timeline L.values) W.sets W.moves R.rules self.now.propagation.facts) self.now.propagation.facts.known.log fact.now (told_by reason))) }
         ensures room { IfOk result (λ found. IfSome found IsInPlace) }
-        ensures same { KeepsAll (state_of (reader P.timeline L.values) W.sets W.moves R.rules B.store self.old.propagation.facts) (state_of (reader P.timeline L.values) W.sets W.moves R.rules B.store self.new.propagation.facts) }
     {
         self.propagation.facts.held();
         self.propagation.facts.fill_to(sets, place);
@@ -230,19 +228,13 @@ impl<'a, P: Reaches + Drop, L: LastValues + Drop, B: ByteFacts, W: Transfer, R: 
     }
 
     /// The reason of a byte's fact, by the least prefix in which it stands.
-    fn why_byte(
-        &mut self,
-        alloc: Global,
-        fact: &Fact,
-        a: u32,
-    ) -> Result<Option<Reason>, OutOfMemory>
-        requires moment { fact.now.point ≤ (P.timeline self.old.propagation.facts.paths).moments.end }
+    fn why_byte(&self, alloc: Global, fact: &Fact, a: u32) -> Result<Option<Reason>, OutOfMemory>
+        requires moment { fact.now.point ≤ (P.timeline self.now.propagation.facts.paths).moments.end }
         requires cell { fact.now.cell ≡ Byte a }
-        requires complete { self.old.propagation.facts.complete ≡ true }
-        ensures none { IfOk result (λ found. IfNone found (answers (state_of (reader P.timeline L.values) W.sets W.moves R.rules B.store self.old.propagation.facts) fact.now.point fact.now.cell ≢ Some fact.now.value)) }
-        ensures reason { IfOk result (λ found. IfSome found (λ reason. IsReason (setting_of (reader P.timeline L.values) W.sets W.moves R.rules self.old.propagation.facts) self.old.propagation.facts.known.log fact.now (told_by reason))) }
+        requires complete { self.now.propagation.facts.complete ≡ true }
+        ensures none { IfOk result (λ found. IfNone found (answers (state_of (reader P.timeline L.values) W.sets W.moves R.rules B.store self.now.propagation.facts) fact.now.point fact.now.cell ≢ Some fact.now.value)) }
+        ensures reason { IfOk result (λ found. IfSome found (λ reason. IsReason (setting_of (reader P.timeline L.values) W.sets W.moves R.rules self.now.propagation.facts) self.now.propagation.facts.known.log fact.now (told_by reason))) }
         ensures room { IfOk result (λ found. IfSome found IsInPlace) }
-        ensures same { KeepsAll (state_of (reader P.timeline L.values) W.sets W.moves R.rules B.store self.old.propagation.facts) (state_of (reader P.timeline L.values) W.sets W.moves R.rules B.store self.new.propagation.facts) }
     {
         if !self.is_answered(fact, a) {
             return Ok(None);
@@ -259,15 +251,13 @@ impl<'a, P: Reaches + Drop, L: LastValues + Drop, B: ByteFacts, W: Transfer, R: 
     /// A reason of a fact: the rule that gives it, the facts that the rule rests on, which were
     /// known before it, and the ranges that the rule looked at, by those facts. `None` exactly
     /// where the fact isn't answered. `OutOfMemory` says that the room for the search can't be had.
-    /// Nothing that other calls answer changes.
-    pub fn why(&mut self, alloc: Global, fact: Fact) -> Result<Option<Reason>, OutOfMemory>
-        requires point { (r : ℕ) → fact.cell ≡ Register r → fact.point ≤ (P.timeline self.old.propagation.facts.paths).legs.count }
-        requires moment { (a : ℕ) → fact.cell ≡ Byte a → fact.point ≤ (P.timeline self.old.propagation.facts.paths).moments.end }
-        requires complete { self.old.propagation.facts.complete ≡ true }
-        ensures none { IfOk result (λ found. IfNone found (answers (state_of (reader P.timeline L.values) W.sets W.moves R.rules B.store self.old.propagation.facts) fact.point fact.cell ≢ Some fact.value)) }
-        ensures reason { IfOk result (λ found. IfSome found (λ reason. IsReason (setting_of (reader P.timeline L.values) W.sets W.moves R.rules self.old.propagation.facts) self.old.propagation.facts.known.log fact (because reason.rule reason.premises.items reason.ranges.items))) }
+    pub fn why(&self, alloc: Global, fact: Fact) -> Result<Option<Reason>, OutOfMemory>
+        requires point { (r : ℕ) → fact.cell ≡ Register r → fact.point ≤ (P.timeline self.now.propagation.facts.paths).legs.count }
+        requires moment { (a : ℕ) → fact.cell ≡ Byte a → fact.point ≤ (P.timeline self.now.propagation.facts.paths).moments.end }
+        requires complete { self.now.propagation.facts.complete ≡ true }
+        ensures none { IfOk result (λ found. IfNone found (answers (state_of (reader P.timeline L.values) W.sets W.moves R.rules B.store self.now.propagation.facts) fact.point fact.cell ≢ Some fact.value)) }
+        ensures reason { IfOk result (λ found. IfSome found (λ reason. IsReason (setting_of (reader P.timeline L.values) W.sets W.moves R.rules self.now.propagation.facts) self.now.propagation.facts.known.log fact (because reason.rule reason.premises.items reason.ranges.items))) }
         ensures room { IfOk result (λ found. IfSome found IsInPlace) }
-        ensures same { KeepsAll (state_of (reader P.timeline L.values) W.sets W.moves R.rules B.store self.old.propagation.facts) (state_of (reader P.timeline L.values) W.sets W.moves R.rules B.store self.new.propagation.facts) }
     {
         match &fact.cell {
             Cell::Register(r) => self.why_register(alloc, &fact, *r),

@@ -1,8 +1,7 @@
 //! The loop over what arrives.
 
-ghost use Rattle.std.specs.Prelude.{◌≡◌};
 ghost use Rattle.rept_ports.specs.Port.{move};
-ghost use Rattle.rept_findings.specs.Shown.{SameReasons, session_told};
+ghost use Rattle.rept_findings.specs.Shown.{session_told};
 ghost use Rattle.rept_stub.specs.Standing.{IsStandLawful};
 ghost use Rattle.rept_debug.specs.Dialog.Converse.{Converses, parties_over};
 ghost use Rattle.rept_debug.specs.Dialog.Onward.{AnswersOn, GoesOn};
@@ -29,36 +28,31 @@ pub enum SessionEnd {
 }
 
 /// Answers what arrives, each before the next one is read, with each thread's cursor at its last
-/// point first. In each case the findings stay as they were.
+/// point first.
 pub fn converse<F: Findings, S: Source, K: Sink>(
     alloc: Global,
-    findings: &mut F,
+    findings: &F,
     setting: Setting<'_>,
     input: &mut S,
     out: &mut K,
 ) -> SessionEnd
-    ensures talk { Converses (parties_over (session_told (F.shown findings.old) setting.entry.skipped (F.reasons findings.old)) setting.entry) (move (S.port input.old) (S.port input.new)) (move (K.port out.old) (K.port out.new)) result }
-    ensures same { F.shown findings.new ≡ F.shown findings.old }
-    ensures same_reasons { SameReasons (F.reasons findings.old) (F.reasons findings.new) }
+    ensures talk { Converses (parties_over (session_told (F.shown findings.now) setting.entry.skipped (F.reasons findings.now)) setting.entry) (move (S.port input.old) (S.port input.new)) (move (K.port out.old) (K.port out.new)) result }
 {
     let mut greeting = greet(alloc, input, out);
     go_on(alloc, findings, setting, &mut greeting, input, out)
 }
 
 /// Goes on with a dialog that began before anything was found: answers the packet that waits, and
-/// what arrives after it. The dialog is then one over what was found, from its begin. In each case
-/// the findings stay as they were.
+/// what arrives after it. The dialog is then one over what was found, from its begin.
 pub fn go_on<F: Findings, S: Source, K: Sink>(
     alloc: Global,
-    findings: &mut F,
+    findings: &F,
     setting: Setting<'_>,
     greeting: &mut Greeting,
     input: &mut S,
     out: &mut K,
 ) -> SessionEnd
-    ensures talk { GoesOn (parties_over (session_told (F.shown findings.old) setting.entry.skipped (F.reasons findings.old)) setting.entry) greeting.old (move (S.port input.old) (S.port input.new)) (move (K.port out.old) (K.port out.new)) result }
-    ensures same { F.shown findings.new ≡ F.shown findings.old }
-    ensures same_reasons { SameReasons (F.reasons findings.old) (F.reasons findings.new) }
+    ensures talk { GoesOn (parties_over (session_told (F.shown findings.now) setting.entry.skipped (F.reasons findings.now)) setting.entry) greeting.old (move (S.port input.old) (S.port input.new)) (move (K.port out.old) (K.port out.new)) result }
 {
     let arrival = match greeting.next {
         Ok(arrival) => arrival,
@@ -88,16 +82,14 @@ struct WaitingDialog {
 /// Answers the arrival that waits, and what comes after it.
 fn answer_on<F: Findings, S: Source, K: Sink>(
     alloc: Global,
-    findings: &mut F,
+    findings: &F,
     setting: Setting<'_>,
     waiting: WaitingDialog,
     input: &mut S,
     out: &mut K,
 ) -> SessionEnd
-    requires within { IsStandLawful (F.shown findings.old) waiting.dialog.stand }
-    ensures talk { AnswersOn (parties_over (session_told (F.shown findings.old) setting.entry.skipped (F.reasons findings.old)) setting.entry) waiting (move (S.port input.old) (S.port input.new)) (move (K.port out.old) (K.port out.new)) result }
-    ensures same { F.shown findings.new ≡ F.shown findings.old }
-    ensures same_reasons { SameReasons (F.reasons findings.old) (F.reasons findings.new) }
+    requires within { IsStandLawful (F.shown findings.now) waiting.dialog.stand }
+    ensures talk { AnswersOn (parties_over (session_told (F.shown findings.now) setting.entry.skipped (F.reasons findings.now)) setting.entry) waiting (move (S.port input.old) (S.port input.new)) (move (K.port out.old) (K.port out.new)) result }
 {
     let mut packets = waiting.packets;
     let mut dialog = waiting.dialog;

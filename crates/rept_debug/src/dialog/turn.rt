@@ -4,7 +4,7 @@ ghost use Rattle.std.specs.Prelude.{◌≡◌, ◌++◌, [], codes, IfOk, OnOk, 
 ghost use Rattle.rept_remote.specs.Escapes.{packet_of};
 ghost use Rattle.rept_remote.specs.Frames.{arrived};
 ghost use Rattle.rept_remote.specs.Frames.Arrived.{packet};
-ghost use Rattle.rept_findings.specs.Shown.{SameReasons, session_told};
+ghost use Rattle.rept_findings.specs.Shown.{session_told};
 ghost use Rattle.rept_stub.specs.Standing.{IsStandLawful};
 ghost use Rattle.rept_debug.specs.Dialog.Dialog.{IsTurn, acknowledges_after, console_packet, early_at, is_last, sign, written_to};
 
@@ -48,21 +48,18 @@ pub fn begin<F: Findings>(
     })
 }
 
-/// What is written at an arrival. The only refusal is out of memory. In each case the findings stay
-/// as they were.
+/// What is written at an arrival. The only refusal is out of memory.
 pub fn take_turn<F: Findings>(
     alloc: Global,
-    findings: &mut F,
+    findings: &F,
     setting: Setting<'_>,
     dialog: &mut Dialog,
     arrival: Arrival,
     carried: &[u8],
 ) -> Result<Text, OutOfMemory>
-    requires { IsStandLawful (F.shown findings.old) dialog.old.stand }
-    ensures turn { IfOk result (λ text. IsTurn (session_told (F.shown findings.old) setting.entry.skipped (F.reasons findings.old)) setting.entry dialog.old (arrived arrival carried.now) text dialog.new) }
-    ensures within { IsStandLawful (F.shown findings.old) dialog.new.stand }
-    ensures same { F.shown findings.new ≡ F.shown findings.old }
-    ensures same_reasons { SameReasons (F.reasons findings.old) (F.reasons findings.new) }
+    requires { IsStandLawful (F.shown findings.now) dialog.old.stand }
+    ensures turn { IfOk result (λ text. IsTurn (session_told (F.shown findings.now) setting.entry.skipped (F.reasons findings.now)) setting.entry dialog.old (arrived arrival carried.now) text dialog.new) }
+    ensures within { IsStandLawful (F.shown findings.now) dialog.new.stand }
 {
     match arrival {
         Arrival::Packet => answer(alloc, findings, setting, dialog, carried),
@@ -76,16 +73,14 @@ pub fn take_turn<F: Findings>(
 /// The answer to a packet.
 fn answer<F: Findings>(
     alloc: Global,
-    findings: &mut F,
+    findings: &F,
     setting: Setting<'_>,
     dialog: &mut Dialog,
     carried: &[u8],
 ) -> Result<Text, OutOfMemory>
-    requires { IsStandLawful (F.shown findings.old) dialog.old.stand }
-    ensures turn { IfOk result (λ text. IsTurn (session_told (F.shown findings.old) setting.entry.skipped (F.reasons findings.old)) setting.entry dialog.old (packet carried.now) text dialog.new) }
-    ensures within { IsStandLawful (F.shown findings.old) dialog.new.stand }
-    ensures same { F.shown findings.new ≡ F.shown findings.old }
-    ensures same_reasons { SameReasons (F.reasons findings.old) (F.reasons findings.new) }
+    requires { IsStandLawful (F.shown findings.now) dialog.old.stand }
+    ensures turn { IfOk result (λ text. IsTurn (session_told (F.shown findings.now) setting.entry.skipped (F.reasons findings.now)) setting.entry dialog.old (packet carried.now) text dialog.new) }
+    ensures within { IsStandLawful (F.shown findings.now) dialog.new.stand }
 {
     let request = parse(carried);
     let reply = answer_packet(alloc, findings, setting, &mut dialog.stand, carried)?;

@@ -5,8 +5,8 @@ ghost use Rattle.rept_reason.specs.declared.fact.Cell.TheVariants.{Register, Byt
 ghost use Rattle.rept_report.specs.Log.{oldest};
 ghost use Rattle.rept_report.specs.Why.{Because, IsInferredBecause, IsKnownBecause, IsCarriedBecause};
 ghost use Rattle.rept_log.specs.Fronts.{IsInPlace, basis_of, front_of, stands, told_by, setting_in};
-ghost use Rattle.rept_facts.specs.State.{setting_of, state_of, reader};
-ghost use Rattle.rept_facts.specs.Reasoned.{front_below, AreSetsOf, KeepsAll};
+ghost use Rattle.rept_facts.specs.State.{setting_of, reader};
+ghost use Rattle.rept_facts.specs.Reasoned.{front_below, AreSetsOf};
 
 use super::CrashFacts;
 use crate::front_sets::FrontSets;
@@ -115,64 +115,48 @@ impl<
 
     /// The reason of a register's value by what stands in the front.
     pub fn known_below(
-        &mut self,
+        &self,
         alloc: Global,
         spans: &Spans<W>,
         limit: u32,
         fact: &Fact,
         r: Reg,
     ) -> Result<Option<Reason>, OutOfMemory>
-        requires within { limit ≤ length self.old.known.log }
-        requires sets { AreSetsOf (setting_of (reader P.timeline L.values) W.sets W.moves R.rules self.old) (oldest limit self.old.known.log) spans.now }
-        requires point { fact.now.point ≤ (P.timeline self.old.paths).legs.count }
+        requires within { limit ≤ length self.now.known.log }
+        requires sets { AreSetsOf (setting_of (reader P.timeline L.values) W.sets W.moves R.rules self.now) (oldest limit self.now.known.log) spans.now }
+        requires point { fact.now.point ≤ (P.timeline self.now.paths).legs.count }
         requires cell { fact.now.cell ≡ Register r }
         requires named { 0 < r }
-        requires complete { self.old.complete ≡ true }
-        ensures found { IfOk result (λ found. IfSome found (λ reason. IsKnownBecause (setting_in (front_below (reader P.timeline L.values) W.sets W.moves R.rules self.old limit)) (stands (front_below (reader P.timeline L.values) W.sets W.moves R.rules self.old limit)) fact.now (told_by reason))) }
-        ensures none { IfOk result (λ found. IfNone found ((why : Because) → IsKnownBecause (setting_in (front_below (reader P.timeline L.values) W.sets W.moves R.rules self.old limit)) (stands (front_below (reader P.timeline L.values) W.sets W.moves R.rules self.old limit)) fact.now why → ⊥)) }
+        requires complete { self.now.complete ≡ true }
+        ensures found { IfOk result (λ found. IfSome found (λ reason. IsKnownBecause (setting_in (front_below (reader P.timeline L.values) W.sets W.moves R.rules self.now limit)) (stands (front_below (reader P.timeline L.values) W.sets W.moves R.rules self.now limit)) fact.now (told_by reason))) }
+        ensures none { IfOk result (λ found. IfNone found ((why : Because) → IsKnownBecause (setting_in (front_below (reader P.timeline L.values) W.sets W.moves R.rules self.now limit)) (stands (front_below (reader P.timeline L.values) W.sets W.moves R.rules self.now limit)) fact.now why → ⊥)) }
         ensures room { IfOk result (λ found. IfSome found IsInPlace) }
-        ensures same { KeepsAll (state_of (reader P.timeline L.values) W.sets W.moves R.rules B.store self.old) (state_of (reader P.timeline L.values) W.sets W.moves R.rules B.store self.new) }
     {
-        let _len = self.known.len();
-        let front = Front::new(
-            &self.known,
-            limit,
-            &self.paths,
-            &self.last,
-            &self.dump,
-            spans,
-        );
-        front.of_register(&mut self.rules, alloc, fact, r)
+        let front = self.front(spans, limit);
+        let mut rules = R::new();
+        front.of_register(&mut rules, alloc, fact, r)
     }
 
     /// The reason of a byte's fact by what a row lets one infer from what stands in the front.
     pub fn inferred_below(
-        &mut self,
+        &self,
         alloc: Global,
         spans: &Spans<W>,
         limit: u32,
         fact: &Fact,
         a: u32,
     ) -> Result<Option<Reason>, OutOfMemory>
-        requires within { limit ≤ length self.old.known.log }
-        requires sets { AreSetsOf (setting_of (reader P.timeline L.values) W.sets W.moves R.rules self.old) (oldest limit self.old.known.log) spans.now }
+        requires within { limit ≤ length self.now.known.log }
+        requires sets { AreSetsOf (setting_of (reader P.timeline L.values) W.sets W.moves R.rules self.now) (oldest limit self.now.known.log) spans.now }
         requires cell { fact.now.cell ≡ Byte a }
-        requires complete { self.old.complete ≡ true }
-        ensures found { IfOk result (λ found. IfSome found (λ reason. IsInferredBecause (setting_in (front_below (reader P.timeline L.values) W.sets W.moves R.rules self.old limit)) (stands (front_below (reader P.timeline L.values) W.sets W.moves R.rules self.old limit)) fact.now (told_by reason))) }
-        ensures none { IfOk result (λ found. IfNone found ((why : Because) → IsInferredBecause (setting_in (front_below (reader P.timeline L.values) W.sets W.moves R.rules self.old limit)) (stands (front_below (reader P.timeline L.values) W.sets W.moves R.rules self.old limit)) fact.now why → ⊥)) }
+        requires complete { self.now.complete ≡ true }
+        ensures found { IfOk result (λ found. IfSome found (λ reason. IsInferredBecause (setting_in (front_below (reader P.timeline L.values) W.sets W.moves R.rules self.now limit)) (stands (front_below (reader P.timeline L.values) W.sets W.moves R.rules self.now limit)) fact.now (told_by reason))) }
+        ensures none { IfOk result (λ found. IfNone found ((why : Because) → IsInferredBecause (setting_in (front_below (reader P.timeline L.values) W.sets W.moves R.rules self.now limit)) (stands (front_below (reader P.timeline L.values) W.sets W.moves R.rules self.now limit)) fact.now why → ⊥)) }
         ensures room { IfOk result (λ found. IfSome found IsInPlace) }
-        ensures same { KeepsAll (state_of (reader P.timeline L.values) W.sets W.moves R.rules B.store self.old) (state_of (reader P.timeline L.values) W.sets W.moves R.rules B.store self.new) }
     {
-        let _len = self.known.len();
-        let front = Front::new(
-            &self.known,
-            limit,
-            &self.paths,
-            &self.last,
-            &self.dump,
-            spans,
-        );
-        front.of_inferred_byte(&mut self.rules, alloc, fact, a)
+        let front = self.front(spans, limit);
+        let mut rules = R::new();
+        front.of_inferred_byte(&mut rules, alloc, fact, a)
     }
 
     /// The reason by which a byte is carried in the front.

@@ -3,7 +3,7 @@
 ghost use Rattle.std.specs.Prelude.{◌≡◌, ◌+◌, ◌*◌, ◌<◌, ◌≤◌, length};
 ghost use Rattle.rept_facts.specs.Sums.{sum_to};
 ghost use Rattle.rept_infer.specs.Path.{path_reader, told_in};
-ghost use Rattle.rept_found.specs.Inferred.Added.{added_at, bytes_added, is_added, is_byte_added, load_added, row_added, step_added, value_by};
+ghost use Rattle.rept_found.specs.Inferred.Added.{added_at, bytes_added, is_added, is_byte_added, load_added, step_added, value_by};
 
 use crate::inferred::narrowing::{is_added, value_by};
 use crate::inferred::overlay::InferredCrash;
@@ -15,8 +15,8 @@ use rept_narrow::{KnownPath, PathPremises, load_width};
 impl<'a, F: Findings, K: KnownPath, P: PathPremises> InferredCrash<'a, F, K, P> {
     /// Whether the value of a register at a point only was inferred.
     fn is_value_added(&self, point: u32, register: Reg) -> bool
-        requires { point < (F.shown self.now.found).points }
-        ensures { result ≡ is_added ((F.shown self.now.found).register point register) ((told_in (path_reader K.set K.byte P.premises) self.now.inferred).set point register) }
+        requires { point < (F.shown self.now.found.now).points }
+        ensures { result ≡ is_added ((F.shown self.now.found.now).register point register) ((told_in (path_reader K.set K.byte P.premises) self.now.inferred).set point register) }
     {
         is_added(
             self.found.reg(point, register),
@@ -26,8 +26,8 @@ impl<'a, F: Findings, K: KnownPath, P: PathPremises> InferredCrash<'a, F, K, P> 
 
     /// How many values of registers at a point only were inferred.
     fn values_at(&self, point: u32) -> u32
-        requires { point < (F.shown self.now.found).points }
-        ensures value { result ≡ added_at (told_in (path_reader K.set K.byte P.premises) self.now.inferred) (F.shown self.now.found) point }
+        requires { point < (F.shown self.now.found.now).points }
+        ensures value { result ≡ added_at (told_in (path_reader K.set K.byte P.premises) self.now.inferred) (F.shown self.now.found.now) point }
         ensures few { result ≤ 32 }
     {
         let mut sum = 0;
@@ -41,7 +41,7 @@ impl<'a, F: Findings, K: KnownPath, P: PathPremises> InferredCrash<'a, F, K, P> 
 
     /// How many values of registers at all points only were inferred.
     pub(crate) fn values_added(&self) -> u32
-        ensures { result ≡ sum_to (added_at (told_in (path_reader K.set K.byte P.premises) self.now.inferred) (F.shown self.now.found)) (F.shown self.now.found).points }
+        ensures { result ≡ sum_to (added_at (told_in (path_reader K.set K.byte P.premises) self.now.inferred) (F.shown self.now.found.now)) (F.shown self.now.found.now).points }
     {
         let points = self.found.points();
         let mut sum = 0;
@@ -53,17 +53,17 @@ impl<'a, F: Findings, K: KnownPath, P: PathPremises> InferredCrash<'a, F, K, P> 
 
     /// Whether the byte at a moment and an address only was inferred.
     fn is_byte_added(&self, moment: u32, address: u32) -> bool
-        requires { moment < (F.shown self.now.found).moments }
-        ensures { result ≡ is_byte_added (told_in (path_reader K.set K.byte P.premises) self.now.inferred) (F.shown self.now.found) moment address }
+        requires { moment < (F.shown self.now.found.now).moments }
+        ensures { result ≡ is_byte_added (told_in (path_reader K.set K.byte P.premises) self.now.inferred) (F.shown self.now.found.now) moment address }
     {
         self.found.byte(moment, address).is_none() && self.inferred.byte(moment, address).is_some()
     }
 
     /// How many of a load's bytes at a moment only were inferred.
     fn loaded_bytes(&self, moment: u32, width: u32, address: u32) -> u32
-        requires moment { moment < (F.shown self.now.found).moments }
+        requires moment { moment < (F.shown self.now.found.now).moments }
         requires width { width ≤ 4 }
-        ensures value { result ≡ bytes_added (told_in (path_reader K.set K.byte P.premises) self.now.inferred) (F.shown self.now.found) moment width (Some address) }
+        ensures value { result ≡ bytes_added (told_in (path_reader K.set K.byte P.premises) self.now.inferred) (F.shown self.now.found.now) moment width (Some address) }
         ensures few { result ≤ 4 }
     {
         let mut sum = 0;
@@ -77,8 +77,8 @@ impl<'a, F: Findings, K: KnownPath, P: PathPremises> InferredCrash<'a, F, K, P> 
 
     /// How many of the bytes that an instruction loads at a point only were inferred.
     fn load_bytes(&self, point: u32, instr: &Instr) -> u32
-        requires { point < (F.shown self.now.found).points }
-        ensures value { result ≡ load_added (told_in (path_reader K.set K.byte P.premises) self.now.inferred) (F.shown self.now.found) point instr.now }
+        requires { point < (F.shown self.now.found.now).points }
+        ensures value { result ≡ load_added (told_in (path_reader K.set K.byte P.premises) self.now.inferred) (F.shown self.now.found.now) point instr.now }
         ensures few { result ≤ 4 }
     {
         match *instr {
@@ -99,8 +99,8 @@ impl<'a, F: Findings, K: KnownPath, P: PathPremises> InferredCrash<'a, F, K, P> 
 
     /// How many of the bytes that a step of the first thread loads only were inferred.
     fn step_bytes(&self, index: u32) -> u32
-        requires { index < length ((F.shown self.now.found).rows 0) }
-        ensures value { result ≡ step_added (told_in (path_reader K.set K.byte P.premises) self.now.inferred) (F.shown self.now.found) index }
+        requires { index < length ((F.shown self.now.found.now).rows 0) }
+        ensures value { result ≡ step_added (told_in (path_reader K.set K.byte P.premises) self.now.inferred) (F.shown self.now.found.now) index }
         ensures few { result ≤ 4 }
     {
         let _some = self.found.threads();
@@ -111,8 +111,8 @@ impl<'a, F: Findings, K: KnownPath, P: PathPremises> InferredCrash<'a, F, K, P> 
 
     /// How many steps the first thread has.
     pub(crate) fn steps(&self) -> u32
-        ensures value { result ≡ length ((F.shown self.now.found).rows 0) }
-        ensures few { length ((F.shown self.now.found).rows 0) ≤ 65536 }
+        ensures value { result ≡ length ((F.shown self.now.found.now).rows 0) }
+        ensures few { length ((F.shown self.now.found.now).rows 0) ≤ 65536 }
     {
         let _some = self.found.threads();
         self.found.rows(0).len() as u32
@@ -120,7 +120,7 @@ impl<'a, F: Findings, K: KnownPath, P: PathPremises> InferredCrash<'a, F, K, P> 
 
     /// How many of the bytes that the steps of the first thread load only were inferred.
     pub(crate) fn bytes_added(&self) -> u32
-        ensures { result ≡ sum_to (step_added (told_in (path_reader K.set K.byte P.premises) self.now.inferred) (F.shown self.now.found)) (length ((F.shown self.now.found).rows 0)) }
+        ensures { result ≡ sum_to (step_added (told_in (path_reader K.set K.byte P.premises) self.now.inferred) (F.shown self.now.found.now)) (length ((F.shown self.now.found.now).rows 0)) }
     {
         let steps = self.steps();
         let _few = self.found.points();

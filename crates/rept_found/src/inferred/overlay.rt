@@ -21,25 +21,25 @@ use std::alloc::Global;
 /// the findings. A value that only was inferred has no reason.
 #[derive(Drop)]
 pub struct InferredCrash<'a, F: Findings, K: KnownPath, P: PathPremises> {
-    pub found: F,
+    pub found: &'a F,
     pub inferred: InferredPath<'a, K, P>,
     pub taken: PremisesTaken,
     pub(crate) line: bool,
-    ghost lined: { line ≡ is_line (F.shown found) },
+    ghost lined: { line ≡ is_line (F.shown found.now) },
 }
 
 impl<'a, F: Findings, K: KnownPath, P: PathPremises> InferredCrash<'a, F, K, P> {
     /// These findings, with what was inferred beyond them by these premises.
     pub fn new(
-        found: F,
+        found: &'a F,
         inferred: InferredPath<'a, K, P>,
         taken: PremisesTaken,
     ) -> InferredCrash<'a, F, K, P>
-        ensures found { result.found ≡ found }
+        ensures found { result.found.now ≡ found.now }
         ensures inferred { result.inferred ≡ inferred.entry }
         ensures taken { result.taken ≡ taken }
     {
-        let line = is_line(&found);
+        let line = is_line(found);
         InferredCrash {
             found,
             inferred,
@@ -50,11 +50,11 @@ impl<'a, F: Findings, K: KnownPath, P: PathPremises> InferredCrash<'a, F, K, P> 
 
     /// Which steps may have written a byte.
     fn writers(&self) -> PossibleWriters<'_, 'a, F, K, P>
-        ensures found { result.found.now ≡ self.now.found }
+        ensures found { result.found.now ≡ self.now.found.now }
         ensures inferred { result.inferred.now ≡ self.now.inferred }
     {
         PossibleWriters {
-            found: &self.found,
+            found: self.found,
             inferred: &self.inferred,
         }
     }
@@ -64,9 +64,9 @@ impl<'a, F: Findings, K: KnownPath, P: PathPremises> Findings for InferredCrash<
     ghost use Rattle.rept_infer.specs.Path.{path_reader, told_in};
     ghost use Rattle.rept_found.specs.Inferred.Narrowed.{beyond_of, narrowed};
 
-    ghost shown = { λ f. narrowed (beyond_of (told_in (path_reader K.set K.byte P.premises) f.inferred) f.taken) (F.shown f.found) };
+    ghost shown = { λ f. narrowed (beyond_of (told_in (path_reader K.set K.byte P.premises) f.inferred) f.taken) (F.shown f.found.now) };
 
-    ghost reasons = { λ f fact why. F.reasons f.found fact why };
+    ghost reasons = { λ f fact why. F.reasons f.found.now fact why };
 
     fn threads(&self) -> u32 {
         self.found.threads()
@@ -188,7 +188,7 @@ impl<'a, F: Findings, K: KnownPath, P: PathPremises> Findings for InferredCrash<
         }
     }
 
-    fn why(&mut self, alloc: Global, fact: Fact) -> Result<Option<Reason>, OutOfMemory> {
+    fn why(&self, alloc: Global, fact: Fact) -> Result<Option<Reason>, OutOfMemory> {
         self.found.why(alloc, fact)
     }
 }
@@ -197,7 +197,7 @@ impl<'a, F: Findings, K: KnownPath, P: PathPremises> InferredCrash<'a, F, K, P> 
     /// The rule by which a byte was inferred: a step that is known to have stored it tells its
     /// value.
     fn byte_rule(&self, moment: u32, address: u32) -> BeyondRule
-        requires { moment < (F.shown self.now.found).moments }
+        requires { moment < (F.shown self.now.found.now).moments }
     {
         match self.found.writer(moment, address) {
             Writer::Writes(_) => BeyondRule::Value,

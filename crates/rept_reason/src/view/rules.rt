@@ -24,6 +24,10 @@ pub trait RowRules: Drop {
     /// greatest one.
     ghost infers: { Self → ℕ };
 
+    /// The rules, by which nothing was inferred yet.
+    fn new() -> Self
+        ensures fresh { infers result ≡ 0 };
+
     /// All that the row lets one conclude.
     fn infer<V: RowView>(
         &mut self,

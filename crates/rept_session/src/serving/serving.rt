@@ -2,7 +2,7 @@
 
 ghost use Rattle.std.specs.Prelude.{◌≡◌, false, IfOk, IfSome};
 ghost use Rattle.rept_ports.specs.Port.{move};
-ghost use Rattle.rept_findings.specs.Shown.{IsThreadPoint, SameReasons, session_told};
+ghost use Rattle.rept_findings.specs.Shown.{IsThreadPoint, session_told};
 ghost use Rattle.rept_session.specs.Texts.{refusal_line};
 ghost use Rattle.rept_session.specs.Serving.Replies.{IsAnswer, RepliesToLine, said_of_line};
 ghost use Rattle.rept_session.specs.Serving.Serving.{Serves, IsServeCaused};
@@ -44,15 +44,13 @@ pub enum Next {
 /// The answer to a line, which has more than 256 bytes where it is long.
 fn answer_to<F: Findings>(
     alloc: Global,
-    findings: &mut F,
+    findings: &F,
     skipped: u32,
     cursor: ThreadPoint,
     line: Line<'_>,
 ) -> Result<Answer, OutOfMemory>
-    requires { IsThreadPoint (F.shown findings.old) cursor }
-    ensures answer { IfOk result (λ answer. IsAnswer (session_told (F.shown findings.old) skipped (F.reasons findings.old)) cursor (said_of_line line.entry) answer) }
-    ensures same { F.shown findings.new ≡ F.shown findings.old }
-    ensures same_reasons { SameReasons (F.reasons findings.old) (F.reasons findings.new) }
+    requires { IsThreadPoint (F.shown findings.now) cursor }
+    ensures answer { IfOk result (λ answer. IsAnswer (session_told (F.shown findings.now) skipped (F.reasons findings.now)) cursor (said_of_line line.entry) answer) }
 {
     match line {
         Line::Text(text) => answer_line(alloc, findings, skipped, cursor, text),
@@ -77,16 +75,14 @@ fn long_line(alloc: Global, cursor: ThreadPoint) -> Result<Answer, OutOfMemory>
 /// Writes the answer to a line.
 fn reply<F: Findings, K: Sink>(
     alloc: Global,
-    findings: &mut F,
+    findings: &F,
     skipped: u32,
     cursor: ThreadPoint,
     line: Line<'_>,
     out: &mut K,
 ) -> Next
-    requires { IsThreadPoint (F.shown findings.old) cursor }
-    ensures came { RepliesToLine (session_told (F.shown findings.old) skipped (F.reasons findings.old)) cursor (said_of_line line.entry) (move (K.port out.old) (K.port out.new)) result }
-    ensures same { F.shown findings.new ≡ F.shown findings.old }
-    ensures same_reasons { SameReasons (F.reasons findings.old) (F.reasons findings.new) }
+    requires { IsThreadPoint (F.shown findings.now) cursor }
+    ensures came { RepliesToLine (session_told (F.shown findings.now) skipped (F.reasons findings.now)) cursor (said_of_line line.entry) (move (K.port out.old) (K.port out.new)) result }
 {
     let Ok(answer) = answer_to(alloc, findings, skipped, cursor, line) else {
         return Next::OutOfMemory;
@@ -102,19 +98,16 @@ fn reply<F: Findings, K: Sink>(
 }
 
 /// Answers the lines of the input, each before the next one is read, with the cursor at the last
-/// point of thread 0 first. `skipped` is the count of packets that the path was read without. In
-/// each case the findings stay as they were.
+/// point of thread 0 first. `skipped` is the count of packets that the path was read without.
 pub fn serve<F: Findings, S: Source, K: Sink>(
     alloc: Global,
-    findings: &mut F,
+    findings: &F,
     skipped: u32,
     input: &mut S,
     out: &mut K,
 ) -> Served
-    ensures text { IfSome (S.port input.old).bytes (λ bytes. Serves (session_told (F.shown findings.old) skipped (F.reasons findings.old)) (record { input = bytes; left = (S.port input.new).bytes }) (move (K.port out.old) (K.port out.new)) result) }
+    ensures text { IfSome (S.port input.old).bytes (λ bytes. Serves (session_told (F.shown findings.now) skipped (F.reasons findings.now)) (record { input = bytes; left = (S.port input.new).bytes }) (move (K.port out.old) (K.port out.new)) result) }
     ensures causes { IsServeCaused (move (S.port input.old) (S.port input.new)) (move (K.port out.old) (K.port out.new)) result }
-    ensures same { F.shown findings.new ≡ F.shown findings.old }
-    ensures same_reasons { SameReasons (F.reasons findings.old) (F.reasons findings.new) }
 {
     let _threads = findings.threads();
     let mut cursor = last_of(findings, 0);

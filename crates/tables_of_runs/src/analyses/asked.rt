@@ -11,7 +11,7 @@ use rept_extents::RunRows;
 use rept_facts::Stop;
 use rept_isa::Reg;
 use rept_partial::{Partial, Range};
-use rept_reason::{Cell, Fact, Reason};
+use rept_reason::{Cell, Fact, Reason, RowRules};
 use rept_report::{Paths, Reaches};
 use rept_steps::Run;
 use rept_timeline::{RunPaths, is_small};

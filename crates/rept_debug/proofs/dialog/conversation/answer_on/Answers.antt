@@ -1,18 +1,16 @@
-use Rattle.std.proofs.Common.{◌≡◌, ◌++◌, List, ℕ, Ok, Err, refl, ap, subst, sym, ◌∙◌, arith}
+use Rattle.std.proofs.Common.{◌++◌, List, ℕ, Err, subst, arith}
 use Rattle.std.specs.Io.KnownBytes.{Appends}
 use Rattle.rept_ports.specs.Causes.{AppendsPrefix}
 use Rattle.rept_ports.specs.Port.{move}
 use Rattle.rept_remote.specs.Frames.{arrived}
 use Rattle.rept_findings.specs.Shown.{session_told}
-use Rattle.rept_stub.specs.Standing.{IsStandLawful}
 use Rattle.rept_debug.specs.Dialog.Converse.{Parties, parties_over, rules_of}
 use Rattle.rept_debug.specs.Dialog.Dialog.{IsTurn}
 use Rattle.rept_debug.proofs.DialogLemmas.Course.{arrives_next, awaits, broke, ends, longer, on_turn, opened, takes_some}
-use Rattle.rept_debug.proofs.DialogLemmas.Same.{turn_stays, reasons_stay}
 use Rattle.rept_debug.proofs.dialog.conversation.answer_on.Goals as goal
 
 pub dialog-init : goal.dialog-init
-dialog-init g c = record { shown_stays = refl; reasons_stay = λ fact why. (λ x. x, λ x. x); within = c.requires.within; waits = λ input output h. h }
+dialog-init g c = record { within = c.requires.within; waits = λ input output h. h }
 
 pub dialog-preserved : goal.dialog-preserved
 dialog-preserved g c =
@@ -20,16 +18,12 @@ dialog-preserved g c =
     let here = c.dialog.invariant in
     let parties : Parties = parties_over (session_told s c.args.setting.skipped (g.F.Findings.reasons c.args.findings.now)) c.args.setting in
     let what = arrived c.dialog.arrival c.dialog.packets.carried in
-    let told_so : IsTurn (session_told (g.F.Findings.shown c.dialog.findings) c.args.setting.skipped (g.F.Findings.reasons c.dialog.findings)) c.args.setting c.dialog.dialog what c.in-Ok.text c.take_turn.new.dialog =
-    subst (λ (bytes : List ℕ). IsTurn (session_told (g.F.Findings.shown c.dialog.findings) c.args.setting.skipped (g.F.Findings.reasons c.dialog.findings)) c.args.setting c.dialog.dialog (arrived c.dialog.arrival bytes) c.in-Ok.text c.take_turn.new.dialog) c.carried.ensures c.in-Ok.ensures.turn in
     let turned : IsTurn parties.told parties.setting c.dialog.dialog what c.in-Ok.text c.take_turn.new.dialog =
-    turn_stays s (g.F.Findings.shown c.dialog.findings) c.args.setting.skipped (g.F.Findings.reasons c.args.findings.now) (g.F.Findings.reasons c.dialog.findings) here.shown_stays here.reasons_stay c.args.setting c.dialog.dialog what c.in-Ok.text c.take_turn.new.dialog told_so in
+    subst (λ (bytes : List ℕ). IsTurn parties.told parties.setting c.dialog.dialog (arrived c.dialog.arrival bytes) c.in-Ok.text c.take_turn.new.dialog) c.carried.ensures c.in-Ok.ensures.turn in
     let wrote = subst (λ (bytes : List ℕ). Appends (g.K.Sink.port c.dialog.out).bytes (g.K.Sink.port c.write_all.new.sink).bytes bytes) c.bytes.ensures c.in-Ok-write_all.ensures.ok in
     let taken = arrives_next c.dialog.packets c.next.new.self (g.S.Source.port c.dialog.input) (g.S.Source.port c.next.new.source) c.in-Ok-next.arrival c.in-Ok-next.ensures in
     record {
-      shown_stays = c.take_turn.ensures.same ∙ here.shown_stays;
-      reasons_stay = reasons_stay (g.F.Findings.reasons c.args.findings.now) (g.F.Findings.reasons c.dialog.findings) (g.F.Findings.reasons c.take_turn.new.findings) here.reasons_stay c.take_turn.ensures.same_reasons;
-      within = subst (λ shown. IsStandLawful shown c.take_turn.new.dialog.stand) here.shown_stays c.take_turn.ensures.within;
+      within = c.take_turn.ensures.within;
       waits = λ input output h.
           let w = here.waits input output h in
           let so_far = on_turn (rules_of parties) (longer parties) input (g.S.Source.port c.dialog.input) output (g.K.Sink.port c.dialog.out) c.dialog.dialog c.dialog.packets c.dialog.arrival w (g.K.Sink.port c.write_all.new.sink) c.in-Ok.text c.take_turn.new.dialog turned wrote c.in-Ok-write_all.ensures.cause.calm in
@@ -50,10 +44,8 @@ returns-in-Err-write_all-clause-talk g c = λ input output h.
     let here = c.dialog.invariant in
     let parties : Parties = parties_over (session_told s c.args.setting.skipped (g.F.Findings.reasons c.args.findings.now)) c.args.setting in
     let what = arrived c.dialog.arrival c.dialog.packets.carried in
-    let told_so : IsTurn (session_told (g.F.Findings.shown c.dialog.findings) c.args.setting.skipped (g.F.Findings.reasons c.dialog.findings)) c.args.setting c.dialog.dialog what c.in-Ok.text c.take_turn.new.dialog =
-    subst (λ (bytes : List ℕ). IsTurn (session_told (g.F.Findings.shown c.dialog.findings) c.args.setting.skipped (g.F.Findings.reasons c.dialog.findings)) c.args.setting c.dialog.dialog (arrived c.dialog.arrival bytes) c.in-Ok.text c.take_turn.new.dialog) c.carried.ensures c.in-Ok.ensures.turn in
     let turned : IsTurn parties.told parties.setting c.dialog.dialog what c.in-Ok.text c.take_turn.new.dialog =
-    turn_stays s (g.F.Findings.shown c.dialog.findings) c.args.setting.skipped (g.F.Findings.reasons c.args.findings.now) (g.F.Findings.reasons c.dialog.findings) here.shown_stays here.reasons_stay c.args.setting c.dialog.dialog what c.in-Ok.text c.take_turn.new.dialog told_so in
+    subst (λ (bytes : List ℕ). IsTurn parties.told parties.setting c.dialog.dialog (arrived c.dialog.arrival bytes) c.in-Ok.text c.take_turn.new.dialog) c.carried.ensures c.in-Ok.ensures.turn in
     let wrote = subst (λ (bytes : List ℕ). AppendsPrefix (g.K.Sink.port c.dialog.out).bytes (g.K.Sink.port c.write_all.new.sink).bytes bytes) c.bytes.ensures c.in-Err-write_all.ensures.err in
     let cause = c.in-Err-write_all.ensures.cause in
     broke (rules_of parties) (longer parties) input (g.S.Source.port c.dialog.input) output (g.K.Sink.port c.dialog.out) c.dialog.dialog c.dialog.packets c.dialog.arrival (here.waits input output h) (g.K.Sink.port c.write_all.new.sink) c.in-Ok.text c.take_turn.new.dialog turned wrote (record { rose = cause.failed; later = cause.later; once = cause.once })
@@ -64,10 +56,8 @@ returns-then-dialog-clause-talk g c = λ input output h.
     let here = c.dialog.invariant in
     let parties : Parties = parties_over (session_told s c.args.setting.skipped (g.F.Findings.reasons c.args.findings.now)) c.args.setting in
     let what = arrived c.dialog.arrival c.dialog.packets.carried in
-    let told_so : IsTurn (session_told (g.F.Findings.shown c.dialog.findings) c.args.setting.skipped (g.F.Findings.reasons c.dialog.findings)) c.args.setting c.dialog.dialog what c.in-Ok.text c.take_turn.new.dialog =
-    subst (λ (bytes : List ℕ). IsTurn (session_told (g.F.Findings.shown c.dialog.findings) c.args.setting.skipped (g.F.Findings.reasons c.dialog.findings)) c.args.setting c.dialog.dialog (arrived c.dialog.arrival bytes) c.in-Ok.text c.take_turn.new.dialog) c.carried.ensures c.in-Ok.ensures.turn in
     let turned : IsTurn parties.told parties.setting c.dialog.dialog what c.in-Ok.text c.take_turn.new.dialog =
-    turn_stays s (g.F.Findings.shown c.dialog.findings) c.args.setting.skipped (g.F.Findings.reasons c.args.findings.now) (g.F.Findings.reasons c.dialog.findings) here.shown_stays here.reasons_stay c.args.setting c.dialog.dialog what c.in-Ok.text c.take_turn.new.dialog told_so in
+    subst (λ (bytes : List ℕ). IsTurn parties.told parties.setting c.dialog.dialog (arrived c.dialog.arrival bytes) c.in-Ok.text c.take_turn.new.dialog) c.carried.ensures c.in-Ok.ensures.turn in
     let wrote = subst (λ (bytes : List ℕ). Appends (g.K.Sink.port c.dialog.out).bytes (g.K.Sink.port c.write_all.new.sink).bytes bytes) c.bytes.ensures c.in-Ok-write_all.ensures.ok in
     let w = here.waits input output h in
     record {
@@ -83,10 +73,8 @@ returns-in-Err-next-clause-talk g c = λ input output h.
     let here = c.dialog.invariant in
     let parties : Parties = parties_over (session_told s c.args.setting.skipped (g.F.Findings.reasons c.args.findings.now)) c.args.setting in
     let what = arrived c.dialog.arrival c.dialog.packets.carried in
-    let told_so : IsTurn (session_told (g.F.Findings.shown c.dialog.findings) c.args.setting.skipped (g.F.Findings.reasons c.dialog.findings)) c.args.setting c.dialog.dialog what c.in-Ok.text c.take_turn.new.dialog =
-    subst (λ (bytes : List ℕ). IsTurn (session_told (g.F.Findings.shown c.dialog.findings) c.args.setting.skipped (g.F.Findings.reasons c.dialog.findings)) c.args.setting c.dialog.dialog (arrived c.dialog.arrival bytes) c.in-Ok.text c.take_turn.new.dialog) c.carried.ensures c.in-Ok.ensures.turn in
     let turned : IsTurn parties.told parties.setting c.dialog.dialog what c.in-Ok.text c.take_turn.new.dialog =
-    turn_stays s (g.F.Findings.shown c.dialog.findings) c.args.setting.skipped (g.F.Findings.reasons c.args.findings.now) (g.F.Findings.reasons c.dialog.findings) here.shown_stays here.reasons_stay c.args.setting c.dialog.dialog what c.in-Ok.text c.take_turn.new.dialog told_so in
+    subst (λ (bytes : List ℕ). IsTurn parties.told parties.setting c.dialog.dialog (arrived c.dialog.arrival bytes) c.in-Ok.text c.take_turn.new.dialog) c.carried.ensures c.in-Ok.ensures.turn in
     let wrote = subst (λ (bytes : List ℕ). Appends (g.K.Sink.port c.dialog.out).bytes (g.K.Sink.port c.write_all.new.sink).bytes bytes) c.bytes.ensures c.in-Ok-write_all.ensures.ok in
     let w = here.waits input output h in
     let so_far = on_turn (rules_of parties) (longer parties) input (g.S.Source.port c.dialog.input) output (g.K.Sink.port c.dialog.out) c.dialog.dialog c.dialog.packets c.dialog.arrival w (g.K.Sink.port c.write_all.new.sink) c.in-Ok.text c.take_turn.new.dialog turned wrote c.in-Ok-write_all.ensures.cause.calm in

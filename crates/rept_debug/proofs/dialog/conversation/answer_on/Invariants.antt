@@ -1,7 +1,7 @@
-use Rattle.std.proofs.Common.{◌≡◌, ◌-◌}
+use Rattle.std.proofs.Common.{◌-◌}
 use Rattle.rept_ports.specs.Port.{Port, move}
 use Rattle.rept_remote.specs.Reading.{most_input}
-use Rattle.rept_findings.specs.Shown.{SameReasons, session_told}
+use Rattle.rept_findings.specs.Shown.{session_told}
 use Rattle.rept_stub.specs.Standing.{IsStandLawful}
 use Rattle.rept_debug.specs.Dialog.Converse.{parties_over, rules_of}
 use Rattle.rept_debug.specs.Dialog.Greeting.{Awaits}
@@ -13,11 +13,9 @@ invariant-dialog g l =
     let sink = g.K.Sink.port in
     let shown = g.F.Findings.shown in
     let reasons = g.F.Findings.reasons in
-    let rules = rules_of (parties_over (session_told (shown l.fn.findings) l.setting.skipped (reasons l.fn.findings)) l.setting) in
+    let rules = rules_of (parties_over (session_told (shown l.findings) l.setting.skipped (reasons l.findings)) l.setting) in
     record {
-      shown_stays : shown l.findings ≡ shown l.fn.findings;
-      reasons_stay : SameReasons (reasons l.fn.findings) (reasons l.findings);
-      within : IsStandLawful (shown l.fn.findings) l.dialog.stand;
+      within : IsStandLawful (shown l.findings) l.dialog.stand;
       waits : (input output : Port) → Awaits rules (move input (source l.fn.input)) (move output (sink l.fn.out)) l.fn.waiting.dialog l.fn.waiting.packets l.fn.waiting.arrival → Awaits rules (move input (source l.input)) (move output (sink l.out)) l.dialog l.packets l.arrival;
     }
 

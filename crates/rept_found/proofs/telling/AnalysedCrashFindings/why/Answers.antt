@@ -1,4 +1,4 @@
-use Rattle.std.proofs.Common.{◌≡◌, ◌≢◌, ◌↔◌, Some, IfOk, IfNone, IfSome, subst}
+use Rattle.std.proofs.Common.{◌≢◌, Some, IfOk, IfNone, IfSome, subst}
 use Rattle.rept_dump.specs.Dump.{exe_of, core_of}
 use Rattle.rept_report.specs.Setting.{Setting}
 use Rattle.rept_report.specs.Why.{IsReason}
@@ -9,7 +9,7 @@ use Rattle.rept_found.specs.Telling.{shown_on}
 use Rattle.rept_found.specs.Crash.{means}
 use Rattle.rept_found.specs.View.{CrashView, scene_in, state_in, trip_in}
 use Rattle.rept_found.proofs.Settings.{setting_is}
-use Rattle.rept_found.proofs.Whys.{same_shown, same_reasons, none_shown}
+use Rattle.rept_found.proofs.Whys.{none_shown}
 use Rattle.rept_found.proofs.telling.AnalysedCrashFindings.why.Goals as goal
 
 pub returns-clause-none : goal.returns-clause-none
@@ -25,19 +25,3 @@ returns-clause-reason g c =
     let here : CrashView g.row.W.Denot g.row.R.Denot = record { analysis = c.self.inside.analysis.propagation.facts; ends = c.self.inside.ends.now; program = exe_of c.self.inside.dump.now; core = core_of c.self.inside.dump.now } in
     subst (λ (v : CrashView g.row.W.Denot g.row.R.Denot). IfOk c.why.result (λ found. IfSome found (λ reason. IsReason (setting_on (trip_in m v)) (state_in m v).known.log c.args.fact (explained reason)))) c.self.view_is
     (subst (λ (S : Setting g.row.W.Denot). IfOk c.why.result (λ found. IfSome found (λ reason. IsReason S (state_in m here).known.log c.args.fact (explained reason)))) (setting_is m here c.self.invariant.1) c.why.ensures.reason)
-
-pub returns-clause-same : goal.returns-clause-same
-returns-clause-same g c =
-    let m = means g.W.Partial.sets g.W.Transfer.moves g.R.RowRules.rules in
-    let here : CrashView g.row.W.Denot g.row.R.Denot = record { analysis = c.self.inside.analysis.propagation.facts; ends = c.self.inside.ends.now; program = exe_of c.self.inside.dump.now; core = core_of c.self.inside.dump.now } in
-    let new : CrashView g.row.W.Denot g.row.R.Denot = record { analysis = c.why.new.self.propagation.facts; ends = c.self.inside.ends.now; program = exe_of c.self.inside.dump.now; core = core_of c.self.inside.dump.now } in
-    subst (λ (v : CrashView g.row.W.Denot g.row.R.Denot). shown_on (trip_in m new) (answers (state_in m new)) (scene_in new) ≡ shown_on (trip_in m v) (answers (state_in m v)) (scene_in v)) c.self.view_is
-    (same_shown (state_in m here) (state_in m new) c.why.ensures.same (trip_in m here) (scene_in here))
-
-pub returns-clause-same_reasons : goal.returns-clause-same_reasons
-returns-clause-same_reasons g c = λ fact why.
-    let m = means g.W.Partial.sets g.W.Transfer.moves g.R.RowRules.rules in
-    let here : CrashView g.row.W.Denot g.row.R.Denot = record { analysis = c.self.inside.analysis.propagation.facts; ends = c.self.inside.ends.now; program = exe_of c.self.inside.dump.now; core = core_of c.self.inside.dump.now } in
-    let new : CrashView g.row.W.Denot g.row.R.Denot = record { analysis = c.why.new.self.propagation.facts; ends = c.self.inside.ends.now; program = exe_of c.self.inside.dump.now; core = core_of c.self.inside.dump.now } in
-    subst (λ (v : CrashView g.row.W.Denot g.row.R.Denot). IsReason (setting_on (trip_in m v)) (state_in m v).known.log fact why ↔ IsReason (setting_on (trip_in m new)) (state_in m new).known.log fact why) c.self.view_is
-    (same_reasons (state_in m here) (state_in m new) c.why.ensures.same (setting_on (trip_in m here)) fact why)

@@ -1,12 +1,9 @@
-use Rattle.std.proofs.Common.{Ok, Some, length, refl, ap, ◌∙◌, arith, rules}
-use Rattle.rept_ports.specs.Port.{move}
+use Rattle.std.proofs.Common.{Ok, Some, refl, ap, ◌∙◌, rules}
 use Rattle.rept_ports.specs.declared.lines.limits.LineFault.TheVariants.{ReadFault, TooMuchInput}
 use Rattle.rept_findings.specs.Shown.{SessionTold, session_told}
 use Rattle.rept_session.specs.Serving.Replies.{said_of_line}
-use Rattle.rept_session.specs.declared.serving.serving.Next.TheVariants as next
 use Rattle.rept_session.specs.declared.serving.serving.Served.TheVariants as served
 use Rattle.rept_session.proofs.ServingLemmas.ReadLemmas.{Came, over, line_came, fault_came, end_came}
-use Rattle.rept_session.proofs.ServingLemmas.SameLemmas.{reasons_stay, no_other, replies_stay}
 use Rattle.rept_session.proofs.ServingLemmas.ServeLemmas.{SoFar, served_so, starts, line_said, end_said, fault_said, at_end, at_fault, at_too_much, line_on, at_quit, at_no_memory, at_output_fault}
 use Rattle.rept_session.proofs.serving.serving.serve.Goals as goal
 use Rattle.rept_session.proofs.serving.serving.serve.Goals.{In-Ok-Some}
@@ -21,8 +18,6 @@ pub session-init : goal.session-init
 session-init g c = record {
   same = refl;
   none = c.new-lines.ensures.no_fault;
-  shown_stays = refl;
-  reasons_stay = no_other (g.F.Findings.reasons c.args.findings.now);
   within = c.last_of-cursor.ensures.within;
   read_calm = refl;
   write_calm = refl;
@@ -33,13 +28,10 @@ pub session-preserved : goal.session-preserved
 session-preserved g c =
     let line = came g (goal.at.session-preserved g c).In-Ok-Some in
     let t : SessionTold = session_told (g.F.Findings.shown c.args.findings.now) c.args.skipped (g.F.Findings.reasons c.args.findings.now) in
-    let h = replies_stay (g.F.Findings.shown c.args.findings.now) (g.F.Findings.shown c.session.findings) c.args.skipped (g.F.Findings.reasons c.args.findings.now) (g.F.Findings.reasons c.session.findings) c.session.invariant.shown_stays c.session.invariant.reasons_stay
-    c.session.cursor (said_of_line c.in-Ok-Some.line) (move (g.K.Sink.port c.session.out) (g.K.Sink.port c.reply.new.out)) (next.Line c.in-Line.next) c.in-Line.ensures.came in
+    let h = c.in-Line.ensures.came in
     record {
       same = c.next_line.follows.holds-at-none.0 ∙ c.session.invariant.same;
       none = line.2;
-      shown_stays = c.reply.ensures.same ∙ c.session.invariant.shown_stays;
-      reasons_stay = reasons_stay _ _ _ c.session.invariant.reasons_stay c.reply.ensures.same_reasons;
       within = h.within;
       read_calm = line.1.calm ∙ c.session.invariant.read_calm;
       write_calm = h.calm ∙ c.session.invariant.write_calm;
@@ -62,8 +54,7 @@ pub returns-in-OutputFault-clause-text : goal.returns-in-OutputFault-clause-text
 returns-in-OutputFault-clause-text g c =
     let t : SessionTold = session_told (g.F.Findings.shown c.args.findings.now) c.args.skipped (g.F.Findings.reasons c.args.findings.now) in
     let line = came g (goal.at.returns-in-OutputFault-clause-text g c).In-Ok-Some in
-    let h = replies_stay (g.F.Findings.shown c.args.findings.now) (g.F.Findings.shown c.session.findings) c.args.skipped (g.F.Findings.reasons c.args.findings.now) (g.F.Findings.reasons c.session.findings) c.session.invariant.shown_stays c.session.invariant.reasons_stay
-    c.session.cursor (said_of_line c.in-Ok-Some.line) (move (g.K.Sink.port c.session.out) (g.K.Sink.port c.reply.new.out)) next.OutputFault c.in-OutputFault.ensures.came in
+    let h = c.in-OutputFault.ensures.came in
     served_so g.S.Source.port t (g.S.Source.port c.new-lines.result.source.now).bytes (g.S.Source.port c.args.input.now).bytes (g.S.Source.port c.session.lines.source.now).bytes c.next_line.follows.lender-at-none.source.now c.next_line.follows.lender-at-none.source.now c.session.lines.intake c.session.cursor (g.K.Sink.port c.args.out.now) (g.K.Sink.port c.session.out) (g.K.Sink.port c.reply.new.out) served.OutputFault
     (ap (λ s. (g.S.Source.port s).bytes) c.new-lines.ensures.source) refl c.session.invariant.so_far
     (λ input so_far. at_output_fault t input (g.S.Source.port c.session.lines.source.now) (g.S.Source.port c.next_line.follows.lender-at-none.source.now) _ c.next_line.follows.lender-at-none.intake c.session.cursor (g.K.Sink.port c.args.out.now) (g.K.Sink.port c.session.out) so_far line.0 (said_of_line c.in-Ok-Some.line) line.1 (g.K.Sink.port c.reply.new.out) h)
@@ -72,8 +63,7 @@ pub returns-in-Quit-clause-text : goal.returns-in-Quit-clause-text
 returns-in-Quit-clause-text g c =
     let t : SessionTold = session_told (g.F.Findings.shown c.args.findings.now) c.args.skipped (g.F.Findings.reasons c.args.findings.now) in
     let line = came g (goal.at.returns-in-Quit-clause-text g c).In-Ok-Some in
-    let h = replies_stay (g.F.Findings.shown c.args.findings.now) (g.F.Findings.shown c.session.findings) c.args.skipped (g.F.Findings.reasons c.args.findings.now) (g.F.Findings.reasons c.session.findings) c.session.invariant.shown_stays c.session.invariant.reasons_stay
-    c.session.cursor (said_of_line c.in-Ok-Some.line) (move (g.K.Sink.port c.session.out) (g.K.Sink.port c.reply.new.out)) next.Quit c.in-Quit.ensures.came in
+    let h = c.in-Quit.ensures.came in
     served_so g.S.Source.port t (g.S.Source.port c.new-lines.result.source.now).bytes (g.S.Source.port c.args.input.now).bytes (g.S.Source.port c.session.lines.source.now).bytes c.next_line.follows.lender-at-none.source.now c.next_line.follows.lender-at-none.source.now c.session.lines.intake c.session.cursor (g.K.Sink.port c.args.out.now) (g.K.Sink.port c.session.out) (g.K.Sink.port c.reply.new.out) served.Ended
     (ap (λ s. (g.S.Source.port s).bytes) c.new-lines.ensures.source) refl c.session.invariant.so_far
     (λ input so_far. at_quit t input (g.S.Source.port c.session.lines.source.now) (g.S.Source.port c.next_line.follows.lender-at-none.source.now) _ c.next_line.follows.lender-at-none.intake c.session.cursor (g.K.Sink.port c.args.out.now) (g.K.Sink.port c.session.out) so_far line.0 (said_of_line c.in-Ok-Some.line) line.1 (g.K.Sink.port c.reply.new.out) h.1 h.0)
@@ -82,8 +72,7 @@ pub returns-in-OutOfMemory-clause-text : goal.returns-in-OutOfMemory-clause-text
 returns-in-OutOfMemory-clause-text g c =
     let t : SessionTold = session_told (g.F.Findings.shown c.args.findings.now) c.args.skipped (g.F.Findings.reasons c.args.findings.now) in
     let line = came g (goal.at.returns-in-OutOfMemory-clause-text g c).In-Ok-Some in
-    let h = replies_stay (g.F.Findings.shown c.args.findings.now) (g.F.Findings.shown c.session.findings) c.args.skipped (g.F.Findings.reasons c.args.findings.now) (g.F.Findings.reasons c.session.findings) c.session.invariant.shown_stays c.session.invariant.reasons_stay
-    c.session.cursor (said_of_line c.in-Ok-Some.line) (move (g.K.Sink.port c.session.out) (g.K.Sink.port c.reply.new.out)) next.OutOfMemory c.in-OutOfMemory.ensures.came in
+    let h = c.in-OutOfMemory.ensures.came in
     served_so g.S.Source.port t (g.S.Source.port c.new-lines.result.source.now).bytes (g.S.Source.port c.args.input.now).bytes (g.S.Source.port c.session.lines.source.now).bytes c.next_line.follows.lender-at-none.source.now c.next_line.follows.lender-at-none.source.now c.session.lines.intake c.session.cursor (g.K.Sink.port c.args.out.now) (g.K.Sink.port c.session.out) (g.K.Sink.port c.reply.new.out) served.OutOfMemory
     (ap (λ s. (g.S.Source.port s).bytes) c.new-lines.ensures.source) refl c.session.invariant.so_far
     (λ input so_far. at_no_memory t input (g.S.Source.port c.session.lines.source.now) (g.S.Source.port c.next_line.follows.lender-at-none.source.now) _ c.next_line.follows.lender-at-none.intake c.session.cursor (g.K.Sink.port c.args.out.now) (g.K.Sink.port c.session.out) so_far line.0 (said_of_line c.in-Ok-Some.line) line.1 (g.K.Sink.port c.reply.new.out) h)

@@ -1,6 +1,6 @@
 use Rattle.std.proofs.Common.{◌≡◌, None, IfSome}
 use Rattle.rept_ports.specs.Lines.{to_come}
-use Rattle.rept_findings.specs.Shown.{IsThreadPoint, SameReasons, session_told}
+use Rattle.rept_findings.specs.Shown.{IsThreadPoint, session_told}
 use Rattle.rept_session.proofs.ServingLemmas.ServeLemmas.{SoFar}
 use Rattle.rept_session.proofs.serving.serving.serve.Given as goal
 
@@ -13,12 +13,10 @@ invariant-session g l =
     record {
       same : l.lines.source.ghost_name ≡ l.initial.lines.source.ghost_name;
       none : l.lines.fault ≡ None;
-      shown_stays : shown l.findings ≡ shown l.initial.findings;
-      reasons_stay : SameReasons (reasons l.initial.findings) (reasons l.findings);
-      within : IsThreadPoint (shown l.initial.findings) l.cursor;
+      within : IsThreadPoint (shown l.findings) l.cursor;
       read_calm : (source l.lines.source.now).faults ≡ (source l.initial.lines.source.now).faults;
       write_calm : (sink l.out).faults ≡ (sink l.initial.out).faults;
-      so_far : IfSome (source l.initial.lines.source.now).bytes (λ input. SoFar (session_told (shown l.initial.findings) l.skipped (reasons l.initial.findings)) input (source l.lines.source.now).bytes l.lines.intake l.cursor (sink l.initial.out).bytes (sink l.out).bytes);
+      so_far : IfSome (source l.initial.lines.source.now).bytes (λ input. SoFar (session_told (shown l.findings) l.skipped (reasons l.findings)) input (source l.lines.source.now).bytes l.lines.intake l.cursor (sink l.initial.out).bytes (sink l.out).bytes);
     }
 
 abbrev pub decreases-session : goal.decreases-session

@@ -6,7 +6,7 @@ use Rattle.rept_found.proofs.inferred.overlay.InferredCrash.bytes_added.Given as
 
 abbrev pub invariant-loop-index : goal.invariant-loop-index
 invariant-loop-index g l = record {
-  value : l.sum ≡ sum_to (step_added (told_in (path_reader g.K.KnownPath.set g.K.KnownPath.byte g.P.PathPremises.premises) l.self.inferred) (g.F.Findings.shown l.self.found)) l.index;
+  value : l.sum ≡ sum_to (step_added (told_in (path_reader g.K.KnownPath.set g.K.KnownPath.byte g.P.PathPremises.premises) l.self.inferred) (g.F.Findings.shown l.self.found.now)) l.index;
   few : l.sum ≤ 4 * l.index;
-  steps : l.steps ≡ length ((g.F.Findings.shown l.self.found).rows 0);
+  steps : l.steps ≡ length ((g.F.Findings.shown l.self.found.now).rows 0);
 }

@@ -7,6 +7,6 @@ use Rattle.rept_found.proofs.inferred.overlay.InferredCrash.loaded_bytes.Given a
 
 abbrev pub invariant-loop-k : goal.invariant-loop-k
 invariant-loop-k g l = record {
-  value : l.sum ≡ count_true (λ k. is_byte_added (told_in (path_reader g.K.KnownPath.set g.K.KnownPath.byte g.P.PathPremises.premises) l.self.inferred) (g.F.Findings.shown l.self.found) l.moment (beside l.address k)) l.k;
+  value : l.sum ≡ count_true (λ k. is_byte_added (told_in (path_reader g.K.KnownPath.set g.K.KnownPath.byte g.P.PathPremises.premises) l.self.inferred) (g.F.Findings.shown l.self.found.now) l.moment (beside l.address k)) l.k;
   few : l.sum ≤ l.k;
 }

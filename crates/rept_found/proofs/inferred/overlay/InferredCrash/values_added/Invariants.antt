@@ -6,7 +6,7 @@ use Rattle.rept_found.proofs.inferred.overlay.InferredCrash.values_added.Given a
 
 abbrev pub invariant-loop-point : goal.invariant-loop-point
 invariant-loop-point g l = record {
-  value : l.sum ≡ sum_to (added_at (told_in (path_reader g.K.KnownPath.set g.K.KnownPath.byte g.P.PathPremises.premises) l.self.inferred) (g.F.Findings.shown l.self.found)) l.point;
+  value : l.sum ≡ sum_to (added_at (told_in (path_reader g.K.KnownPath.set g.K.KnownPath.byte g.P.PathPremises.premises) l.self.inferred) (g.F.Findings.shown l.self.found.now)) l.point;
   few : l.sum ≤ 32 * l.point;
-  points : l.points ≡ (g.F.Findings.shown l.self.found).points;
+  points : l.points ≡ (g.F.Findings.shown l.self.found.now).points;
 }

@@ -6,6 +6,6 @@ use Rattle.rept_found.proofs.inferred.overlay.InferredCrash.values_at.Given as g
 
 abbrev pub invariant-loop-r : goal.invariant-loop-r
 invariant-loop-r g l = record {
-  value : l.sum ≡ count_true (λ r. is_added ((g.F.Findings.shown l.self.found).register l.point r) ((told_in (path_reader g.K.KnownPath.set g.K.KnownPath.byte g.P.PathPremises.premises) l.self.inferred).set l.point r)) l.r;
+  value : l.sum ≡ count_true (λ r. is_added ((g.F.Findings.shown l.self.found.now).register l.point r) ((told_in (path_reader g.K.KnownPath.set g.K.KnownPath.byte g.P.PathPremises.premises) l.self.inferred).set l.point r)) l.r;
   few : l.sum ≤ l.r;
 }

@@ -5,8 +5,8 @@ use Rattle.rept_found.proofs.inferred.overlay.InferredCrashFindings.writer.Goals
 
 pub returns-then-self-clause-last : goal.returns-then-self-clause-last
 returns-then-self-clause-last g c = λ thread.
-    last_beyond (beyond_of (told_in (path_reader g.K.KnownPath.set g.K.KnownPath.byte g.P.PathPremises.premises) c.args.self.now.inferred) c.args.self.now.taken) (g.F.Findings.shown c.args.self.now.found) thread c.args.address (c.writer-told.ensures.last thread)
+    last_beyond (beyond_of (told_in (path_reader g.K.KnownPath.set g.K.KnownPath.byte g.P.PathPremises.premises) c.args.self.now.inferred) c.args.self.now.taken) (g.F.Findings.shown c.args.self.now.found.now) thread c.args.address (c.writer-told.ensures.last thread)
 
 pub returns-else-self-clause-last : goal.returns-else-self-clause-last
 returns-else-self-clause-last g c = λ thread.
-    last_beyond (beyond_of (told_in (path_reader g.K.KnownPath.set g.K.KnownPath.byte g.P.PathPremises.premises) c.args.self.now.inferred) c.args.self.now.taken) (g.F.Findings.shown c.args.self.now.found) thread c.args.address (c.writer-told.ensures.last thread)
+    last_beyond (beyond_of (told_in (path_reader g.K.KnownPath.set g.K.KnownPath.byte g.P.PathPremises.premises) c.args.self.now.inferred) c.args.self.now.taken) (g.F.Findings.shown c.args.self.now.found.now) thread c.args.address (c.writer-told.ensures.last thread)
