@@ -3,7 +3,5 @@
 
 pub mod analysis;
 mod fresh;
-pub mod thread_end;
 
 pub use analysis::Analysis;
-pub use thread_end::ThreadEnd;

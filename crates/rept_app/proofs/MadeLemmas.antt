@@ -25,7 +25,8 @@ use Rattle.rept_ports.specs.Port.{Port, PortMove, move}
 use Rattle.rept_report.specs.Closure.{ClosureHas, IsConsistent}
 use Rattle.rept_report.specs.OneThread.{path_setting}
 use Rattle.rept_report.specs.declared.conflict.ConflictKind.{ConflictKind}
-use Rattle.rept_found.specs.Crash.{Crash, end_pc, is_restarted, last_value, last_values, left_of, path_of, setting}
+use Rattle.rept_found.specs.Crash.{Crash, end_pc, last_value, last_values, left_of, path_of, setting}
+use Rattle.rept_timeline.specs.Ends.{is_restarted}
 use Rattle.rept_found.specs.Truth.{ExecutesPath, HasNoExecutionOfPath}
 use Rattle.rept_make.specs.Files.{bytes_of_words}
 use Rattle.rept_make.specs.Laid.{laid}

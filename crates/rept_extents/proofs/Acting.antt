@@ -16,7 +16,7 @@ use Rattle.rept_order.specs.Times.{begin_of, wholly_before, may_act_between, not
 use Rattle.rept_order.proofs.Acting.{after_true, may_act_true}
 use Rattle.rept_report.specs.Moments.{AreMoments, points_of}
 use Rattle.rept_report.specs.Timeline.{Timeline, IsTimeline}
-use Rattle.rept_report.specs.declared.reach.reaches.NumberWindow.{NumberWindow}
+use Rattle.rept_report.specs.declared.paths.NumberWindow.{NumberWindow}
 use Rattle.rept_report.specs.Reach.Reaching.{IsExtent}
 use Rattle.rept_moments.specs.Naming.Names.{IsLink, AreNames}
 use Rattle.rept_moments.specs.Naming.Numbered.{row_on, may_act_by, legs_on}

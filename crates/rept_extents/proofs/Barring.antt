@@ -1,7 +1,7 @@
 -- Which rows may act between a number that is before no row and each one that is next to it.
 use mathlib.Core.Logic.{∥∥₁_elim}
 use Rattle.std.proofs.Props.{props}
-use Rattle.std.proofs.Common.{◌≡◌, ℕ, ◌&&◌, not, Bool, true, false, List, Option, Some, None, refl, sym, ap, ◌∙◌, subst}
+use Rattle.std.proofs.Common.{◌≡◌, ℕ, ◌&&◌, not, Bool, true, false, Option, Some, None, refl, sym, ap, ◌∙◌, subst}
 use Rattle.std.specs.Option.{is_some}
 use Rattle.std.proofs.lemmas.Bool.{false≢true, and_from}
 use Rattle.rept_steps.specs.Course.{Row, IsRow, IsSoundCourse}
@@ -12,14 +12,10 @@ use Rattle.rept_report.specs.Reach.Reaching.{IsBar}
 use Rattle.rept_moments.specs.Naming.Names.{NoOwn}
 use Rattle.rept_moments.specs.Naming.Numbered.{row_on}
 use Rattle.rept_moments.proofs.NamingLemmas.Ends.{else_may_act, ahead_back}
-use Rattle.rept_moments.specs.declared.course.NumberedRun.{NumberedRun}
-use Rattle.rept_moments.specs.declared.course.NumberedRun as courses
 use Rattle.rept_moments.specs.Numbers.{numbers_of, numbered}
 use Rattle.rept_moments.specs.Seen.{seen_many, IsRowAt}
 use Rattle.rept_moments.proofs.Apart.{are_numbers}
 use Rattle.rept_moments.proofs.Places.{row_there, point_of_row, row_point}
-use Rattle.rept_timeline.specs.Listed.{AreListed, IsSoundIn}
-use Rattle.rept_timeline.proofs.Lists.{sound_of}
 
 not_so : (b : Bool) → (b ≡ true → ⊥) → b ≡ false
 not_so true k = absurd (k refl)
@@ -47,8 +43,3 @@ module _ (C : runs.Course) where
   -- that the course is sound may be a mere fact
   pub bar_is : ∥ IsSoundCourse C ∥₁ → (i m : ℕ) → IsRowAt (seen_many C) m None → stores C (row_on C i) ≡ true → (numbered C).past i m ≡ false → (numbered C).ahead i m ≡ false → IsBar (numbered C) i m
   bar_is t i m none writes past ahead w next = ∥∥₁_elim t (hlevel props) (λ sound. bar_sound sound i m none writes past ahead w next)
-
--- a course whose rows that may write are listed is sound
-pub listed_sound : (c : NumberedRun) (list : List ℕ) → ∥ AreListed c list ∥₁ → ∥ IsSoundIn c ∥₁
-listed_sound (courses.TheVariants.One steps) list t = ∣ tt ∣₁
-listed_sound (courses.TheVariants.Many many) list t = sound_of many list t

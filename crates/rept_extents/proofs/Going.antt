@@ -7,8 +7,8 @@ use Rattle.std.proofs.lemmas.Bool.{cases_lt}
 use Rattle.std.proofs.lemmas.List.{get_or_append_left, get_or_push, get_or_past}
 use Rattle.rept_span.specs.Ranges.{Legs}
 use Rattle.rept_report.specs.Moments.{Moments, AreMoments}
-use Rattle.rept_timeline.specs.Carry.Links.{IsNextFrom, IsNextTo}
-use Rattle.rept_report.specs.declared.reach.reaches.NumberWindow.{NumberWindow}
+use Rattle.rept_extents.specs.Carry.Links.{IsNextFrom, IsNextTo}
+use Rattle.rept_report.specs.declared.paths.NumberWindow.{NumberWindow}
 use Rattle.rept_report.specs.Reach.Reaching.{IsLit, IsLeaving, IsReachedUp, IsReachedDown}
 use Rattle.rept_extents.specs.declared.hulls.Bounds.{Bounds}
 use Rattle.rept_extents.specs.declared.reaches.NextTables.{NextTables}

@@ -1,5 +1,6 @@
-mod Barring
-mod Bounds
-mod Coming
-mod Acting
+pub mod Barring
+pub mod Bounds
+pub mod Coming
+pub mod Acting
 pub mod Going
+pub mod CarryLemmas

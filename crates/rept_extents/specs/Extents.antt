@@ -2,7 +2,7 @@
 use Rattle.std.specs.Prelude.{◌≡◌, ℕ, List, Some, slice_get}
 use Rattle.std.specs.Option.{IsSome}
 use Rattle.rept_report.specs.Timeline.{Timeline}
-use Rattle.rept_report.specs.declared.reach.reaches.NumberWindow.{NumberWindow}
+use Rattle.rept_report.specs.declared.paths.NumberWindow.{NumberWindow}
 use Rattle.rept_report.specs.Reach.Reaching.{IsExtent}
 
 -- each of the list has the numbers between which the row of its place may act

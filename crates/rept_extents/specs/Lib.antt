@@ -2,3 +2,5 @@ pub mod Extents
 pub mod Hulls
 pub mod Tables
 pub mod Times
+pub mod Timelines
+pub mod Carry

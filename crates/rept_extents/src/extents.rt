@@ -1,14 +1,14 @@
 //! Between which numbers each row may act.
 
-ghost use Rattle.std.specs.Prelude.{◌≡◌, ◌≤◌, ◌<◌, ℕ, true, length, IfOk, IsSome};
+ghost use Rattle.std.specs.Prelude.{◌≡◌, ◌≤◌, ◌<◌, ℕ, true, length, IfOk, IsOk, IsSome};
 ghost use Rattle.rept_steps.specs.Course.{IsSoundCourse};
 ghost use Rattle.rept_steps.specs.Runs.{course_of};
 ghost use Rattle.rept_order.specs.Ordered.{course_in};
-ghost use Rattle.rept_moments.specs.Courses.{IsCourseOf};
+ghost use Rattle.rept_moments.specs.Courses.{IsCourseOf, is_one};
 ghost use Rattle.rept_moments.specs.Several.{seen_of};
 ghost use Rattle.rept_report.specs.Timeline.{IsTimeline};
 ghost use Rattle.rept_report.specs.Reach.Reaching.{IsExtent};
-ghost use Rattle.rept_timeline.specs.Times.{as_timeline, time_of};
+ghost use Rattle.rept_extents.specs.Timelines.{as_timeline, time_of};
 ghost use Rattle.rept_extents.specs.Times.{AreBegins, AreEndTimes};
 ghost use Rattle.rept_extents.specs.Extents.{AreExtents};
 
@@ -29,7 +29,7 @@ pub struct Extents {
 
 impl Model for Extents {
     ghost use Rattle.std.specs.Prelude.{List};
-    ghost use Rattle.rept_report.specs.declared.reach.reaches.NumberWindow.{NumberWindow};
+    ghost use Rattle.rept_report.specs.declared.paths.NumberWindow.{NumberWindow};
 
     ghost Value = { List NumberWindow };
 
@@ -119,7 +119,8 @@ impl Extents {
     pub fn new(alloc: Global, run: &Run, course: &NumberedRun<'_>) -> Result<Extents, OutOfMemory>
         requires sound { IsSoundCourse (course_of run.now) }
         requires course { IsCourseOf (course_of run.now) course.now }
-        ensures { IfOk result (λ e. AreExtents (time_of course.now) e) }
+        ensures extents { IfOk result (λ e. AreExtents (time_of course.now) e) }
+        ensures alone { is_one course.now ≡ true → IsOk result }
     {
         match course {
             NumberedRun::One { .. } => Ok(Extents {

@@ -1,12 +1,12 @@
-//! Tables of a run by the numbers of its moments: between which of them each row may act, and how
-//! far a byte's value goes at once.
+//! Tables of a run by the numbers of its memory points: which are next to each, which stand in one
+//! line, between which of them each row may act, and how far a byte's value goes at once.
 #![tactic(auto)]
 
-mod extents;
+pub mod carry;
+pub mod extents;
 mod hulls;
-mod reaches;
-mod run_rows;
-mod surely_blocks;
+pub mod reaches;
+pub mod surely_blocks;
 mod times;
 
-pub use run_rows::RunRows;
+pub use carry::{Lines, Ways};

@@ -6,10 +6,10 @@ ghost use Rattle.rept_moments.specs.Courses.{seen_in, is_one};
 ghost use Rattle.rept_report.specs.Reach.Reaching.{IsLeaving, IsReachedUp, IsReachedDown};
 ghost use Rattle.rept_extents.specs.Tables.{AreEach, AreTables, NextsLieIn, IsUp, IsDown};
 
+use crate::Ways;
 use crate::hulls::{Bounds, BoundsTree};
 use rept_moments::NumberedRun;
 use rept_report::NumberWindow;
-use rept_timeline::Ways;
 use std::alloc::{AllocError as OutOfMemory, Global};
 
 /// Which numbers are next to each, and by which ones each is reached.

@@ -7,8 +7,8 @@ ghost use Rattle.rept_moments.specs.Courses.{seen_in};
 ghost use Rattle.rept_moments.specs.Several.{seen_of};
 ghost use Rattle.rept_report.specs.Reach.Reaching.{IsBar};
 ghost use Rattle.rept_report.specs.Timeline.{HasEqualNumbers};
-ghost use Rattle.rept_timeline.specs.Listed.{IsSoundIn};
-ghost use Rattle.rept_timeline.specs.Times.{time_of};
+ghost use Rattle.rept_extents.specs.Timelines.{IsSoundIn};
+ghost use Rattle.rept_extents.specs.Timelines.{time_of};
 
 use rept_moments::{Many, NumberedRun};
 

@@ -24,7 +24,7 @@ use Rattle.rept_span.specs.Moves.{Moves}
 use Rattle.rept_reason.specs.View.Rules.{Rules}
 use Rattle.rept_versions.specs.Facts.{Store}
 use Rattle.rept_log.specs.Fronts.{Stored, IsFront, basis_of, front_of, stands}
-use Rattle.rept_facts.specs.State.{AnalysisState, Whole, Reader, setting_of, state_of, along}
+use Rattle.rept_facts.specs.State.{AnalysisState, Whole, setting_of, state_of, along}
 use Rattle.rept_facts.specs.Kept.{is_among, answers, IsFinished, IsKept}
 use Rattle.rept_facts.specs.Reasoned.{front_below, AreSetsOf, IsNotLast}
 use Rattle.rept_facts.proofs.Learning.{known_words}
@@ -198,8 +198,8 @@ some_after P Q None f h = tt
 some_after P Q (Some x) f h = f x h
 
 -- a prefix of what an analysis holds is that of what is given
-pub front_same : {P L B W R : Type 0} (read : Reader P L) (sets : Sets W) (moves : Moves W) (rules : Rules) (a : Whole P L B W R) (t : ℕ) (b : Stored P L) → b ≡ record { paths = a.paths; last = a.last; exe = a.exe; core = a.core; facts = oldest t a.known.log } → front_of sets moves rules (basis_of read.timeline read.last b) ≡ front_below read sets moves rules a t
-front_same {P} {L} read sets moves rules a t b is = ap (λ (x : Stored P L). front_of sets moves rules (basis_of read.timeline read.last x)) is
+pub front_same : {B W R : Type 0} (sets : Sets W) (moves : Moves W) (rules : Rules) (a : Whole B W R) (t : ℕ) (b : Stored) → b ≡ record { paths = a.paths; last = a.last; exe = a.exe; core = a.core; facts = oldest t a.known.log } → front_of sets moves rules (basis_of b) ≡ front_below sets moves rules a t
+front_same sets moves rules a t b is = ap (λ (x : Stored). front_of sets moves rules (basis_of x)) is
 
-pub front_by : {P L B W R : Type 0} (read : Reader P L) (sets : Sets W) (moves : Moves W) (rules : Rules) (store : B → Store) (a : Whole P L B W R) (t : ℕ) (spans : View W) → HasLaws (setting_of read sets moves rules a) → IsKept (state_of read sets moves rules store a) → IsFinished (state_of read sets moves rules store a) → AreSetsOf (setting_of read sets moves rules a) (oldest t a.known.log) spans → IsFront (front_of sets moves rules (basis_of read.timeline read.last (record { paths = a.paths; last = a.last; exe = a.exe; core = a.core; facts = oldest t a.known.log }))) a.known.last spans
-front_by read sets moves rules store a t spans laws kept finished its = front_is (state_of read sets moves rules store a) laws kept finished t spans its
+pub front_by : {B W R : Type 0} (sets : Sets W) (moves : Moves W) (rules : Rules) (store : B → Store) (a : Whole B W R) (t : ℕ) (spans : View W) → HasLaws (setting_of sets moves rules a) → IsKept (state_of sets moves rules store a) → IsFinished (state_of sets moves rules store a) → AreSetsOf (setting_of sets moves rules a) (oldest t a.known.log) spans → IsFront (front_of sets moves rules (basis_of (record { paths = a.paths; last = a.last; exe = a.exe; core = a.core; facts = oldest t a.known.log }))) a.known.last spans
+front_by sets moves rules store a t spans laws kept finished its = front_is (state_of sets moves rules store a) laws kept finished t spans its

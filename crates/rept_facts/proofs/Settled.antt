@@ -10,7 +10,7 @@ use Rattle.rept_reason.specs.Facts.{Knowledge, told}
 use Rattle.rept_span.specs.Ranges.{Legs}
 use Rattle.rept_reason.specs.View.Seen.{Seen}
 use Rattle.rept_report.specs.Reach.Reaching.{IsExtent}
-use Rattle.rept_report.specs.declared.reach.reaches.NumberWindow.{NumberWindow}
+use Rattle.rept_report.specs.declared.paths.NumberWindow.{NumberWindow}
 use Rattle.rept_writing.specs.Hits.{IsSplitAt, IsFreeSince, hits_at}
 use Rattle.rept_writing.specs.declared.list.Writing.{Writing}
 use Rattle.rept_report.specs.declared.paths.NumberChain.{NumberChain}

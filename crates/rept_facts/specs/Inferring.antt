@@ -27,7 +27,7 @@ use Rattle.rept_report.specs.Why.{fact_of}
 use Rattle.rept_facts.specs.declared.halt.LearnError.{LearnError}
 use Rattle.rept_facts.specs.declared.halt.LearnError.TheVariants.{Clash, OutOfMemory}
 use Rattle.rept_report.specs.Reach.Reaching.{IsExtent}
-use Rattle.rept_report.specs.declared.reach.reaches.NumberWindow.{NumberWindow}
+use Rattle.rept_report.specs.declared.paths.NumberWindow.{NumberWindow}
 use Rattle.rept_writing.specs.Hits.{AreInOrder}
 use Rattle.rept_writing.specs.declared.list.Writing.{Writing}
 use Rattle.rept_report.specs.declared.paths.Strip.{Strip}

@@ -9,15 +9,15 @@ use Rattle.rept_partial.specs.Sets.{Sets}
 use Rattle.rept_span.specs.Moves.{Moves}
 use Rattle.rept_reason.specs.View.Rules.{Rules}
 use Rattle.rept_log.specs.Fronts.{FrontView}
-use Rattle.rept_facts.specs.State.{Whole, Reader, given_of}
+use Rattle.rept_facts.specs.State.{Whole, given_of}
 
 -- the facts at places below t, of what is given
-abbrev pub front_below : {P L B W R : Type 0} → Reader P L → Sets W → Moves W → Rules → Whole P L B W R → ℕ → FrontView W
-front_below read sets moves rules a t = record {
+abbrev pub front_below : {B W R : Type 0} → Sets W → Moves W → Rules → Whole B W R → ℕ → FrontView W
+front_below sets moves rules a t = record {
   sets = sets;
   moves = moves;
   rules = rules;
-  given = given_of read a;
+  given = given_of a;
   facts = oldest t a.known.log;
 }
 

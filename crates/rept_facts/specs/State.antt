@@ -13,6 +13,9 @@ use Rattle.rept_report.specs.declared.conflict.ConflictKind.{ConflictKind}
 use Rattle.rept_report.specs.Setting.{Setting}
 use Rattle.rept_report.specs.Given.{Given, setting_by}
 use Rattle.rept_report.specs.Timeline.{Timeline}
+use Rattle.rept_timeline.specs.Paths.{timeline}
+use Rattle.rept_timeline.specs.Ends.{Ends, last_values_in}
+use Rattle.rept_timeline.specs.declared.run_paths.RunPaths.{RunPaths}
 use Rattle.rept_reason.specs.Facts.{Knowledge}
 use Rattle.rept_writing.specs.declared.list.Writing.{Writing}
 use Rattle.rept_writing.specs.declared.passes.pass.Pass.{Pass}
@@ -22,9 +25,9 @@ use Rattle.rept_facts.specs.Work.{Work}
 -- the segments of the core file; the facts that were learnt; the sets of values that were filled
 -- last, and of how many facts in the log; the rules; how many facts in the log, from the oldest on,
 -- are answered; whether all is learnt, and the conflict that was answered; and its work.
-pub record Whole (P L B W R : Type 0) : Type 0 where
-  pub paths : P
-  pub last : L
+pub record Whole (B W R : Type 0) : Type 0 where
+  pub paths : RunPaths
+  pub last : Ends
   pub exe : Program
   pub core : List ElfSegment
   pub known : Held B
@@ -63,38 +66,30 @@ pub record AnalysisState (W : Type 0) : Type 0 where
   pub conflict : Option ConflictKind
   pub work : Work
 
--- how rows and moments are read, and the values of registers at the last point of each thread
-pub record Reader (P L : Type 0) : Type 0 where
-  pub timeline : P → Timeline
-  pub last : L → ℕ → ℕ → Option ℕ
-
-abbrev pub reader : {P L : Type 0} → (P → Timeline) → (L → ℕ → ℕ → Option ℕ) → Reader P L
-reader timeline last = record { timeline = timeline; last = last }
-
 -- what is given: the rows and moments, the last values of registers and the dump
-abbrev pub given_of : {P L B W R : Type 0} → Reader P L → Whole P L B W R → Given
-given_of read a = record {
-  legs = (read.timeline a.paths).legs;
-  moments = (read.timeline a.paths).moments;
-  last = read.last a.last;
+abbrev pub given_of : {B W R : Type 0} → Whole B W R → Given
+given_of a = record {
+  legs = (timeline a.paths).legs;
+  moments = (timeline a.paths).moments;
+  last = last_values_in a.last;
   dump = crash_byte (contents a.exe) a.core;
   image_end = (contents a.exe).end;
 }
 
-abbrev pub path_of : {P L B W R : Type 0} → Reader P L → Sets W → Moves W → Rules → Whole P L B W R → Subject W
-path_of read sets moves rules a = record {
+abbrev pub path_of : {B W R : Type 0} → Sets W → Moves W → Rules → Whole B W R → Subject W
+path_of sets moves rules a = record {
   sets = sets;
   moves = moves;
   rules = rules;
-  given = given_of read a;
+  given = given_of a;
 }
 
-abbrev pub setting_of : {P L B W R : Type 0} → Reader P L → Sets W → Moves W → Rules → Whole P L B W R → Setting W
-setting_of read sets moves rules a = along (path_of read sets moves rules a)
+abbrev pub setting_of : {B W R : Type 0} → Sets W → Moves W → Rules → Whole B W R → Setting W
+setting_of sets moves rules a = along (path_of sets moves rules a)
 
-abbrev pub state_of : {P L B W R : Type 0} → Reader P L → Sets W → Moves W → Rules → (B → Store) → Whole P L B W R → AnalysisState W
-state_of read sets moves rules store a = record {
-  path = path_of read sets moves rules a;
+abbrev pub state_of : {B W R : Type 0} → Sets W → Moves W → Rules → (B → Store) → Whole B W R → AnalysisState W
+state_of sets moves rules store a = record {
+  path = path_of sets moves rules a;
   known = known_of store a.known;
   spans = a.spans;
   filled = a.filled;

@@ -1,9 +1,9 @@
 //! What is known of a run and the dump in which it ends, and what one fact more does.
 //!
-//! A line such as `let _paths = &self.paths;` or `let _count = self.count();`, here and in the
+//! A line such as `let _paths = self.paths;` or `let _count = self.count();`, here and in the
 //! modules below, changes nothing: what always holds of a field (the invariant of its type), or
 //! what a call ensures, can be cited in a proof only where the code has read it.
-
+ghost use Rattle.rept_timeline.specs.Paths.{timeline};
 ghost use Rattle.std.specs.Prelude.{◌≡◌, ◌+◌, ◌*◌, ◌<◌, ◌≤◌, ℕ, length, false, IfOk, IfSome, IsSome, Some, None, Ok, slice_get, ◌==◌, ◌↔◌, IsTrue};
 ghost use Rattle.rept_isa.specs.declared.row.StepRow.{StepRow};
 ghost use Rattle.rept_dump.specs.Dump.{exe_of, core_of};
@@ -14,7 +14,7 @@ ghost use Rattle.rept_dump.specs.Program.{contents};
 ghost use Rattle.rept_log.specs.Compared.{IsNextDiffering};
 ghost use Rattle.rept_report.specs.declared.conflict.ConflictKind.{ConflictKind};
 ghost use Rattle.rept_facts.specs.Begun.{LearnsEndsFirst};
-ghost use Rattle.rept_facts.specs.State.{given_of, state_of, reader};
+ghost use Rattle.rept_facts.specs.State.{given_of, state_of};
 ghost use Rattle.rept_report.specs.Views.{moment_of};
 ghost use Rattle.rept_facts.specs.Kept.{IsKept, register_answer};
 ghost use Rattle.rept_facts.specs.Sums.{sum_to};
@@ -33,14 +33,16 @@ mod looking;
 mod ways;
 mod writes;
 
+use crate::CrashInput;
 use crate::tables::AnalysisTables;
 use rept_dump::Dump;
 use rept_isa::{Reg, StepRow};
-use rept_log::{FactLog, LastValues};
+use rept_log::FactLog;
 use rept_partial::Flat;
 use rept_reason::{RowRules, When};
-use rept_report::{ConflictKind, Paths, Reaches};
+use rept_report::ConflictKind;
 use rept_span::{Spans, Transfer};
+use rept_timeline::{RunPaths, ThreadEnds};
 use rept_versions::{ByteFacts, ValueStretch};
 use rept_writing::{RuleProgress, StoreIndex};
 use std::alloc::{AllocError as OutOfMemory, Global};
@@ -48,20 +50,13 @@ use std::marker::Model;
 
 /// What is known of a run and the dump in which it ends.
 #[derive(Drop)]
-pub struct CrashFacts<
-    'a,
-    P: Reaches + Drop,
-    L: LastValues + Drop,
-    B: ByteFacts,
-    W: Transfer,
-    R: RowRules,
-> {
+pub struct CrashFacts<'a, B: ByteFacts, W: Transfer, R: RowRules> {
     /// where memory is taken
     alloc: Global,
     /// the rows and moments of the run
-    paths: P,
+    paths: &'a RunPaths<'a>,
     /// the register values at the last point of each thread
-    last: L,
+    last: &'a ThreadEnds<'a>,
     /// the program and the memory at the end
     dump: Dump<'a>,
     /// the facts that were learnt, in their order
@@ -89,23 +84,22 @@ pub struct CrashFacts<
     has_put: bool,
 }
 
-impl<'a, P: Reaches + Drop, L: LastValues + Drop, B: ByteFacts, W: Transfer, R: RowRules> Model
-    for CrashFacts<'a, P, L, B, W, R> {
+impl<'a, B: ByteFacts, W: Transfer, R: RowRules> Model for CrashFacts<'a, B, W, R> {
     ghost use Rattle.rept_dump.specs.Dump.{exe_of, core_of};
-    ghost use Rattle.rept_facts.specs.State.{Whole, state_of, reader};
+    ghost use Rattle.rept_facts.specs.State.{Whole, state_of};
     ghost use Rattle.rept_facts.specs.Kept.{IsKept};
     ghost use Rattle.rept_facts.specs.Work.{work_of};
 
-    ghost Value = { Whole P L B W R };
+    ghost Value = { Whole B W R };
 
-    ghost view = { λ a. record { paths = a.paths; last = a.last; exe = exe_of a.dump; core = core_of a.dump; known = a.known; spans = a.spans; filled = a.filled; rules = a.rules; shown = a.shown; complete = a.complete; conflict = a.conflict; work = work_of B.JOINS (R.infers a.rules) a.writing a.inferred } };
+    ghost view = { λ a. record { paths = a.paths.now; last = a.last.now; exe = exe_of a.dump; core = core_of a.dump; known = a.known; spans = a.spans; filled = a.filled; rules = a.rules; shown = a.shown; complete = a.complete; conflict = a.conflict; work = work_of B.JOINS (R.infers a.rules) a.writing a.inferred } };
 
-    ghost invariant = { λ a. IsKept (state_of (reader P.timeline L.values) W.sets W.moves R.rules B.store (record { paths = a.paths; last = a.last; exe = exe_of a.dump; core = core_of a.dump; known = a.known; spans = a.spans; filled = a.filled; rules = a.rules; shown = a.shown; complete = a.complete; conflict = a.conflict; work = work_of B.JOINS (R.infers a.rules) a.writing a.inferred })) };
+    ghost invariant = { λ a. IsKept (state_of W.sets W.moves R.rules B.store (record { paths = a.paths.now; last = a.last.now; exe = exe_of a.dump; core = core_of a.dump; known = a.known; spans = a.spans; filled = a.filled; rules = a.rules; shown = a.shown; complete = a.complete; conflict = a.conflict; work = work_of B.JOINS (R.infers a.rules) a.writing a.inferred })) };
 }
 
 /// How many bytes the row that leads from a point, if one does, lets one conclude at most.
-fn row_places<P: Paths, R: RowRules>(paths: &P, point: u32) -> u32
-    ensures value { result ≡ places_of R.rules ((P.timeline paths.now).legs.row point) }
+fn row_places<R: RowRules>(paths: &RunPaths<'_>, point: u32) -> u32
+    ensures value { result ≡ places_of R.rules ((timeline paths.now).legs.row point) }
     ensures few { result ≤ 8 }
 {
     match paths.row(point) {
@@ -115,44 +109,39 @@ fn row_places<P: Paths, R: RowRules>(paths: &P, point: u32) -> u32
 }
 
 /// How many bytes the rows let one conclude at most.
-fn access_bytes<P: Paths, R: RowRules>(paths: &P) -> u32
-    requires { (P.timeline paths.now).legs.count ≤ 66560 }
+fn access_bytes<R: RowRules>(paths: &RunPaths<'_>) -> u32
+    requires { (timeline paths.now).legs.count ≤ 66560 }
     ensures few { result ≤ 532480 }
-    ensures sum { result ≡ sum_to (λ i. places_of R.rules ((P.timeline paths.now).legs.row i)) (P.timeline paths.now).legs.count }
+    ensures sum { result ≡ sum_to (λ i. places_of R.rules ((timeline paths.now).legs.row i)) (timeline paths.now).legs.count }
 {
     let mut sum = 0;
     for point in 0..paths.last_point() {
-        sum += row_places::<P, R>(paths, point);
+        sum += row_places::<R>(paths, point);
     }
     sum
 }
 
-impl<
-    'a,
-    P: Reaches + Drop,
-    L: LastValues + Drop,
-    B: ByteFacts,
-    W: Transfer,
-    R: RowRules,
-> CrashFacts<'a, P, L, B, W, R> {
-    /// What is known of these rows and moments, of at most 66,560 points, whose threads end in these
-    /// register values, and all of them in this dump, by these rules: nothing yet. `OutOfMemory`
-    /// says that its room can't be had.
+impl<'a, B: ByteFacts, W: Transfer, R: RowRules> CrashFacts<'a, B, W, R> {
+    /// What is known of a run that ends in a dump: nothing yet. `OutOfMemory` says that its room
+    /// can't be had.
     pub fn prepare(
         alloc: Global,
-        paths: P,
-        last: L,
-        dump: &'a Dump<'a>,
-        rules: R,
-    ) -> Result<CrashFacts<'a, P, L, B, W, R>, OutOfMemory>
-        requires few { (P.timeline paths).legs.count ≤ 66560 }
-        requires registers { (p r v : ℕ) → L.values last p r ≡ Some v → r < 32 }
-        ensures path { IfOk result (λ a. (a.paths ≡ paths) × (a.last ≡ last)) }
-        ensures memory { IfOk result (λ a. (a.exe ≡ exe_of dump.now) × (a.core ≡ core_of dump.now)) }
-        ensures begins { IfOk result (λ a. LearnsEndsFirst (state_of (reader P.timeline L.values) W.sets W.moves R.rules B.store a)) }
+        input: CrashInput<'a, R>,
+    ) -> Result<CrashFacts<'a, B, W, R>, OutOfMemory>
+        requires few { (timeline input.paths.now).legs.count ≤ 66560 }
+        ensures path { IfOk result (λ a. (a.paths ≡ input.entry.paths.now) × (a.last ≡ input.entry.last.now)) }
+        ensures memory { IfOk result (λ a. (a.exe ≡ exe_of input.entry.dump.now) × (a.core ≡ core_of input.entry.dump.now)) }
+        ensures begins { IfOk result (λ a. LearnsEndsFirst (state_of W.sets W.moves R.rules B.store a)) }
         ensures calm { IfOk result (λ a. a.conflict ≡ None) }
     {
-        let bytes = access_bytes::<P, R>(&paths);
+        let CrashInput {
+            paths,
+            last,
+            dump,
+            rules,
+        } = input;
+        last.account();
+        let bytes = access_bytes::<R>(paths);
         let count = paths.last_point();
         let tables = AnalysisTables::new(alloc, count, paths.end(), bytes)?;
         let AnalysisTables {
@@ -182,10 +171,10 @@ impl<
 
     /// The last point of all.
     pub fn count(&self) -> u32
-        ensures value { result ≡ (P.timeline self.now.paths).legs.count }
+        ensures value { result ≡ (timeline self.now.paths).legs.count }
         ensures few { result ≤ 66560 }
-        ensures last { self.now.known.last ≡ (P.timeline self.now.paths).legs.count }
-        ensures sized { self.now.spans.points ≡ (P.timeline self.now.paths).legs.count + 1 }
+        ensures last { self.now.known.last ≡ (timeline self.now.paths).legs.count }
+        ensures sized { self.now.spans.points ≡ (timeline self.now.paths).legs.count + 1 }
         ensures filled { self.now.filled ≤ length self.now.known.log }
     {
         self.paths.last_point()
@@ -193,16 +182,16 @@ impl<
 
     /// The number of the end.
     pub fn end(&self) -> u32
-        ensures value { result ≡ (P.timeline self.now.paths).moments.end }
+        ensures value { result ≡ (timeline self.now.paths).moments.end }
     {
         self.paths.end()
     }
 
     /// The number of the moment before or after a row.
     pub fn moment_at(&self, row: u32, when: When) -> u32
-        requires { IsSome ((P.timeline self.now.paths).legs.row row) }
-        ensures value { result ≡ moment_of (P.timeline self.now.paths).moments row when }
-        ensures early { result ≤ (P.timeline self.now.paths).moments.end }
+        requires { IsSome ((timeline self.now.paths).legs.row row) }
+        ensures value { result ≡ moment_of (timeline self.now.paths).moments row when }
+        ensures early { result ≤ (timeline self.now.paths).moments.end }
     {
         match when {
             When::Before => self.paths.before(row),
@@ -212,15 +201,15 @@ impl<
 
     /// The row that leads from a point, if one does.
     pub fn row(&self, i: u32) -> Option<StepRow>
-        ensures row { result ≡ (P.timeline self.now.paths).legs.row i }
-        ensures inside { IfSome result (λ _. i < (P.timeline self.now.paths).legs.count) }
+        ensures row { result ≡ (timeline self.now.paths).legs.row i }
+        ensures inside { IfSome result (λ _. i < (timeline self.now.paths).legs.count) }
     {
         self.paths.row(i)
     }
 
     /// The value of a register at the last point of a thread, if it has one.
     pub fn last_value(&self, point: u32, r: Reg) -> Option<u32>
-        ensures { result ≡ (given_of (reader P.timeline L.values) self.now).last point r }
+        ensures { result ≡ (given_of self.now).last point r }
     {
         self.last.value(point, r)
     }
@@ -234,22 +223,22 @@ impl<
 
     /// What is known of a register at a point.
     pub fn known(&self, point: u32, r: Reg) -> Flat
-        requires point { point ≤ (P.timeline self.now.paths).legs.count }
+        requires point { point ≤ (timeline self.now.paths).legs.count }
         ensures value { result ≡ flat (register_known (told self.now.known.log) point r) }
         ensures in_file { r < 32 }
     {
-        let _paths = &self.paths;
+        let _paths = self.paths;
         self.known.known(point, r)
     }
 
     /// The first register from one on, other than x0, of which not the same is known at a point and
     /// at the one after it, if there is one.
     pub fn next_differing(&self, point: u32, least: u8) -> Option<Reg>
-        requires point { point < (P.timeline self.now.paths).legs.count }
+        requires point { point < (timeline self.now.paths).legs.count }
         requires named { 0 < least }
         ensures { IsNextDiffering self.now.known.log point least result }
     {
-        let _paths = &self.paths;
+        let _paths = self.paths;
         self.known.next_differing(point, least)
     }
 
@@ -262,9 +251,9 @@ impl<
 
     /// What always holds.
     pub fn held(&self)
-        ensures { IsKept (state_of (reader P.timeline L.values) W.sets W.moves R.rules B.store self.now) }
+        ensures { IsKept (state_of W.sets W.moves R.rules B.store self.now) }
     {
-        let _paths = &self.paths;
+        let _paths = self.paths;
     }
 
     /// How many addresses are tracked.
@@ -300,19 +289,19 @@ impl<
 
     /// The set of a register, as the sets were filled.
     fn span(&self, point: u32, r: Reg) -> W
-        requires point { point ≤ (P.timeline self.now.paths).legs.count }
+        requires point { point ≤ (timeline self.now.paths).legs.count }
         ensures { entry_at self.now.spans point r ≡ Some result }
     {
-        let _paths = &self.paths;
+        let _paths = self.paths;
         self.spans.at(point, r)
     }
 
     /// What is known of a register at a point by the facts that are answered.
     pub fn shown_below(&self, point: u32, r: Reg) -> Flat
-        requires point { point ≤ (P.timeline self.now.paths).legs.count }
-        ensures { result ≡ flat (register_answer (state_of (reader P.timeline L.values) W.sets W.moves R.rules B.store self.now) point r) }
+        requires point { point ≤ (timeline self.now.paths).legs.count }
+        ensures { result ≡ flat (register_answer (state_of W.sets W.moves R.rules B.store self.now) point r) }
     {
-        let _paths = &self.paths;
+        let _paths = self.paths;
         self.known.known_below(self.shown, point, r)
     }
 
@@ -322,20 +311,20 @@ impl<
         ensures infers { self.now.work.infers ≡ R.infers self.now.rules }
         ensures joins { self.now.work.joins ≡ B.JOINS }
     {
-        let _paths = &self.paths;
+        let _paths = self.paths;
     }
 
     /// The rows and moments.
-    pub fn paths(&self) -> &P
+    pub fn paths(&self) -> &RunPaths<'_>
         ensures { result.now ≡ self.now.paths }
     {
-        &self.paths
+        self.paths
     }
 
     /// Whether all is learnt.
     pub fn ended(&self) -> bool
         ensures value { result ≡ self.now.complete }
-        ensures kept { IsKept (state_of (reader P.timeline L.values) W.sets W.moves R.rules B.store self.now) }
+        ensures kept { IsKept (state_of W.sets W.moves R.rules B.store self.now) }
     {
         self.complete
     }
@@ -343,7 +332,7 @@ impl<
     /// The conflict that was found, if one was.
     pub fn found_conflict(&self) -> Option<ConflictKind>
         ensures value { result ≡ self.now.conflict }
-        ensures kept { IsKept (state_of (reader P.timeline L.values) W.sets W.moves R.rules B.store self.now) }
+        ensures kept { IsKept (state_of W.sets W.moves R.rules B.store self.now) }
     {
         self.conflict
     }

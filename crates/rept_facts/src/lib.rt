@@ -4,6 +4,7 @@
 pub mod facts;
 mod front_sets;
 mod halt;
+mod input;
 mod leap;
 mod moment;
 mod piece;
@@ -16,6 +17,7 @@ mod turns;
 pub use facts::CrashFacts;
 pub use front_sets::FrontSets;
 pub use halt::LearnError;
+pub use input::CrashInput;
 pub use leap::ByteLeap;
 pub use piece::Piece;
 pub use rows::{address, is_store};

@@ -1,18 +1,20 @@
-//! The rows of any paths, as sets of values go along them.
+//! The rows of a run's paths, as sets of values go along them.
+
+ghost use Rattle.rept_timeline.specs.Paths.{timeline};
 
 use rept_isa::StepRow;
-use rept_report::Paths;
 use rept_span::Trail;
+use rept_timeline::RunPaths;
 
-/// The rows of any paths.
+/// The rows of a run's paths, by the points that they lead from.
 #[derive(Drop)]
-pub struct PathTrail<'p, P: Paths> {
+pub struct PathTrail<'p> {
     /// the rows and moments
-    pub paths: &'p P,
+    pub paths: &'p RunPaths<'p>,
 }
 
-impl<'p, P: Paths> Trail for PathTrail<'p, P> {
-    ghost legs = { λ t. (P.timeline t.paths.now).legs };
+impl<'p> Trail for PathTrail<'p> {
+    ghost legs = { λ t. (timeline t.paths.now).legs };
 
     fn row(&self, point: u32) -> Option<StepRow> {
         self.paths.row(point)

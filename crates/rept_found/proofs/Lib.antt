@@ -1,6 +1,5 @@
 pub mod Alone
 pub mod Chains
-pub mod Enders
 pub mod Numbers
 pub mod Settings
 pub mod Single

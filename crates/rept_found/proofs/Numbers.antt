@@ -1,4 +1,5 @@
 -- What the code of a run's course answers of threads, points and moments is what is shown of them.
+use Rattle.rept_timeline.specs.Paths.{timeline}
 use Rattle.std.proofs.Common.{◌≡◌, ℕ, zero, suc, ◌+◌, ◌<◌, ◌≤◌, List, [], ◌∷◌, length, map, Option, Some, None, slice_get, sym, ap, ◌∙◌, refl, subst, arith}
 use Rattle.rept_isa.specs.declared.row.StepRow.{StepRow}
 use Rattle.rept_dump.specs.Program.{Program}
@@ -13,10 +14,10 @@ use Rattle.rept_moments.specs.declared.course.NumberedRun as courses
 use Rattle.rept_moments.specs.Courses.{first_in, seen_in, IsCourseOf}
 use Rattle.rept_report.specs.Timeline.{moment_by}
 use Rattle.rept_moments.specs.Seen.{SeenMoments, seen, moment_in}
-use Rattle.rept_found.proofs.PlacesLemmas.Naming.{is_only}
+use Rattle.rept_timeline.proofs.Only.{is_only}
 use Rattle.rept_found.specs.Crash.{ended_at}
-use Rattle.rept_found.specs.View.{CrashView, IsOfRun, ended_as, read_in}
-use Rattle.rept_found.proofs.Enders.{points_fit}
+use Rattle.rept_found.specs.View.{CrashView, IsOfRun, ended_as}
+use Rattle.rept_timeline.proofs.Enders.{points_fit}
 use Rattle.rept_found.proofs.Settings.{points_are, seen_same}
 
 -- the first points of threads
@@ -56,8 +57,8 @@ ended_there (x ∷ statuses) program (suc t) status e = ended_there statuses pro
 
 -- a point or moment that is shown is one that the analysis goes over
 module _ {W R : Type 0} (v : CrashView W R) (of : IsOfRun v) where
-  pub point_inside : (p : ℕ) → p < (seen v.ends.course).legs.count + 1 → p ≤ (read_in.timeline v.analysis.paths).legs.count
+  pub point_inside : (p : ℕ) → p < (seen v.ends.course).legs.count + 1 → p ≤ (timeline v.analysis.paths).legs.count
   point_inside p below = subst (λ (g : Given). p ≤ g.legs.count) (sym of.given) (omega arith)
 
-  pub moment_inside : (m : ℕ) → m < (seen v.ends.course).moments.end + 1 → m ≤ (read_in.timeline v.analysis.paths).moments.end
+  pub moment_inside : (m : ℕ) → m < (seen v.ends.course).moments.end + 1 → m ≤ (timeline v.analysis.paths).moments.end
   moment_inside m below = subst (λ (g : Given). m ≤ g.moments.end) (sym of.given) (omega arith)

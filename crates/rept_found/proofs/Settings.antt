@@ -20,7 +20,7 @@ use Rattle.rept_moments.specs.declared.course.NumberedRun as courses
 use Rattle.rept_moments.specs.Courses.{seen_in, IsCourseOf}
 use Rattle.rept_moments.specs.Points.{points_in}
 use Rattle.rept_moments.specs.Seen.{SeenMoments, seen, seen_by, alone_by}
-use Rattle.rept_found.proofs.PlacesLemmas.Naming.{is_only}
+use Rattle.rept_timeline.proofs.Only.{is_only}
 use Rattle.rept_report.specs.Closure.{ClosureHas, IsReport}
 use Rattle.rept_report.specs.declared.conflict.ConflictKind.{ConflictKind}
 use Rattle.rept_report.specs.Given.{Given, setting_by}
@@ -30,13 +30,13 @@ use Rattle.rept_facts.specs.State.{Subject as Read, Whole, given_of, path_of, se
 use Rattle.rept_facts.specs.Kept.{answers}
 use Rattle.rept_analysis.specs.Logged.{IsLogOf}
 use Rattle.rept_found.specs.Trip.Alone.{registers_alone, trip_of}
-use Rattle.rept_found.specs.Trip.Trip.{Trip, thread_on, given_on, setting_on}
-use Rattle.rept_found.specs.Crash.{Crash, Means, ThreadEnd, Scene, end_pc, ended, is_restarted, last_value, last_values, left_by, left_of, path_of as crash_path, route, trip_by, values_of}
-use Rattle.rept_found.specs.Ends.{Ends, registers_of_one, registers_in, last_values_in, AreEnds, AreNoted, AreWhole}
-use Rattle.rept_found.specs.View.{CrashView, read_in, ended_as, IsFoundIn, IsOfRun, IsPreparedFor, scene_in, state_in, trip_in}
-use Rattle.rept_extents.specs.declared.run_rows.RunRows.{RunRows}
-use Rattle.rept_found.specs.declared.ends.RunEnds.{RunEnds}
-use Rattle.rept_found.proofs.Enders.{thread_inside, values_same}
+use Rattle.rept_found.specs.Trip.Trip.{Trip, given_on, setting_on}
+use Rattle.rept_timeline.specs.Ends.{thread_on}
+use Rattle.rept_found.specs.Crash.{Crash, Means, ThreadEnd, Scene, end_pc, ended, last_value, last_values, left_of, path_of as crash_path, route, trip_by, values_of}
+use Rattle.rept_timeline.specs.Ends.{is_restarted, left_by}
+use Rattle.rept_timeline.specs.Ends.{Ends, registers_of_one, registers_in, last_values_in, AreEnds, AreNoted, AreWhole}
+use Rattle.rept_found.specs.View.{CrashView, ended_as, IsFoundIn, IsOfRun, IsPreparedFor, scene_in, state_in, trip_in}
+use Rattle.rept_timeline.proofs.Enders.{thread_inside, values_same}
 
 -- the registers of a status are the last values
 pub last_are : (note : List ℕ) (status : Status) → IsStatus note status → length status.regs ≡ 32 → status.regs ≡ last_values note
@@ -109,38 +109,13 @@ abbrev given_with : SeenMoments → (ℕ → ℕ → Option ℕ) → Program →
 given_with x last program core = record { legs = x.legs; moments = x.moments; last = last; dump = crash_byte (contents program) core; image_end = (contents program).end }
 
 -- an analysis of these paths, ends and files
-pub given_is : {B W R : Type 0} (a : Whole RunRows RunEnds B W R) (paths : RunPaths) (ends : Ends) (program : Program) (core : List ElfSegment) → a.paths.paths.now ≡ paths → a.last.ends.now ≡ ends → (a.exe ≡ program) × (a.core ≡ core) → IsCourseOf ends.course paths.ways → given_of read_in a ≡ given_on ends.course (record { registers = registers_in ends; dump = crash_byte (contents program) core; image_end = (contents program).end })
+pub given_is : {B W R : Type 0} (a : Whole B W R) (paths : RunPaths) (ends : Ends) (program : Program) (core : List ElfSegment) → a.paths ≡ paths → a.last ≡ ends → (a.exe ≡ program) × (a.core ≡ core) → IsCourseOf ends.course paths.ways → given_of a ≡ given_on ends.course (record { registers = registers_in ends; dump = crash_byte (contents program) core; image_end = (contents program).end })
 given_is a paths ends program core p l (e, k) its =
-    ap (λ (x : RunPaths). given_with (seen_in x.ways) (last_values_in a.last.ends.now) a.exe a.core) p
+    ap (λ (x : RunPaths). given_with (seen_in x.ways) (last_values_in a.last) a.exe a.core) p
     ∙ ap (λ (x : Ends). given_with (seen_in paths.ways) (last_values_in x) a.exe a.core) l
     ∙ ap (λ (x : Program). given_with (seen_in paths.ways) (last_values_in ends) x a.core) e
     ∙ ap (λ (x : List ElfSegment). given_with (seen_in paths.ways) (last_values_in ends) program x) k
     ∙ ap (λ (x : SeenMoments). given_with x (last_values_in ends) program core) (seen_same ends.course paths.ways its)
-
-none_value : {v : ℕ} → None ≡ Some v → ⊥
-none_value e = cc
-
--- what is left of the registers that were saved is of these
-left_inside : (program : Program) (pc r v : ℕ) (saved : List ℕ) → left_by program pc saved r ≡ Some v → r < length saved
-left_inside program pc r v saved is = by (eqb r 17 && is_restarted program pc (slice_index saved 17)) is
-  where
-    by : (hidden : Bool) → cond hidden None (slice_get saved r) ≡ Some v → r < length saved
-    by true e = absurd (none_value e)
-    by false e = slice_get_within saved r v e
-
--- each point's last values are of x0 to x31
-pub values_long : (e : Ends) → AreEnds e → 0 < length e.course.threads → (p r v : ℕ) → last_values_in e p r ≡ Some v → r < 32
-values_long e ends some p r v is =
-    let inside = thread_inside e.course p some in
-    let count = ends.count in
-    elim (slice_get_cases e.statuses (thread_on e.course p)).1 [
-      | inl found ↦
-          let here = ap (λ (f : ℕ → Option ℕ). f r) (values_same e.course (registers_in e) p some ∙ ap (registers_of_one e.program) found.2) in
-          let below = left_inside e.program found.0.pc r v found.0.regs (sym here ∙ is) in
-          let whole = ends.whole (thread_on e.course p) found.0 found.2 in
-          omega (arith, below, whole)
-      | inr past ↦ absurd (let far = past.0 in omega arith)
-    ]
 
 -- there is one point more than the number of the last one
 pub points_are : (C : Course) → 0 < length C.threads → suc (seen C).legs.count ≡ points_in C
@@ -156,15 +131,15 @@ points_are C some = by (alone_by C.threads C.untraced) refl
         omega arith
 
 -- the setting of an analysis is that of its trip
-pub setting_is : {W R : Type 0} (m : Means W) (v : CrashView W R) → IsOfRun v → setting_of read_in m.sets m.moves m.rules v.analysis ≡ setting_on (trip_in m v)
+pub setting_is : {W R : Type 0} (m : Means W) (v : CrashView W R) → IsOfRun v → setting_of m.sets m.moves m.rules v.analysis ≡ setting_on (trip_in m v)
 setting_is m v of = ap (setting_by m.sets m.moves m.rules) of.given
 
 -- an analysis that reads the same is of the same trip
-pub still_of : {B W R : Type 0} (m : Means W) (a b : Whole RunRows RunEnds B W R) (g : Given) → path_of read_in m.sets m.moves m.rules b ≡ path_of read_in m.sets m.moves m.rules a → given_of read_in a ≡ g → given_of read_in b ≡ g
+pub still_of : {B W R : Type 0} (m : Means W) (a b : Whole B W R) (g : Given) → path_of m.sets m.moves m.rules b ≡ path_of m.sets m.moves m.rules a → given_of a ≡ g → given_of b ≡ g
 still_of m a b g same is = ap (λ (x : Read _). x.given) same ∙ is
 
 -- what it has, said of that setting
-pub found_in : {W R : Type 0} (m : Means W) (v : CrashView W R) → IsOfRun v → IsReport (setting_of read_in m.sets m.moves m.rules v.analysis) (answers (state_in m v)) → IsLogOf (setting_of read_in m.sets m.moves m.rules v.analysis) (answers (state_in m v)) (state_in m v).known.log → IsFoundIn m (trip_in m v) (scene_in v) v
+pub found_in : {W R : Type 0} (m : Means W) (v : CrashView W R) → IsOfRun v → IsReport (setting_of m.sets m.moves m.rules v.analysis) (answers (state_in m v)) → IsLogOf (setting_of m.sets m.moves m.rules v.analysis) (answers (state_in m v)) (state_in m v).known.log → IsFoundIn m (trip_in m v) (scene_in v) v
 found_in {W} m v of report log = record {
   trip = refl;
   same_scene = refl;

@@ -21,7 +21,7 @@ use Rattle.rept_moments.proofs.Apart.{legs_seen}
 use Rattle.rept_facts.specs.Counts.{rows_below}
 use Rattle.rept_facts.proofs.Counting.{count_full}
 use Rattle.rept_found.specs.Places.Places.{thread_point, point_named, point_on, named_on, place_on}
-use Rattle.rept_found.proofs.PlacesLemmas.Naming.{past_points}
+use Rattle.rept_timeline.proofs.Only.{past_points}
 use Rattle.rept_found.specs.Trip.Alone.{trip_of}
 use Rattle.rept_found.specs.Trip.Last.{writer_found}
 use Rattle.rept_found.proofs.TripLemmas.Last.{found_fits}

@@ -1,5 +1,6 @@
 -- What a crash leaves, and the analysis of a run that ends in it (ELF-32 Object File Format; Linux
 -- core notes of RISC-V).
+use Rattle.rept_timeline.specs.Ends.{left_by}
 use Rattle.std.specs.Prelude.{ℕ, Bool, true, false, ◌+◌, ◌*◌, List, [], map, ◌==◌, if◌then◌else◌, Option, Some, None, unwrap_or, slice_get, slice_index, ◌&&◌}
 use Rattle.std.specs.List.{range_with_len}
 use Rattle.rept_elf.specs.Header.{word_at}
@@ -70,22 +71,6 @@ last_value note r = if r == 0 then 0 else word_at note (72 + 4 * r)
 -- those of x0 to x31
 unfoldable pub last_values : List ℕ → List ℕ
 last_values note = map (last_value note) (range_with_len 0 32)
-
--- the word spells ECALL
-abbrev pub is_ecall : Option ℕ → Bool
-is_ecall None = false
-is_ecall (Some spelled) = spelled == 115
-
--- A thread sleeps in a call that Linux will begin anew. Its program counter is at the ECALL again,
--- and x17 has the number of `restart_syscall`, 128, in place of the one that the call had
--- (arch/riscv/kernel/signal.c).
-abbrev pub is_restarted : Program → (pc number : ℕ) → Bool
-is_restarted program pc number = number == 128 && is_ecall ((contents program).word pc)
-
--- The last values of a thread's registers, by its program counter and by what was saved of x0 to
--- x31: those that were saved, but none of x17 where its call is begun anew.
-abbrev pub left_by : Program → ℕ → List ℕ → ℕ → Option ℕ
-left_by program pc saved r = if r == 17 && is_restarted program pc (slice_index saved 17) then None else slice_get saved r
 
 -- by its note
 abbrev pub left_of : Program → List ℕ → ℕ → Option ℕ

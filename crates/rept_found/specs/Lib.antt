@@ -1,7 +1,6 @@
 pub mod Chains
 pub mod Contradictions
 pub mod Crash
-pub mod Ends
 pub mod Histories
 pub mod ProgramCode
 pub mod Single

@@ -9,28 +9,21 @@ use Rattle.rept_order.specs.History.{Ending}
 use Rattle.rept_span.specs.Ranges.{range}
 use Rattle.rept_report.specs.Closure.{IsReport}
 use Rattle.rept_report.specs.Setting.{way_of}
-use Rattle.rept_timeline.specs.Times.{time_of}
 use Rattle.rept_versions.specs.OnLine.{LineParts, store}
-use Rattle.rept_facts.specs.State.{AnalysisState, Whole, Reader, reader, given_of, state_of}
+use Rattle.rept_facts.specs.State.{AnalysisState, Whole, given_of, state_of}
 use Rattle.rept_facts.specs.Kept.{answers}
 use Rattle.rept_analysis.specs.Logged.{IsLogOf}
 use Rattle.rept_found.specs.Trip.Trip.{Trip, given_on, setting_on}
 use Rattle.rept_found.specs.Crash.{Means, ThreadEnd, Scene, trip_by}
-use Rattle.rept_found.specs.Ends.{Ends, registers_in, last_values_in}
-use Rattle.rept_extents.specs.declared.run_rows.RunRows.{RunRows}
-use Rattle.rept_found.specs.declared.ends.RunEnds.{RunEnds}
+use Rattle.rept_timeline.specs.Ends.{Ends, registers_in}
 
 -- the analysis, how the threads of its run ended, the files of the program, and the segments of the
 -- core file
 pub record CrashView (W R : Type 0) : Type 0 where
-  pub analysis : Whole RunRows RunEnds LineParts W R
+  pub analysis : Whole LineParts W R
   pub ends : Ends
   pub program : Program
   pub core : List ElfSegment
-
--- the rows and moments of the run, and the last values of registers
-abbrev pub read_in : Reader RunRows RunEnds
-read_in = reader (λ rows. time_of rows.paths.now.ways) (λ ends. last_values_in ends.ends.now)
 
 -- how the run ended
 abbrev pub ending_in : {W R : Type 0} → CrashView W R → Ending
@@ -53,7 +46,7 @@ scene_in v = record { threads = map ended_as v.ends.statuses; program = v.progra
 
 -- the analysis, as definitions speak of it
 abbrev pub state_in : {W R : Type 0} → Means W → CrashView W R → AnalysisState W
-state_in m v = state_of read_in m.sets m.moves m.rules store v.analysis
+state_in m v = state_of m.sets m.moves m.rules store v.analysis
 
 -- the set of values that is left of a register at a point
 abbrev pub set_in : {W R : Type 0} → Means W → CrashView W R → ℕ → ℕ → Option W
@@ -63,7 +56,7 @@ set_in m v p r = range (way_of (setting_on (trip_in m v))) (answers (state_in m 
 pub record IsOfRun {W R : Type 0} (v : CrashView W R) : Type 0 where
   pub some : 0 < length v.ends.course.threads
   pub sound : IsSoundCourse v.ends.course
-  pub given : given_of read_in v.analysis ≡ given_on v.ends.course (ending_in v)
+  pub given : given_of v.analysis ≡ given_on v.ends.course (ending_in v)
 
 -- it is of this trip and crash
 pub record IsPreparedFor {W R : Type 0} (m : Means W) (t : Trip W) (scene : Scene) (v : CrashView W R) : Type 0 where

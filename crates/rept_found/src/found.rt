@@ -1,5 +1,6 @@
 //! An analysis that has ended.
 
+ghost use Rattle.rept_timeline.specs.Paths.{timeline};
 ghost use Rattle.std.specs.Prelude.{◌≡◌, true, IfOk, IsOk, Err};
 ghost use Rattle.rept_report.specs.Closure.{ClosureHas, IsConsistent, IsReport};
 ghost use Rattle.rept_report.specs.Soundness.{HasNoExecution};
@@ -8,21 +9,17 @@ ghost use Rattle.rept_found.specs.Trip.Executed.{HasNoHistory};
 ghost use Rattle.rept_found.specs.Trip.Trip.{setting_on};
 ghost use Rattle.rept_facts.specs.Kept.{answers};
 ghost use Rattle.rept_analysis.specs.Logged.{IsLogOf};
-ghost use Rattle.rept_facts.specs.State.{IsLined, path_of, reader, setting_of, state_of};
+ghost use Rattle.rept_facts.specs.State.{IsLined, path_of, setting_of, state_of};
 ghost use Rattle.rept_found.specs.Crash.{means};
-ghost use Rattle.rept_found.specs.View.{IsFoundIn, read_in, scene_in, trip_in};
+ghost use Rattle.rept_found.specs.View.{IsFoundIn, scene_in, trip_in};
 
-use crate::ends::{RunEnds, ThreadEnds};
 use crate::prepared::Prepared;
 use rept_analysis::Analysis;
 use rept_dump::Dump;
-use rept_extents::RunRows;
 use rept_facts::Stop;
-use rept_log::LastValues;
 use rept_reason::RowRules;
-use rept_report::Reaches;
 use rept_span::Transfer;
-use rept_timeline::RunPaths;
+use rept_timeline::{RunPaths, ThreadEnds};
 use rept_versions::{ByteFacts, SpanFacts};
 use std::marker::Model;
 
@@ -30,7 +27,7 @@ use std::marker::Model;
 /// sets of values and of rules.
 #[derive(Drop)]
 pub struct AnalysedCrash<'a, W: Transfer, R: RowRules> {
-    pub(crate) analysis: Analysis<'a, RunRows<'a>, RunEnds<'a>, SpanFacts, W, R>,
+    pub(crate) analysis: Analysis<'a, SpanFacts, W, R>,
     pub(crate) paths: &'a RunPaths<'a>,
     pub(crate) ends: &'a ThreadEnds<'a>,
     pub(crate) dump: &'a Dump<'a>,
@@ -59,8 +56,8 @@ pub fn search<'a, W: Transfer, R: RowRules>(
     ensures found { IfOk result (IsFoundIn (means W.sets W.moves R.rules) (trip_in (means W.sets W.moves R.rules) prepared.entry) (scene_in prepared.entry)) }
     ensures conflict { (kind : ConflictKind) → result ≡ Err (Stop.Conflict kind) → ClosureHas (setting_on (trip_in (means W.sets W.moves R.rules) prepared.entry)) kind }
     ensures impossible { (kind : ConflictKind) → result ≡ Err (Stop.Conflict kind) → HasNoHistory (trip_in (means W.sets W.moves R.rules) prepared.entry) }
-    ensures whole { IsLined (read_in.timeline prepared.entry.analysis.paths) → result ≡ Err Stop.OutOfMemory → ⊥ }
-    ensures exact { IsLined (read_in.timeline prepared.entry.analysis.paths) → IsConsistent (setting_on (trip_in (means W.sets W.moves R.rules) prepared.entry)) → IsOk result }
+    ensures whole { IsLined (timeline prepared.entry.analysis.paths) → result ≡ Err Stop.OutOfMemory → ⊥ }
+    ensures exact { IsLined (timeline prepared.entry.analysis.paths) → IsConsistent (setting_on (trip_in (means W.sets W.moves R.rules) prepared.entry)) → IsOk result }
 {
     let Prepared {
         analysis,
@@ -80,17 +77,17 @@ pub fn search<'a, W: Transfer, R: RowRules>(
 }
 
 /// The analysis when all that follows is learnt. Where learning stops, it is let go.
-fn refined<'a, P: Reaches + Drop, L: LastValues + Drop, B: ByteFacts, W: Transfer, R: RowRules>(
-    analysis: Analysis<'a, P, L, B, W, R>,
-) -> Result<Analysis<'a, P, L, B, W, R>, Stop>
-    ensures path { IfOk result (λ a. path_of (reader P.timeline L.values) W.sets W.moves R.rules a.propagation.facts ≡ path_of (reader P.timeline L.values) W.sets W.moves R.rules analysis.entry.propagation.facts) }
+fn refined<'a, B: ByteFacts, W: Transfer, R: RowRules>(
+    analysis: Analysis<'a, B, W, R>,
+) -> Result<Analysis<'a, B, W, R>, Stop>
+    ensures path { IfOk result (λ a. path_of W.sets W.moves R.rules a.propagation.facts ≡ path_of W.sets W.moves R.rules analysis.entry.propagation.facts) }
     ensures complete { IfOk result (λ a. a.propagation.facts.complete ≡ true) }
-    ensures report { IfOk result (λ a. IsReport (setting_of (reader P.timeline L.values) W.sets W.moves R.rules a.propagation.facts) (answers (state_of (reader P.timeline L.values) W.sets W.moves R.rules B.store a.propagation.facts))) }
-    ensures log { IfOk result (λ a. IsLogOf (setting_of (reader P.timeline L.values) W.sets W.moves R.rules a.propagation.facts) (answers (state_of (reader P.timeline L.values) W.sets W.moves R.rules B.store a.propagation.facts)) a.propagation.facts.known.log) }
-    ensures conflict { (kind : ConflictKind) → result ≡ Err (Stop.Conflict kind) → ClosureHas (setting_of (reader P.timeline L.values) W.sets W.moves R.rules analysis.entry.propagation.facts) kind }
-    ensures impossible { (kind : ConflictKind) → result ≡ Err (Stop.Conflict kind) → HasNoExecution (setting_of (reader P.timeline L.values) W.sets W.moves R.rules analysis.entry.propagation.facts) }
-    ensures joins { B.JOINS ≡ true → IsLined (P.timeline analysis.entry.propagation.facts.paths) → result ≡ Err Stop.OutOfMemory → ⊥ }
-    ensures exact { B.JOINS ≡ true → IsLined (P.timeline analysis.entry.propagation.facts.paths) → IsConsistent (setting_of (reader P.timeline L.values) W.sets W.moves R.rules analysis.entry.propagation.facts) → IsOk result }
+    ensures report { IfOk result (λ a. IsReport (setting_of W.sets W.moves R.rules a.propagation.facts) (answers (state_of W.sets W.moves R.rules B.store a.propagation.facts))) }
+    ensures log { IfOk result (λ a. IsLogOf (setting_of W.sets W.moves R.rules a.propagation.facts) (answers (state_of W.sets W.moves R.rules B.store a.propagation.facts)) a.propagation.facts.known.log) }
+    ensures conflict { (kind : ConflictKind) → result ≡ Err (Stop.Conflict kind) → ClosureHas (setting_of W.sets W.moves R.rules analysis.entry.propagation.facts) kind }
+    ensures impossible { (kind : ConflictKind) → result ≡ Err (Stop.Conflict kind) → HasNoExecution (setting_of W.sets W.moves R.rules analysis.entry.propagation.facts) }
+    ensures joins { B.JOINS ≡ true → IsLined (timeline analysis.entry.propagation.facts.paths) → result ≡ Err Stop.OutOfMemory → ⊥ }
+    ensures exact { B.JOINS ≡ true → IsLined (timeline analysis.entry.propagation.facts.paths) → IsConsistent (setting_of W.sets W.moves R.rules analysis.entry.propagation.facts) → IsOk result }
 {
     let mut analysis = analysis;
     match analysis.refine() {

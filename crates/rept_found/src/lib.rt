@@ -4,7 +4,6 @@
 
 mod code;
 pub mod contradiction;
-pub mod ends;
 pub mod found;
 pub mod inferred;
 mod laws;
@@ -14,7 +13,6 @@ mod telling;
 pub mod trip;
 
 pub use contradiction::{Contradiction, name_conflict};
-pub use ends::ThreadEnds;
 pub use found::{AnalysedCrash, search};
 pub use inferred::{InferredCrash, Reported};
 pub use laws::{paths_are_one_thread, reports_are_true, runs_are_paths, trips_are_true};

@@ -5,16 +5,15 @@ ghost use Rattle.rept_dump.specs.Dump.{exe_of};
 ghost use Rattle.rept_steps.specs.Course.{IsSoundCourse};
 ghost use Rattle.rept_moments.specs.Courses.{IsCourseOf};
 ghost use Rattle.rept_found.specs.Crash.{crash_of, means, route, scene_of};
-ghost use Rattle.rept_found.specs.Ends.{AreNoted};
+ghost use Rattle.rept_timeline.specs.Ends.{AreNoted};
 ghost use Rattle.rept_found.specs.View.{IsPreparedFor};
 
-use crate::ends::{RunEnds, ThreadEnds};
 use rept_analysis::Analysis;
 use rept_dump::Dump;
-use rept_extents::RunRows;
+use rept_facts::CrashInput;
 use rept_reason::RowRules;
 use rept_span::Transfer;
-use rept_timeline::RunPaths;
+use rept_timeline::{RunPaths, ThreadEnds};
 use rept_versions::SpanFacts;
 use rept_word::OutOfMemory;
 use std::alloc::Global;
@@ -24,7 +23,7 @@ use std::marker::Model;
 /// Nothing is learnt yet.
 #[derive(Drop)]
 pub struct Prepared<'a, W: Transfer, R: RowRules> {
-    pub(crate) analysis: Analysis<'a, RunRows<'a>, RunEnds<'a>, SpanFacts, W, R>,
+    pub(crate) analysis: Analysis<'a, SpanFacts, W, R>,
     pub(crate) paths: &'a RunPaths<'a>,
     pub(crate) ends: &'a ThreadEnds<'a>,
     pub(crate) dump: &'a Dump<'a>,
@@ -58,14 +57,13 @@ pub fn prepare<'a, W: Transfer, R: RowRules>(
     ensures prepared { (notes : List (List ℕ)) → AreNoted notes ends.now.statuses → length ends.now.statuses ≡ length notes → IfOk result (IsPreparedFor (means W.sets W.moves R.rules) (route (means W.sets W.moves R.rules) (crash_of dump.now notes) ends.now.course) (scene_of (crash_of dump.now notes))) }
 {
     ends.account();
-    let rows = match RunRows::new(alloc, ends.run(), paths) {
-        Ok(rows) => rows,
-        Err(error) => return Err(error),
+    let input = CrashInput {
+        paths,
+        last: ends,
+        dump,
+        rules,
     };
-    let last = RunEnds::new(ends);
-    match Analysis::<'a, RunRows<'a>, RunEnds<'a>, SpanFacts, W, R>::prepare(
-        alloc, rows, last, dump, rules,
-    ) {
+    match Analysis::<'a, SpanFacts, W, R>::prepare(alloc, input) {
         Ok(analysis) => Ok(Prepared {
             analysis,
             paths,

@@ -1,9 +1,10 @@
 //! What a session asks of an analysis that has ended.
 
+ghost use Rattle.rept_timeline.specs.Paths.{timeline};
 ghost use Rattle.std.specs.Prelude.{◌≡◌, ◌≤◌, true, Some};
 ghost use Rattle.rept_reason.specs.Facts.{register_known};
 ghost use Rattle.rept_facts.specs.Kept.{answers};
-ghost use Rattle.rept_facts.specs.State.{reader, state_of};
+ghost use Rattle.rept_facts.specs.State.{state_of};
 
 use crate::code::code_byte;
 use crate::found::AnalysedCrash;
@@ -12,11 +13,10 @@ use rept_analysis::Analysis;
 use rept_elf::Symbol;
 use rept_findings::{BeyondRule, Findings, KnownBeyond, ThreadPlace, ThreadPoint};
 use rept_isa::{Reg, StepRow};
-use rept_log::LastValues;
 use rept_moments::NumberedRun;
 use rept_partial::{Partial, Range};
 use rept_reason::{Cell, Fact, Reason, RowRules};
-use rept_report::{Counts, Paths, Reaches, Writer, bounds};
+use rept_report::{Counts, Writer, bounds};
 use rept_span::Transfer;
 use rept_versions::ByteFacts;
 use rept_word::OutOfMemory;
@@ -158,13 +158,13 @@ impl<'a, W: Transfer, R: RowRules> Findings for AnalysedCrash<'a, W, R> {
 }
 
 /// What an analysis that has ended knows of a register at a point.
-fn known_register<P: Reaches + Drop, L: LastValues + Drop, B: ByteFacts, W: Transfer, R: RowRules>(
-    analysis: &Analysis<'_, P, L, B, W, R>,
+fn known_register<B: ByteFacts, W: Transfer, R: RowRules>(
+    analysis: &Analysis<'_, B, W, R>,
     point: u32,
     register: Reg,
 ) -> Option<u32>
-    requires { point ≤ (P.timeline analysis.now.propagation.facts.paths).legs.count }
-    ensures { analysis.now.propagation.facts.complete ≡ true → result ≡ register_known (answers (state_of (reader P.timeline L.values) W.sets W.moves R.rules B.store analysis.now.propagation.facts)) point register }
+    requires { point ≤ (timeline analysis.now.propagation.facts.paths).legs.count }
+    ensures { analysis.now.propagation.facts.complete ≡ true → result ≡ register_known (answers (state_of W.sets W.moves R.rules B.store analysis.now.propagation.facts)) point register }
 {
     analysis.account();
     analysis.reg(point, register).as_exact()

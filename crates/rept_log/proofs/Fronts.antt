@@ -1,4 +1,5 @@
 -- What the laws of rows and moments say of one row.
+use Rattle.rept_timeline.specs.Paths.{timeline}
 use Rattle.std.proofs.Common.{◌≡◌, ℕ, ◌<◌, ◌≤◌, List, Option, Some, None, IsSome, Result, Ok, Err, IfOk, refl, sym, subst}
 use Rattle.rept_isa.specs.declared.row.StepRow.{StepRow}
 use Rattle.rept_partial.specs.Sets.{Sets}
@@ -31,15 +32,15 @@ row_moment_end legs moments laws i Before there = let x = the_row (legs.row i) t
 row_moment_end legs moments laws i After there = let x = the_row (legs.row i) there in laws.rows_after i x.0 x.1
 
 -- the byte and the rows and moments that a front's byte speaks of are the front's
-module _ {P L W : Type 0} (sets : Sets W) (moves : Moves W) (rules : Rules) (timeline : P → Timeline) (values : L → ℕ → ℕ → Option ℕ) where
-  abbrev setting_at : Stored P L → Setting W
-  setting_at b = setting_in (front_of sets moves rules (basis_of timeline values b))
+module _ {W : Type 0} (sets : Sets W) (moves : Moves W) (rules : Rules) where
+  abbrev setting_at : Stored → Setting W
+  setting_at b = setting_in (front_of sets moves rules (basis_of b))
 
-  pub moved : (inside now front : Stored P L) → inside ≡ now → front ≡ now → (a : ℕ) (Q : Timeline → ByteAlong → Type 0) → Q (timeline inside.paths) (byte_in (setting_at front) front.facts a) → Q (time_of (setting_at now)) (byte_in (setting_at now) now.facts a)
-  moved inside now front here there a Q h = subst (λ (b : Stored P L). Q (timeline b.paths) (byte_in (setting_at now) now.facts a)) here (subst (λ (b : Stored P L). Q (timeline inside.paths) (byte_in (setting_at b) b.facts a)) there h)
+  pub moved : (inside now front : Stored) → inside ≡ now → front ≡ now → (a : ℕ) (Q : Timeline → ByteAlong → Type 0) → Q (timeline inside.paths) (byte_in (setting_at front) front.facts a) → Q (time_of (setting_at now)) (byte_in (setting_at now) now.facts a)
+  moved inside now front here there a Q h = subst (λ (b : Stored). Q (timeline b.paths) (byte_in (setting_at now) now.facts a)) here (subst (λ (b : Stored). Q (timeline inside.paths) (byte_in (setting_at b) b.facts a)) there h)
 
-  pub moved_back : (inside now front : Stored P L) → inside ≡ now → front ≡ now → (a : ℕ) (Q : Timeline → ByteAlong → Type 0) → Q (time_of (setting_at now)) (byte_in (setting_at now) now.facts a) → Q (timeline inside.paths) (byte_in (setting_at front) front.facts a)
-  moved_back inside now front here there a Q h = subst (λ (b : Stored P L). Q (timeline inside.paths) (byte_in (setting_at b) b.facts a)) (sym there) (subst (λ (b : Stored P L). Q (timeline b.paths) (byte_in (setting_at now) now.facts a)) (sym here) h)
+  pub moved_back : (inside now front : Stored) → inside ≡ now → front ≡ now → (a : ℕ) (Q : Timeline → ByteAlong → Type 0) → Q (time_of (setting_at now)) (byte_in (setting_at now) now.facts a) → Q (timeline inside.paths) (byte_in (setting_at front) front.facts a)
+  moved_back inside now front here there a Q h = subst (λ (b : Stored). Q (timeline inside.paths) (byte_in (setting_at b) b.facts a)) (sym there) (subst (λ (b : Stored). Q (timeline b.paths) (byte_in (setting_at now) now.facts a)) (sym here) h)
 
 pub both_ok : {A E : Type 0} (r : Result A E) (P Q R : A → Type 0) → ((x : A) → P x → Q x → R x) → IfOk r P → IfOk r Q → IfOk r R
 both_ok (Ok x) P Q R f p q = f x p q

@@ -38,7 +38,8 @@ use Rattle.rept_report.proofs.Registers.{range_same}
 use Rattle.rept_found.specs.Crash.{Crash, Means, Scene, ending_of, path_of, route, setting}
 use Rattle.rept_found.specs.Telling.{counts_of, noted, shown_of, shown_on}
 use Rattle.rept_found.specs.Trip.Last.{writer_found}
-use Rattle.rept_found.specs.Trip.Trip.{given_by, thread_on}
+use Rattle.rept_found.specs.Trip.Trip.{given_by}
+use Rattle.rept_timeline.specs.Ends.{thread_on}
 use Rattle.rept_report.specs.Given.{setting_by}
 use Rattle.rept_found.proofs.Alone.{alone_setting, alone_shown}
 use Rattle.rept_found.proofs.PlacesLemmas.Naming.{before_number, last_number}

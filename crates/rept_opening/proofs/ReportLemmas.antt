@@ -20,7 +20,7 @@ use Rattle.rept_facts.specs.Kept.{answers}
 use Rattle.rept_found.specs.Trip.Executed.{HasNoHistory}
 use Rattle.rept_found.specs.Trip.Trip.{Trip, setting_on}
 use Rattle.rept_found.specs.Crash.{Crash, Means, Scene, crash_of, note_at, path_of, scene_of, setting, route}
-use Rattle.rept_found.specs.Ends.{AreNoted, Ends}
+use Rattle.rept_timeline.specs.Ends.{AreNoted, Ends}
 use Rattle.rept_found.specs.Truth.{HasNoExecutionOfPath}
 use Rattle.rept_found.specs.View.{CrashView, IsFoundIn, IsPreparedFor, scene_in, state_in, trip_in}
 use Rattle.rept_found.proofs.Alone.{alone_setting}

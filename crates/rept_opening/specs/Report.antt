@@ -9,7 +9,7 @@ use Rattle.rept_steps.specs.declared.run.Run.{Run}
 use Rattle.rept_ports.specs.Port.{Port, PortMove}
 use Rattle.rept_report.specs.Closure.{ClosureHas}
 use Rattle.rept_report.specs.declared.conflict.ConflictKind.{ConflictKind}
-use Rattle.rept_found.specs.Ends.{AreNoted, Ends}
+use Rattle.rept_timeline.specs.Ends.{AreNoted, Ends}
 use Rattle.rept_found.specs.Crash.{note_at, scene_of}
 use Rattle.rept_found.specs.View.{CrashView, IsFoundIn}
 use Rattle.rept_findings.specs.Shown.{SessionTold}

@@ -14,11 +14,11 @@ use crate::refusal::Refusal;
 use rept_amo::Atomic;
 use rept_dump::Dump;
 use rept_facts::Stop;
-use rept_found::{AnalysedCrash, ThreadEnds, name_conflict, prepare, reports_are_true, search};
+use rept_found::{AnalysedCrash, name_conflict, prepare, reports_are_true, search};
 use rept_reason::RowRules;
 use rept_span::Transfer;
 use rept_steps::Run;
-use rept_timeline::RunPaths;
+use rept_timeline::{RunPaths, ThreadEnds};
 use rept_word::OutOfMemory;
 use std::alloc::Global;
 

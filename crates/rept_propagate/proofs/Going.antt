@@ -15,7 +15,7 @@ use Rattle.rept_facts.specs.Kept.{IsKept}
 use Rattle.rept_facts.specs.State.{AnalysisState, Subject, timeline_of, along}
 use Rattle.rept_facts.proofs.Spreading.{bridged_still}
 use Rattle.rept_report.specs.Reach.Reaching.{IsLeaving}
-use Rattle.rept_report.specs.declared.reach.reaches.NumberWindow.{NumberWindow}
+use Rattle.rept_report.specs.declared.paths.NumberWindow.{NumberWindow}
 use Rattle.rept_facts.specs.Inferring.{Knows, Grows, IsCalm, IsCarriedFrom, IsCarriedIf, IsBridged, IsSparedBetween, IsBlocked, AreBlocked, IsEnd, IsPiece, IsCarriedBeside, IsCarriedBelow, IsCarriedIn, IsCarriedAlong, IsEven, IsEvenAround, AreLinksBelow, AreLinks, IsCarriedUpTo}
 
 module _ {W : Type 0} (s : AnalysisState W) where

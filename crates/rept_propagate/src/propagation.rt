@@ -14,9 +14,7 @@ use crate::recent::DirtyBytes;
 use crate::walls::BlockerCache;
 pub use likeness::WORD;
 use rept_facts::CrashFacts;
-use rept_log::LastValues;
 use rept_reason::RowRules;
-use rept_report::Reaches;
 use rept_span::Transfer;
 use rept_versions::ByteFacts;
 use std::alloc::{AllocError as OutOfMemory, Global};
@@ -24,36 +22,22 @@ use std::alloc::{AllocError as OutOfMemory, Global};
 /// What is known of a run and the dump in which it ends, and how far bytes were taken from one
 /// memory point to another. Its clauses speak of `facts` alone: the two tables only save work.
 #[derive(Drop)]
-pub struct Propagation<
-    'a,
-    P: Reaches + Drop,
-    L: LastValues + Drop,
-    B: ByteFacts,
-    W: Transfer,
-    R: RowRules,
-> {
+pub struct Propagation<'a, B: ByteFacts, W: Transfer, R: RowRules> {
     /// what is known
-    pub facts: CrashFacts<'a, P, L, B, W, R>,
+    pub facts: CrashFacts<'a, B, W, R>,
     /// the bytes of which something was learnt lately
     pub recent: DirtyBytes,
     /// the rows at which bytes stopped
     walls: BlockerCache,
 }
 
-impl<
-    'a,
-    P: Reaches + Drop,
-    L: LastValues + Drop,
-    B: ByteFacts,
-    W: Transfer,
-    R: RowRules,
-> Propagation<'a, P, L, B, W, R> {
+impl<'a, B: ByteFacts, W: Transfer, R: RowRules> Propagation<'a, B, W, R> {
     /// Over these facts, no byte of which was taken anywhere yet. `OutOfMemory` says that the room
     /// of its tables can't be had.
     pub fn new(
         alloc: Global,
-        facts: CrashFacts<'a, P, L, B, W, R>,
-    ) -> Result<Propagation<'a, P, L, B, W, R>, OutOfMemory>
+        facts: CrashFacts<'a, B, W, R>,
+    ) -> Result<Propagation<'a, B, W, R>, OutOfMemory>
         ensures { IfOk result (λ a. a.facts ≡ facts.entry) }
     {
         let recent = DirtyBytes::new(alloc)?;

@@ -1,13 +1,9 @@
 //! From where a byte is carried to a moment: the nearest moment at which it is known by itself.
 
-pub mod bridges;
 pub mod laws;
-mod lesser;
-pub mod origin;
 pub mod sources;
 pub mod step;
 
 pub use laws::steps_are_uses;
-pub use origin::{nearer, nearest_origin};
 pub use sources::Sources;
 pub use step::{Carriage, Direction};

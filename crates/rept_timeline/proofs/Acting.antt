@@ -17,7 +17,7 @@ use Rattle.rept_moments.proofs.Apart.{are_numbers}
 use Rattle.rept_moments.proofs.MayAct.{own_may_act, rest_may_act}
 use Rattle.rept_moments.proofs.Places.{row_there, leg_below}
 use Rattle.rept_report.specs.Timeline.{IsOpen}
-use Rattle.rept_timeline.specs.Times.{as_timeline, IsOpenFrom}
+use Rattle.rept_extents.specs.Timelines.{as_timeline, IsOpenFrom}
 use Rattle.rept_timeline.specs.Listed.{AreStoring, IsFirstFrom}
 use Rattle.rept_timeline.proofs.Fronts.{open_stores, stores_row, ahead_tail}
 use Rattle.rept_timeline.proofs.Lists.{listed, listed_stores, unlisted_past}

@@ -7,11 +7,11 @@ use Rattle.rept_report.specs.Timeline as report
 use Rattle.rept_moments.specs.Seen as seen
 use Rattle.rept_span.specs.Ranges.{Legs}
 use Rattle.rept_report.specs.declared.paths.NumberChain.{NumberChain}
-use Rattle.rept_timeline.specs.Carry.Links.{IsNextFrom, IsPreviousFrom}
-use Rattle.rept_timeline.specs.declared.carry.lines.Lines.{Lines}
-use Rattle.rept_timeline.specs.declared.carry.lines.Lines as cases
-use Rattle.rept_timeline.specs.Carry.Lines.{AreLines, IsIn}
-use Rattle.rept_timeline.specs.Times.{as_timeline}
+use Rattle.rept_extents.specs.Carry.Links.{IsNextFrom, IsPreviousFrom}
+use Rattle.rept_extents.specs.declared.carry.lines.Lines.{Lines}
+use Rattle.rept_extents.specs.declared.carry.lines.Lines as cases
+use Rattle.rept_extents.specs.Carry.Lines.{AreLines, IsIn}
+use Rattle.rept_extents.specs.Timelines.{as_timeline}
 use Rattle.rept_timeline.specs.Listed.{AreLinesOf}
 
 not_so : (b : Bool) → (b ≡ true → ⊥) → b ≡ false

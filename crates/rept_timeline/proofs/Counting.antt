@@ -19,7 +19,7 @@ use Rattle.rept_moments.proofs.Apart.{legs_seen, moments_seen}
 use Rattle.rept_moments.proofs.Places.{next_thread}
 use Rattle.rept_timeline.specs.Small as small
 use Rattle.rept_timeline.specs.Small.{IsSmall}
-use Rattle.rept_timeline.specs.Times.{as_timeline}
+use Rattle.rept_extents.specs.Timelines.{as_timeline}
 
 -- each thread has one point more than rows
 pub all_points : (threads : List ThreadRows) → points_before threads (length threads) ≡ small.rows_in threads + length threads

@@ -12,7 +12,7 @@ use Rattle.rept_report.specs.Timeline.{IsLeastFrom}
 use Rattle.rept_isa.specs.declared.row.StepRow.{StepRow}
 use Rattle.rept_span.specs.Ranges.{AreLegs}
 use Rattle.rept_report.specs.Timeline.{Timeline, IsClose, IsRowTo}
-use Rattle.rept_timeline.specs.Times.{as_timeline, IsCloseFrom}
+use Rattle.rept_extents.specs.Timelines.{as_timeline, IsCloseFrom}
 
 module _ (C : Course) where
   -- the least row

@@ -7,4 +7,7 @@ pub mod Earliest
 pub mod Making
 pub mod Stripping
 pub mod Steady
-pub mod CarryLemmas
+pub mod Only
+pub mod Enders
+pub mod Searching
+pub mod Lasting

@@ -15,11 +15,14 @@ use Rattle.rept_moments.specs.Naming.Numbered.{row_on}
 use Rattle.rept_moments.specs.Points.{points_in}
 use Rattle.rept_moments.specs.Numbers.{numbers_of, numbered}
 use Rattle.rept_moments.specs.Seen.{seen_many}
+use Rattle.rept_moments.specs.declared.course.NumberedRun.{NumberedRun}
+use Rattle.rept_moments.specs.declared.course.NumberedRun as courses
+use Rattle.rept_extents.specs.Timelines.{IsSoundIn}
 use Rattle.rept_moments.proofs.Places.{leg_below}
 use Rattle.rept_report.specs.Timeline.{Timeline}
 use Rattle.rept_timeline.specs.declared.storing.ListPart.{ListPart}
-use Rattle.rept_timeline.specs.Times.{as_timeline}
-use Rattle.rept_timeline.specs.Listed.{storing_to, storing_in, AreStoring, IsFirstFrom, ArePastFirst}
+use Rattle.rept_extents.specs.Timelines.{as_timeline}
+use Rattle.rept_timeline.specs.Listed.{AreListed, storing_to, storing_in, AreStoring, IsFirstFrom, ArePastFirst}
 use Rattle.rept_timeline.proofs.Fronts.{rests_past, stores_row, past_front}
 
 not_so : (b : Bool) → (b ≡ true → ⊥) → b ≡ false
@@ -240,3 +243,8 @@ module _ (C : Course) (list : List ℕ) (its : ∥ AreStoring C list ∥₁) whe
 
 pub later_open : (t : Timeline) (list : List ℕ) (part : ListPart) (m j k : ℕ) → ArePastFirst t list part m → part.low ≤ j → j ≤ k → k < part.high → t.moments.past (get_or list j 0) m ≡ false → t.moments.past (get_or list k 0) m ≡ false
 later_open t list part m j k its from order less none = not_so (t.moments.past (get_or list k 0) m) (λ e. false≢true (sym none ∙ its.first j k from order less e))
+
+-- a course whose rows that may write are listed is sound
+pub listed_sound : (c : NumberedRun) (list : List ℕ) → ∥ AreListed c list ∥₁ → ∥ IsSoundIn c ∥₁
+listed_sound (courses.TheVariants.One steps) list t = ∣ tt ∣₁
+listed_sound (courses.TheVariants.Many many) list t = sound_of many list t

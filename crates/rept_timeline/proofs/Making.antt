@@ -13,15 +13,16 @@ use Rattle.rept_moments.specs.declared.course.NumberedRun as courses
 use Rattle.rept_moments.specs.Courses.{seen_in, is_one, IsCourseOf}
 use Rattle.rept_moments.proofs.Places.{some_below}
 use Rattle.rept_report.specs.Timeline.{IsLeastFrom}
-use Rattle.rept_timeline.proofs.CarryLemmas.Carrying.{least_same}
+use Rattle.rept_extents.proofs.CarryLemmas.Carrying.{least_same}
 use Rattle.rept_timeline.specs.Small.{IsSmall}
 use Rattle.rept_report.specs.Timeline.{IsOpen, IsClose, IsAlike, IsStrip}
 use Rattle.rept_report.specs.declared.paths.Strip.{Strip}
 use Rattle.rept_report.proofs.Line.{next_is, is_next}
-use Rattle.rept_timeline.specs.Times.{as_timeline, time_of, IsOpenFrom, IsCloseFrom}
-use Rattle.rept_timeline.specs.Listed.{IsSoundIn, AreStoring, AreListed, AreLinesOf}
+use Rattle.rept_extents.specs.Timelines.{as_timeline, time_of, IsOpenFrom, IsCloseFrom}
+use Rattle.rept_timeline.specs.Listed.{AreStoring, AreListed, AreLinesOf}
+use Rattle.rept_extents.specs.Timelines.{IsSoundIn}
 use Rattle.rept_timeline.specs.Strips.{AreStripsOf, AreManyStrips}
-use Rattle.rept_timeline.specs.declared.carry.lines.Lines.{Lines}
+use Rattle.rept_extents.specs.declared.carry.lines.Lines.{Lines}
 use Rattle.rept_moments.specs.Several.{seen_of}
 use Rattle.rept_timeline.proofs.Counting.{is_timeline}
 

@@ -14,7 +14,7 @@ use Rattle.rept_moments.specs.Between.{IsOwnBetween}
 use Rattle.rept_moments.specs.Seen.{seen_many, IsRowAt}
 use Rattle.rept_moments.specs.Together.{AreTogether}
 use Rattle.rept_moments.proofs.Together.{thread_at, one_thread, past_alike, ahead_alike, row_thread, own_before}
-use Rattle.rept_timeline.specs.Times.{as_timeline}
+use Rattle.rept_extents.specs.Timelines.{as_timeline}
 use Rattle.rept_timeline.specs.declared.strips.Hint.{Hint}
 use Rattle.rept_timeline.specs.declared.strips.Crossing.{Crossing}
 use Rattle.rept_timeline.specs.Strips.{AreTwo, DoRowsStay, IsCrossing, IsHint, IsOfOtherThread, IsOwnQuiet, IsSteady, IsStill}

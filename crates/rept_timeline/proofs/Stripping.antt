@@ -20,7 +20,7 @@ use Rattle.rept_moments.specs.Seen.{seen_many}
 use Rattle.rept_moments.proofs.Apart.{are_numbers}
 use Rattle.rept_moments.proofs.MayAct.{own_may_act, rest_may_act, untraced_is}
 use Rattle.rept_moments.proofs.Places.{leg_below, get_end, get_before}
-use Rattle.rept_timeline.specs.Times.{as_timeline}
+use Rattle.rept_extents.specs.Timelines.{as_timeline}
 use Rattle.rept_timeline.specs.Strips.{AreTwo, DoRowsStay, IsOfOtherThread, IsPart, IsLonger, AreStripsBelow, AreManyStrips}
 use Rattle.rept_timeline.proofs.Fronts.{stores_row, past_front}
 use Rattle.rept_timeline.proofs.Acting.{past_may_act, open_may_act}

@@ -1,6 +1,6 @@
 pub mod Small
-pub mod Times
 pub mod Listed
 pub mod Lawful
 pub mod Strips
-pub mod Carry
+pub mod Paths
+pub mod Ends

@@ -10,8 +10,8 @@ use Rattle.rept_report.specs.Timeline.{Timeline, IsLeastFrom}
 use Rattle.rept_moments.specs.Naming.Numbered.{row_on}
 use Rattle.rept_moments.specs.Points.{points_in}
 use Rattle.rept_moments.specs.declared.course.NumberedRun as courses
-use Rattle.rept_timeline.specs.declared.carry.lines.Lines.{Lines}
-use Rattle.rept_timeline.specs.Carry.Lines.{AreLines, IsIn}
+use Rattle.rept_extents.specs.declared.carry.lines.Lines.{Lines}
+use Rattle.rept_extents.specs.Carry.Lines.{AreLines, IsIn}
 use Rattle.rept_timeline.specs.declared.storing.ListPart.{ListPart}
 
 -- of the first so many points
@@ -32,10 +32,6 @@ pub record AreStoring (C : Course) (list : List ℕ) : Type 0 where
 abbrev pub AreListed : courses.NumberedRun → List ℕ → Type 0
 AreListed (courses.TheVariants.One steps) list = Unit {0}
 AreListed (courses.TheVariants.Many many) list = AreStoring many list
-
-abbrev pub IsSoundIn : courses.NumberedRun → Type 0
-IsSoundIn (courses.TheVariants.One steps) = Unit {0}
-IsSoundIn (courses.TheVariants.Many many) = IsSoundCourse many
 
 -- the least one of the list from one on, or that there is none
 abbrev pub IsFirstFrom : List ℕ → ℕ → Option ℕ → Type 0

@@ -12,7 +12,7 @@ use Rattle.rept_moments.specs.Between.{IsOwnBetween}
 use Rattle.rept_moments.specs.Together.{AreTogether}
 use Rattle.rept_timeline.specs.declared.strips.Hint.{Hint}
 use Rattle.rept_timeline.specs.declared.strips.Crossing.{Crossing}
-use Rattle.rept_timeline.specs.Times.{as_timeline}
+use Rattle.rept_extents.specs.Timelines.{as_timeline}
 
 -- two numbers of a line, of which no row has one before it and the number after that one after it
 pub record AreTwo (C : Course) (p k : ℕ) : Type 0 where

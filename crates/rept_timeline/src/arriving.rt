@@ -3,7 +3,7 @@
 ghost use Rattle.std.specs.Prelude.{◌≡◌, ◌↔◌, true};
 ghost use Rattle.rept_span.specs.Ranges.{AreLegs};
 ghost use Rattle.rept_report.specs.Timeline.{IsLeastFrom, IsRowTo};
-ghost use Rattle.rept_timeline.specs.Times.{time_of};
+ghost use Rattle.rept_extents.specs.Timelines.{time_of};
 
 use rept_moments::NumberedRun;
 

@@ -3,7 +3,7 @@
 ghost use Rattle.std.specs.Prelude.{◌≡◌, ◌↔◌, ◌≤◌, ◌+◌, ℕ, true, IsSome};
 ghost use Rattle.rept_moments.specs.Several.{seen_of};
 ghost use Rattle.rept_report.specs.Timeline.{IsBegun};
-ghost use Rattle.rept_timeline.specs.Times.{as_timeline, IsBegunTo};
+ghost use Rattle.rept_extents.specs.Timelines.{as_timeline, IsBegunTo};
 
 use rept_moments::Many;
 

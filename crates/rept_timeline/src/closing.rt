@@ -4,7 +4,7 @@ ghost use Rattle.std.specs.Prelude.{◌≡◌, ◌≤◌, ◌<◌, ℕ, true, fa
 ghost use Rattle.rept_steps.specs.Course.{IsSoundCourse};
 ghost use Rattle.rept_moments.specs.Several.{seen_of};
 ghost use Rattle.rept_report.specs.Timeline.{IsLeastFrom};
-ghost use Rattle.rept_timeline.specs.Times.{as_timeline, IsCloseFrom};
+ghost use Rattle.rept_extents.specs.Timelines.{as_timeline, IsCloseFrom};
 
 use crate::opening::last_of;
 use rept_moments::Many;

@@ -4,14 +4,20 @@
 
 mod arriving;
 mod beginning;
-pub mod carry;
+mod between;
 mod closing;
+mod ends;
+pub mod last;
 mod opening;
+pub mod origin;
 mod run_paths;
 mod small;
 mod storing;
 mod strips;
 
-pub use carry::{Lines, Ways};
+pub use between::row_between;
+pub use ends::ThreadEnds;
+pub use last::{last_writer, possible_writer};
+pub use origin::{nearer, nearest_origin};
 pub use run_paths::RunPaths;
 pub use small::is_small;

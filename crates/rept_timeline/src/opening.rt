@@ -5,7 +5,7 @@ ghost use Rattle.std.specs.Prelude.{◌≡◌, ◌≤◌, ◌<◌, ℕ, true, fa
 ghost use Rattle.rept_report.specs.Timeline.{IsActingFrom};
 ghost use Rattle.rept_moments.specs.Several.{seen_of};
 ghost use Rattle.rept_moments.specs.Between.{IsOwnBetween};
-ghost use Rattle.rept_timeline.specs.Times.{as_timeline, IsOpenFrom};
+ghost use Rattle.rept_extents.specs.Timelines.{as_timeline, IsOpenFrom};
 ghost use Rattle.rept_timeline.specs.Listed.{AreStoring, ArePastFirst};
 
 use crate::storing::{ListPart, Storing};

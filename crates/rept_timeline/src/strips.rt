@@ -4,13 +4,13 @@ ghost use Rattle.std.specs.Prelude.{◌≡◌, ◌≤◌, ◌<◌, ◌+◌, ℕ,
 ghost use Rattle.rept_report.specs.Timeline.{IsJoined, MayActToo, IsCut, IsStrip};
 ghost use Rattle.rept_moments.specs.Several.{seen_of};
 ghost use Rattle.rept_moments.specs.Between.{IsOwnBetween};
-ghost use Rattle.rept_timeline.specs.Times.{as_timeline};
+ghost use Rattle.rept_extents.specs.Timelines.{as_timeline};
 ghost use Rattle.rept_timeline.specs.Listed.{AreStoring, AreLinesOf};
 ghost use Rattle.rept_timeline.specs.Strips.{AreTwo, DoRowsStay, IsCrossing, IsHint, IsOfOtherThread, IsOtherActing, IsOwnQuiet, IsPart, IsLonger, IsSteady, IsStill, AreStripsBelow, AreManyStrips};
 
-use crate::carry::Lines;
 use crate::opening::{last_of, rest_from};
 use crate::storing::Storing;
+use rept_extents::Lines;
 use rept_moments::Many;
 use rept_report::paths::Strip;
 use std::alloc::{AllocError as OutOfMemory, Global};

@@ -53,7 +53,7 @@ fn answer(alloc: Global, run: &Run, asked: &str, n: &Numbers) -> Result<String, 
         "close" => rows::close(alloc, &paths, n.word(0), n.word(1)),
         "strip" => rows::strip(alloc, &paths, n.word(0)),
         "around" => rows::around(alloc, &paths, n.word(0)),
-        _ => reaching::reaching(alloc, run, &paths, asked, n),
+        _ => reaching::reaching(alloc, &paths, asked, n),
     }
 }
 

@@ -4,7 +4,7 @@ ghost use Rattle.std.specs.Prelude.{◌≡◌, true, IsSome};
 ghost use Rattle.std.specs.List.{All};
 ghost use Rattle.rept_moments.specs.Courses.{seen_in};
 
-use rept_timeline::Ways;
+use rept_extents::Ways;
 use std::alloc::{AllocError, Global};
 use test_kit::Numbers;
 

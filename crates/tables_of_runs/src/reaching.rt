@@ -1,12 +1,6 @@
 //! Between which moments a row may act, and how far a byte's value goes at once.
 
-ghost use Rattle.rept_steps.specs.Course.{IsSoundCourse};
-ghost use Rattle.rept_steps.specs.Runs.{course_of};
-ghost use Rattle.rept_moments.specs.Courses.{IsCourseOf};
-
-use rept_extents::RunRows;
-use rept_report::{NumberWindow, Paths, Reaches};
-use rept_steps::Run;
+use rept_report::NumberWindow;
 use rept_timeline::RunPaths;
 use std::alloc::{AllocError, Global};
 use test_kit::Numbers;
@@ -14,26 +8,21 @@ use test_kit::Numbers;
 /// An answer on the rows of a run.
 pub fn reaching(
     alloc: Global,
-    run: &Run,
     paths: &RunPaths<'_>,
     asked: &str,
     n: &Numbers,
-) -> Result<String, AllocError>
-    requires sound { IsSoundCourse (course_of run.now) }
-    requires course { IsCourseOf (course_of run.now) paths.now.ways }
-{
-    let rows = RunRows::new(alloc, run, paths)?;
+) -> Result<String, AllocError> {
     match asked {
-        "falls" => may_act(alloc, &rows, n),
-        "bars" => surely_blocks(alloc, &rows, n.word(0), n.word(1)),
-        "extent" => extent(alloc, &rows, n.word(0)),
-        "leaving" => leaving(alloc, &rows, n),
-        _ => reached(alloc, &rows, n.word(0), n.word(1)),
+        "falls" => may_act(alloc, paths, n),
+        "bars" => surely_blocks(alloc, paths, n.word(0), n.word(1)),
+        "extent" => extent(alloc, paths, n.word(0)),
+        "leaving" => leaving(alloc, paths, n),
+        _ => reached(alloc, paths, n.word(0), n.word(1)),
     }
 }
 
 /// Whether a row may act between two moments.
-fn may_act(alloc: Global, rows: &RunRows<'_>, n: &Numbers) -> Result<String, AllocError> {
+fn may_act(alloc: Global, rows: &RunPaths<'_>, n: &Numbers) -> Result<String, AllocError> {
     let (row, m, w) = (n.word(0), n.word(1), n.word(2));
     if rows.row(row).is_none() || m > rows.end() {
         return String::from_str(alloc, "no such row or moment");
@@ -47,7 +36,7 @@ fn may_act(alloc: Global, rows: &RunRows<'_>, n: &Numbers) -> Result<String, All
 /// Whether it is sure that a row may act after a moment, whatever comes next.
 fn surely_blocks(
     alloc: Global,
-    rows: &RunRows<'_>,
+    rows: &RunPaths<'_>,
     row: u32,
     m: u32,
 ) -> Result<String, AllocError> {
@@ -58,7 +47,7 @@ fn surely_blocks(
 }
 
 /// The numbers between which a row may act.
-fn extent(alloc: Global, rows: &RunRows<'_>, row: u32) -> Result<String, AllocError> {
+fn extent(alloc: Global, rows: &RunPaths<'_>, row: u32) -> Result<String, AllocError> {
     if rows.row(row).is_none() {
         return String::from_str(alloc, "no row");
     }
@@ -68,7 +57,7 @@ fn extent(alloc: Global, rows: &RunRows<'_>, row: u32) -> Result<String, AllocEr
 
 /// Of the numbers of a window from one on the first from which a value may go out of the window, or
 /// the last.
-fn leaving(alloc: Global, rows: &RunRows<'_>, n: &Numbers) -> Result<String, AllocError> {
+fn leaving(alloc: Global, rows: &RunPaths<'_>, n: &Numbers) -> Result<String, AllocError> {
     let (least, last, from) = (n.word(0), n.word(1), n.word(2));
     if from > least || least > last || last > rows.end() {
         return String::from_str(alloc, "no such moments");
@@ -78,7 +67,7 @@ fn leaving(alloc: Global, rows: &RunRows<'_>, n: &Numbers) -> Result<String, All
 }
 
 /// Up and down to which numbers a value goes from the one to the other.
-fn reached(alloc: Global, rows: &RunRows<'_>, from: u32, last: u32) -> Result<String, AllocError> {
+fn reached(alloc: Global, rows: &RunPaths<'_>, from: u32, last: u32) -> Result<String, AllocError> {
     let end = rows.end();
     if from > last || last > end {
         return String::from_str(alloc, "no such moments");

@@ -1,7 +1,6 @@
 //! Which rows may act between two moments, and which aren't out of the way of one or of another
 //! row.
 
-use rept_report::Paths;
 use rept_timeline::RunPaths;
 use std::alloc::{AllocError, Global};
 use test_kit::Numbers;

@@ -1,18 +1,18 @@
 //! How much an analysis answers.
 
+ghost use Rattle.rept_timeline.specs.Paths.{timeline};
 ghost use Rattle.std.specs.Prelude.{◌≡◌, ◌+◌, ◌*◌, ◌<◌, ◌≤◌, true, is_some};
 ghost use Rattle.rept_reason.specs.Facts.{told};
 ghost use Rattle.rept_report.specs.Log.{oldest};
-ghost use Rattle.rept_facts.specs.State.{setting_of, state_of, reader};
+ghost use Rattle.rept_facts.specs.State.{setting_of, state_of};
 ghost use Rattle.rept_facts.specs.Kept.{answers};
 ghost use Rattle.rept_isa.specs.Operands.{is_call};
 ghost use Rattle.rept_facts.specs.Counts.{base_of, is_store, row_is, rows_below, calls_below, stores_below, known_at, known_below, IsCounted};
 
 use super::Analysis;
 use rept_isa::{Instr, Reg, is_call, reads, register};
-use rept_log::LastValues;
 use rept_reason::RowRules;
-use rept_report::{Counts, Paths, Reaches};
+use rept_report::Counts;
 use rept_span::Transfer;
 use rept_versions::ByteFacts;
 
@@ -26,17 +26,10 @@ fn base(instr: &Instr) -> Option<Reg>
     }
 }
 
-impl<'a, P: Reaches + Drop, L: LastValues + Drop, B: ByteFacts, W: Transfer, R: RowRules> Analysis<
-    'a,
-    P,
-    L,
-    B,
-    W,
-    R,
-> {
+impl<'a, B: ByteFacts, W: Transfer, R: RowRules> Analysis<'a, B, W, R> {
     /// How many registers other than x0 are answered at a point.
     fn told_at(&self, point: u32) -> u32
-        requires { point ≤ (P.timeline self.now.propagation.facts.paths).legs.count }
+        requires { point ≤ (timeline self.now.propagation.facts.paths).legs.count }
         ensures value { result ≡ known_at (told (oldest self.now.propagation.facts.shown self.now.propagation.facts.known.log)) point 32 }
         ensures few { result ≤ 32 }
     {
@@ -51,7 +44,7 @@ impl<'a, P: Reaches + Drop, L: LastValues + Drop, B: ByteFacts, W: Transfer, R: 
 
     /// How many are at all points.
     fn told(&self) -> u32
-        ensures { result ≡ known_below (told (oldest self.now.propagation.facts.shown self.now.propagation.facts.known.log)) ((P.timeline self.now.propagation.facts.paths).legs.count + 1) }
+        ensures { result ≡ known_below (told (oldest self.now.propagation.facts.shown self.now.propagation.facts.known.log)) ((timeline self.now.propagation.facts.paths).legs.count + 1) }
     {
         let count = self.propagation.facts.count();
         let mut sum = 0;
@@ -63,14 +56,14 @@ impl<'a, P: Reaches + Drop, L: LastValues + Drop, B: ByteFacts, W: Transfer, R: 
 
     /// Whether a row leads from a point.
     fn is_row(&self, i: u32) -> bool
-        ensures { result ≡ is_some ((P.timeline self.now.propagation.facts.paths).legs.row i) }
+        ensures { result ≡ is_some ((timeline self.now.propagation.facts.paths).legs.row i) }
     {
         self.propagation.facts.row(i).is_some()
     }
 
     /// How many rows there are.
     fn steps(&self) -> u32
-        ensures { result ≡ rows_below (P.timeline self.now.propagation.facts.paths).legs ((P.timeline self.now.propagation.facts.paths).legs.count) }
+        ensures { result ≡ rows_below (timeline self.now.propagation.facts.paths).legs ((timeline self.now.propagation.facts.paths).legs.count) }
     {
         let count = self.propagation.facts.count();
         let mut sum = 0;
@@ -84,7 +77,7 @@ impl<'a, P: Reaches + Drop, L: LastValues + Drop, B: ByteFacts, W: Transfer, R: 
 
     /// Whether row i, if there is one, is an environment call.
     fn is_call_row(&self, i: u32) -> bool
-        ensures { result ≡ row_is ((P.timeline self.now.propagation.facts.paths).legs.row i) is_call }
+        ensures { result ≡ row_is ((timeline self.now.propagation.facts.paths).legs.row i) is_call }
     {
         match self.propagation.facts.row(i) {
             None => false,
@@ -94,7 +87,7 @@ impl<'a, P: Reaches + Drop, L: LastValues + Drop, B: ByteFacts, W: Transfer, R: 
 
     /// How many rows are environment calls.
     fn calls(&self) -> u32
-        ensures { result ≡ calls_below (P.timeline self.now.propagation.facts.paths).legs ((P.timeline self.now.propagation.facts.paths).legs.count) }
+        ensures { result ≡ calls_below (timeline self.now.propagation.facts.paths).legs ((timeline self.now.propagation.facts.paths).legs.count) }
     {
         let count = self.propagation.facts.count();
         let mut sum = 0;
@@ -108,8 +101,8 @@ impl<'a, P: Reaches + Drop, L: LastValues + Drop, B: ByteFacts, W: Transfer, R: 
 
     /// Whether row i is a store whose base is known, or isn't.
     fn is_store(&self, known: bool, i: u32) -> bool
-        requires { i < (P.timeline self.now.propagation.facts.paths).legs.count }
-        ensures { result ≡ row_is ((P.timeline self.now.propagation.facts.paths).legs.row i) (is_store known (told (oldest self.now.propagation.facts.shown self.now.propagation.facts.known.log)) i) }
+        requires { i < (timeline self.now.propagation.facts.paths).legs.count }
+        ensures { result ≡ row_is ((timeline self.now.propagation.facts.paths).legs.row i) (is_store known (told (oldest self.now.propagation.facts.shown self.now.propagation.facts.known.log)) i) }
     {
         match self.propagation.facts.row(i) {
             None => false,
@@ -122,7 +115,7 @@ impl<'a, P: Reaches + Drop, L: LastValues + Drop, B: ByteFacts, W: Transfer, R: 
 
     /// How many rows are such stores.
     fn stores(&self, known: bool) -> u32
-        ensures { result ≡ stores_below (P.timeline self.now.propagation.facts.paths).legs (told (oldest self.now.propagation.facts.shown self.now.propagation.facts.known.log)) known ((P.timeline self.now.propagation.facts.paths).legs.count) }
+        ensures { result ≡ stores_below (timeline self.now.propagation.facts.paths).legs (told (oldest self.now.propagation.facts.shown self.now.propagation.facts.known.log)) known ((timeline self.now.propagation.facts.paths).legs.count) }
     {
         let count = self.propagation.facts.count();
         let mut sum = 0;
@@ -136,8 +129,8 @@ impl<'a, P: Reaches + Drop, L: LastValues + Drop, B: ByteFacts, W: Transfer, R: 
 
     /// How many rows there are, of which kind, and how much is answered.
     pub fn counts(&self) -> Counts
-        ensures shown { IsCounted (setting_of (reader P.timeline L.values) W.sets W.moves R.rules self.now.propagation.facts) (told (oldest self.now.propagation.facts.shown self.now.propagation.facts.known.log)) result }
-        ensures ended { self.now.propagation.facts.complete ≡ true → IsCounted (setting_of (reader P.timeline L.values) W.sets W.moves R.rules self.now.propagation.facts) (answers (state_of (reader P.timeline L.values) W.sets W.moves R.rules B.store self.now.propagation.facts)) result }
+        ensures shown { IsCounted (setting_of W.sets W.moves R.rules self.now.propagation.facts) (told (oldest self.now.propagation.facts.shown self.now.propagation.facts.known.log)) result }
+        ensures ended { self.now.propagation.facts.complete ≡ true → IsCounted (setting_of W.sets W.moves R.rules self.now.propagation.facts) (answers (state_of W.sets W.moves R.rules B.store self.now.propagation.facts)) result }
     {
         let _ended = self.propagation.facts.ended();
         Counts {

@@ -1,7 +1,8 @@
 //! What a row lets one conclude.
 
+ghost use Rattle.rept_timeline.specs.Paths.{timeline};
 ghost use Rattle.std.specs.Prelude.{◌≡◌, ◌≤◌, false, IfOk, IfErr, ⊤, ◌≢◌, ◌+◌, ◌<◌, ◌↔◌, length, true, IsTrue, Some, None, Ok, Err, slice_get};
-ghost use Rattle.rept_facts.specs.State.{state_of, reader};
+ghost use Rattle.rept_facts.specs.State.{state_of};
 ghost use Rattle.rept_facts.specs.Inferring.{IsTracked, Grows, HasInferred, IsHalt, AreWritings, KeptBelow, IsKeptAt, AreTrackedFrom, IsConclusion, AreConclusions, InferredBelow, IsRowClosed, IsRowInferred, KnowsInferred, InferredKnown, IsRowTracked, IsUncut, IsRowAddress, AreRowAddresses};
 ghost use Rattle.rept_isa.specs.declared.row.StepRow.{StepRow};
 ghost use Rattle.rept_isa.specs.Operands.{written_by};
@@ -16,11 +17,9 @@ ghost use Rattle.rept_log.specs.Known.{known_of};
 use super::Analysis;
 use rept_facts::{LearnError, address, is_store};
 use rept_isa::{Instr, Reg, StepRow, reads, writes};
-use rept_log::LastValues;
 use rept_log::views::point_at;
 use rept_propagate::WORD;
 use rept_reason::{Cell, Conclusion, RowRules, When};
-use rept_report::Reaches;
 use rept_span::Transfer;
 use rept_versions::ByteFacts;
 use rept_writing::{Pass, is_with};
@@ -52,23 +51,16 @@ fn side(instr: &Instr) -> When {
     }
 }
 
-impl<'a, P: Reaches + Drop, L: LastValues + Drop, B: ByteFacts, W: Transfer, R: RowRules> Analysis<
-    'a,
-    P,
-    L,
-    B,
-    W,
-    R,
-> {
+impl<'a, B: ByteFacts, W: Transfer, R: RowRules> Analysis<'a, B, W, R> {
     /// The byte of the dump at a tracked address, over the last rows that may not write it; nothing
     /// in the first round.
     fn infer_dump(&mut self, a: u32) -> Result<bool, LearnError>
-        requires tracked { IsTracked a (state_of (reader P.timeline L.values) W.sets W.moves R.rules B.store self.old.propagation.facts) }
-        requires writings { AreWritings (state_of (reader P.timeline L.values) W.sets W.moves R.rules B.store self.old.propagation.facts) }
+        requires tracked { IsTracked a (state_of W.sets W.moves R.rules B.store self.old.propagation.facts) }
+        requires writings { AreWritings (state_of W.sets W.moves R.rules B.store self.old.propagation.facts) }
         requires open { self.old.propagation.facts.complete ≡ false }
-        ensures grows { Grows (state_of (reader P.timeline L.values) W.sets W.moves R.rules B.store self.old.propagation.facts) (state_of (reader P.timeline L.values) W.sets W.moves R.rules B.store self.new.propagation.facts) }
-        ensures inferred { IfOk result (λ learnt. HasInferred (state_of (reader P.timeline L.values) W.sets W.moves R.rules B.store self.old.propagation.facts) (state_of (reader P.timeline L.values) W.sets W.moves R.rules B.store self.new.propagation.facts) learnt (λ _. ⊤)) }
-        ensures halt { IfErr result (λ h. IsHalt (state_of (reader P.timeline L.values) W.sets W.moves R.rules B.store self.new.propagation.facts) h) }
+        ensures grows { Grows (state_of W.sets W.moves R.rules B.store self.old.propagation.facts) (state_of W.sets W.moves R.rules B.store self.new.propagation.facts) }
+        ensures inferred { IfOk result (λ learnt. HasInferred (state_of W.sets W.moves R.rules B.store self.old.propagation.facts) (state_of W.sets W.moves R.rules B.store self.new.propagation.facts) learnt (λ _. ⊤)) }
+        ensures halt { IfErr result (λ h. IsHalt (state_of W.sets W.moves R.rules B.store self.new.propagation.facts) h) }
     {
         if self.propagation.facts.is_first_round() {
             return Ok(false);
@@ -85,12 +77,12 @@ impl<'a, P: Reaches + Drop, L: LastValues + Drop, B: ByteFacts, W: Transfer, R: 
 
     /// The value of a register that row i keeps, onward and back.
     fn carry(&mut self, i: u32, row: &StepRow, r: Reg) -> Result<bool, LearnError>
-        requires inside { i < (P.timeline self.old.propagation.facts.paths).legs.count }
-        requires row { (P.timeline self.old.propagation.facts.paths).legs.row i ≡ Some row.now }
+        requires inside { i < (timeline self.old.propagation.facts.paths).legs.count }
+        requires row { (timeline self.old.propagation.facts.paths).legs.row i ≡ Some row.now }
         requires open { self.old.propagation.facts.complete ≡ false }
-        ensures grows { Grows (state_of (reader P.timeline L.values) W.sets W.moves R.rules B.store self.old.propagation.facts) (state_of (reader P.timeline L.values) W.sets W.moves R.rules B.store self.new.propagation.facts) }
-        ensures inferred { IfOk result (λ learnt. HasInferred (state_of (reader P.timeline L.values) W.sets W.moves R.rules B.store self.old.propagation.facts) (state_of (reader P.timeline L.values) W.sets W.moves R.rules B.store self.new.propagation.facts) learnt (λ s. 0 < r → written_by row.now.instr ≢ Some r → IsKeptAt i r s)) }
-        ensures halt { IfErr result (λ h. IsHalt (state_of (reader P.timeline L.values) W.sets W.moves R.rules B.store self.new.propagation.facts) h) }
+        ensures grows { Grows (state_of W.sets W.moves R.rules B.store self.old.propagation.facts) (state_of W.sets W.moves R.rules B.store self.new.propagation.facts) }
+        ensures inferred { IfOk result (λ learnt. HasInferred (state_of W.sets W.moves R.rules B.store self.old.propagation.facts) (state_of W.sets W.moves R.rules B.store self.new.propagation.facts) learnt (λ s. 0 < r → written_by row.now.instr ≢ Some r → IsKeptAt i r s)) }
+        ensures halt { IfErr result (λ h. IsHalt (state_of W.sets W.moves R.rules B.store self.new.propagation.facts) h) }
     {
         if !keeps(&row.instr, r) {
             return Ok(false);
@@ -105,12 +97,12 @@ impl<'a, P: Reaches + Drop, L: LastValues + Drop, B: ByteFacts, W: Transfer, R: 
 
     /// The values of all registers that row i keeps.
     fn carry_all(&mut self, i: u32, row: &StepRow) -> Result<bool, LearnError>
-        requires inside { i < (P.timeline self.old.propagation.facts.paths).legs.count }
-        requires row { (P.timeline self.old.propagation.facts.paths).legs.row i ≡ Some row.now }
+        requires inside { i < (timeline self.old.propagation.facts.paths).legs.count }
+        requires row { (timeline self.old.propagation.facts.paths).legs.row i ≡ Some row.now }
         requires open { self.old.propagation.facts.complete ≡ false }
-        ensures grows { Grows (state_of (reader P.timeline L.values) W.sets W.moves R.rules B.store self.old.propagation.facts) (state_of (reader P.timeline L.values) W.sets W.moves R.rules B.store self.new.propagation.facts) }
-        ensures inferred { IfOk result (λ learnt. HasInferred (state_of (reader P.timeline L.values) W.sets W.moves R.rules B.store self.old.propagation.facts) (state_of (reader P.timeline L.values) W.sets W.moves R.rules B.store self.new.propagation.facts) learnt (KeptBelow 32 row.now i)) }
-        ensures halt { IfErr result (λ h. IsHalt (state_of (reader P.timeline L.values) W.sets W.moves R.rules B.store self.new.propagation.facts) h) }
+        ensures grows { Grows (state_of W.sets W.moves R.rules B.store self.old.propagation.facts) (state_of W.sets W.moves R.rules B.store self.new.propagation.facts) }
+        ensures inferred { IfOk result (λ learnt. HasInferred (state_of W.sets W.moves R.rules B.store self.old.propagation.facts) (state_of W.sets W.moves R.rules B.store self.new.propagation.facts) learnt (KeptBelow 32 row.now i)) }
+        ensures halt { IfErr result (λ h. IsHalt (state_of W.sets W.moves R.rules B.store self.new.propagation.facts) h) }
     {
         let mut learnt = false;
         let mut least = 1;
@@ -128,13 +120,13 @@ impl<'a, P: Reaches + Drop, L: LastValues + Drop, B: ByteFacts, W: Transfer, R: 
     /// Tracks an address. Where it wasn't tracked, its byte of the dump is learnt and carried at
     /// once.
     fn track_one(&mut self, a: u32) -> Result<bool, LearnError>
-        requires row { IsRowAddress a (state_of (reader P.timeline L.values) W.sets W.moves R.rules B.store self.old.propagation.facts) }
-        requires writings { AreWritings (state_of (reader P.timeline L.values) W.sets W.moves R.rules B.store self.old.propagation.facts) }
+        requires row { IsRowAddress a (state_of W.sets W.moves R.rules B.store self.old.propagation.facts) }
+        requires writings { AreWritings (state_of W.sets W.moves R.rules B.store self.old.propagation.facts) }
         requires open { self.old.propagation.facts.complete ≡ false }
-        ensures grows { Grows (state_of (reader P.timeline L.values) W.sets W.moves R.rules B.store self.old.propagation.facts) (state_of (reader P.timeline L.values) W.sets W.moves R.rules B.store self.new.propagation.facts) }
-        ensures inferred { IfOk result (λ learnt. HasInferred (state_of (reader P.timeline L.values) W.sets W.moves R.rules B.store self.old.propagation.facts) (state_of (reader P.timeline L.values) W.sets W.moves R.rules B.store self.new.propagation.facts) learnt (IsTracked a)) }
-        ensures halt { IfErr result (λ h. IsHalt (state_of (reader P.timeline L.values) W.sets W.moves R.rules B.store self.new.propagation.facts) h) }
-        ensures tracked { IfOk result (λ _. IsTracked a (state_of (reader P.timeline L.values) W.sets W.moves R.rules B.store self.new.propagation.facts)) }
+        ensures grows { Grows (state_of W.sets W.moves R.rules B.store self.old.propagation.facts) (state_of W.sets W.moves R.rules B.store self.new.propagation.facts) }
+        ensures inferred { IfOk result (λ learnt. HasInferred (state_of W.sets W.moves R.rules B.store self.old.propagation.facts) (state_of W.sets W.moves R.rules B.store self.new.propagation.facts) learnt (IsTracked a)) }
+        ensures halt { IfErr result (λ h. IsHalt (state_of W.sets W.moves R.rules B.store self.new.propagation.facts) h) }
+        ensures tracked { IfOk result (λ _. IsTracked a (state_of W.sets W.moves R.rules B.store self.new.propagation.facts)) }
     {
         match self.propagation.facts.track(a) {
             Ok(true) => {
@@ -148,13 +140,13 @@ impl<'a, P: Reaches + Drop, L: LastValues + Drop, B: ByteFacts, W: Transfer, R: 
 
     /// Tracks so many addresses from one on.
     fn track_from(&mut self, start: u32, count: u32) -> Result<bool, LearnError>
-        requires row { AreRowAddresses start count (state_of (reader P.timeline L.values) W.sets W.moves R.rules B.store self.old.propagation.facts) }
-        requires writings { AreWritings (state_of (reader P.timeline L.values) W.sets W.moves R.rules B.store self.old.propagation.facts) }
+        requires row { AreRowAddresses start count (state_of W.sets W.moves R.rules B.store self.old.propagation.facts) }
+        requires writings { AreWritings (state_of W.sets W.moves R.rules B.store self.old.propagation.facts) }
         requires open { self.old.propagation.facts.complete ≡ false }
-        ensures grows { Grows (state_of (reader P.timeline L.values) W.sets W.moves R.rules B.store self.old.propagation.facts) (state_of (reader P.timeline L.values) W.sets W.moves R.rules B.store self.new.propagation.facts) }
-        ensures inferred { IfOk result (λ learnt. HasInferred (state_of (reader P.timeline L.values) W.sets W.moves R.rules B.store self.old.propagation.facts) (state_of (reader P.timeline L.values) W.sets W.moves R.rules B.store self.new.propagation.facts) learnt (AreTrackedFrom start count)) }
-        ensures halt { IfErr result (λ h. IsHalt (state_of (reader P.timeline L.values) W.sets W.moves R.rules B.store self.new.propagation.facts) h) }
-        ensures tracked { IfOk result (λ _. AreTrackedFrom start count (state_of (reader P.timeline L.values) W.sets W.moves R.rules B.store self.new.propagation.facts)) }
+        ensures grows { Grows (state_of W.sets W.moves R.rules B.store self.old.propagation.facts) (state_of W.sets W.moves R.rules B.store self.new.propagation.facts) }
+        ensures inferred { IfOk result (λ learnt. HasInferred (state_of W.sets W.moves R.rules B.store self.old.propagation.facts) (state_of W.sets W.moves R.rules B.store self.new.propagation.facts) learnt (AreTrackedFrom start count)) }
+        ensures halt { IfErr result (λ h. IsHalt (state_of W.sets W.moves R.rules B.store self.new.propagation.facts) h) }
+        ensures tracked { IfOk result (λ _. AreTrackedFrom start count (state_of W.sets W.moves R.rules B.store self.new.propagation.facts)) }
     {
         let mut learnt = false;
         for k in 0..count {
@@ -167,14 +159,14 @@ impl<'a, P: Reaches + Drop, L: LastValues + Drop, B: ByteFacts, W: Transfer, R: 
 
     /// Tracks the bytes that row i's rules look at.
     fn track_row(&mut self, i: u32, row: &StepRow) -> Result<bool, LearnError>
-        requires inside { i < (P.timeline self.old.propagation.facts.paths).legs.count }
-        requires row { (P.timeline self.old.propagation.facts.paths).legs.row i ≡ Some row.now }
-        requires writings { AreWritings (state_of (reader P.timeline L.values) W.sets W.moves R.rules B.store self.old.propagation.facts) }
+        requires inside { i < (timeline self.old.propagation.facts.paths).legs.count }
+        requires row { (timeline self.old.propagation.facts.paths).legs.row i ≡ Some row.now }
+        requires writings { AreWritings (state_of W.sets W.moves R.rules B.store self.old.propagation.facts) }
         requires open { self.old.propagation.facts.complete ≡ false }
-        ensures grows { Grows (state_of (reader P.timeline L.values) W.sets W.moves R.rules B.store self.old.propagation.facts) (state_of (reader P.timeline L.values) W.sets W.moves R.rules B.store self.new.propagation.facts) }
-        ensures inferred { IfOk result (λ learnt. HasInferred (state_of (reader P.timeline L.values) W.sets W.moves R.rules B.store self.old.propagation.facts) (state_of (reader P.timeline L.values) W.sets W.moves R.rules B.store self.new.propagation.facts) learnt (IsRowTracked row.now i)) }
-        ensures halt { IfErr result (λ h. IsHalt (state_of (reader P.timeline L.values) W.sets W.moves R.rules B.store self.new.propagation.facts) h) }
-        ensures tracked { IfOk result (λ _. IsRowTracked row.now i (state_of (reader P.timeline L.values) W.sets W.moves R.rules B.store self.new.propagation.facts)) }
+        ensures grows { Grows (state_of W.sets W.moves R.rules B.store self.old.propagation.facts) (state_of W.sets W.moves R.rules B.store self.new.propagation.facts) }
+        ensures inferred { IfOk result (λ learnt. HasInferred (state_of W.sets W.moves R.rules B.store self.old.propagation.facts) (state_of W.sets W.moves R.rules B.store self.new.propagation.facts) learnt (IsRowTracked row.now i)) }
+        ensures halt { IfErr result (λ h. IsHalt (state_of W.sets W.moves R.rules B.store self.new.propagation.facts) h) }
+        ensures tracked { IfOk result (λ _. IsRowTracked row.now i (state_of W.sets W.moves R.rules B.store self.new.propagation.facts)) }
     {
         match self.propagation.facts.row_base(i, row) {
             None => Ok(false),
@@ -189,14 +181,14 @@ impl<'a, P: Reaches + Drop, L: LastValues + Drop, B: ByteFacts, W: Transfer, R: 
 
     /// Adds a conclusion of row i.
     fn conclude(&mut self, i: u32, inferred: &Conclusion) -> Result<bool, LearnError>
-        requires inside { i < (P.timeline self.old.propagation.facts.paths).legs.count }
-        requires conclusion { IsConclusion i inferred.now (state_of (reader P.timeline L.values) W.sets W.moves R.rules B.store self.old.propagation.facts) }
+        requires inside { i < (timeline self.old.propagation.facts.paths).legs.count }
+        requires conclusion { IsConclusion i inferred.now (state_of W.sets W.moves R.rules B.store self.old.propagation.facts) }
         requires open { self.old.propagation.facts.complete ≡ false }
-        ensures grows { Grows (state_of (reader P.timeline L.values) W.sets W.moves R.rules B.store self.old.propagation.facts) (state_of (reader P.timeline L.values) W.sets W.moves R.rules B.store self.new.propagation.facts) }
-        ensures inferred { IfOk result (λ learnt. HasInferred (state_of (reader P.timeline L.values) W.sets W.moves R.rules B.store self.old.propagation.facts) (state_of (reader P.timeline L.values) W.sets W.moves R.rules B.store self.new.propagation.facts) learnt (KnowsInferred i inferred.now)) }
-        ensures known { IfOk result (λ _. KnowsInferred i inferred.now (state_of (reader P.timeline L.values) W.sets W.moves R.rules B.store self.new.propagation.facts)) }
+        ensures grows { Grows (state_of W.sets W.moves R.rules B.store self.old.propagation.facts) (state_of W.sets W.moves R.rules B.store self.new.propagation.facts) }
+        ensures inferred { IfOk result (λ learnt. HasInferred (state_of W.sets W.moves R.rules B.store self.old.propagation.facts) (state_of W.sets W.moves R.rules B.store self.new.propagation.facts) learnt (KnowsInferred i inferred.now)) }
+        ensures known { IfOk result (λ _. KnowsInferred i inferred.now (state_of W.sets W.moves R.rules B.store self.new.propagation.facts)) }
         ensures still { self.new.propagation.facts.work ≡ self.old.propagation.facts.work }
-        ensures halt { IfErr result (λ h. IsHalt (state_of (reader P.timeline L.values) W.sets W.moves R.rules B.store self.new.propagation.facts) h) }
+        ensures halt { IfErr result (λ h. IsHalt (state_of W.sets W.moves R.rules B.store self.new.propagation.facts) h) }
     {
         let _count = self.propagation.facts.count();
         match &inferred.cell {
@@ -217,14 +209,14 @@ impl<'a, P: Reaches + Drop, L: LastValues + Drop, B: ByteFacts, W: Transfer, R: 
 
     /// Adds conclusions of row i.
     fn conclude_all(&mut self, i: u32, list: &[Conclusion]) -> Result<bool, LearnError>
-        requires inside { i < (P.timeline self.old.propagation.facts.paths).legs.count }
-        requires conclusions { AreConclusions i list.now (state_of (reader P.timeline L.values) W.sets W.moves R.rules B.store self.old.propagation.facts) }
+        requires inside { i < (timeline self.old.propagation.facts.paths).legs.count }
+        requires conclusions { AreConclusions i list.now (state_of W.sets W.moves R.rules B.store self.old.propagation.facts) }
         requires open { self.old.propagation.facts.complete ≡ false }
-        ensures grows { Grows (state_of (reader P.timeline L.values) W.sets W.moves R.rules B.store self.old.propagation.facts) (state_of (reader P.timeline L.values) W.sets W.moves R.rules B.store self.new.propagation.facts) }
-        ensures inferred { IfOk result (λ learnt. HasInferred (state_of (reader P.timeline L.values) W.sets W.moves R.rules B.store self.old.propagation.facts) (state_of (reader P.timeline L.values) W.sets W.moves R.rules B.store self.new.propagation.facts) learnt (InferredBelow (length list.now) list.now i)) }
-        ensures known { IfOk result (λ _. InferredBelow (length list.now) list.now i (state_of (reader P.timeline L.values) W.sets W.moves R.rules B.store self.new.propagation.facts)) }
+        ensures grows { Grows (state_of W.sets W.moves R.rules B.store self.old.propagation.facts) (state_of W.sets W.moves R.rules B.store self.new.propagation.facts) }
+        ensures inferred { IfOk result (λ learnt. HasInferred (state_of W.sets W.moves R.rules B.store self.old.propagation.facts) (state_of W.sets W.moves R.rules B.store self.new.propagation.facts) learnt (InferredBelow (length list.now) list.now i)) }
+        ensures known { IfOk result (λ _. InferredBelow (length list.now) list.now i (state_of W.sets W.moves R.rules B.store self.new.propagation.facts)) }
         ensures still { self.new.propagation.facts.work ≡ self.old.propagation.facts.work }
-        ensures halt { IfErr result (λ h. IsHalt (state_of (reader P.timeline L.values) W.sets W.moves R.rules B.store self.new.propagation.facts) h) }
+        ensures halt { IfErr result (λ h. IsHalt (state_of W.sets W.moves R.rules B.store self.new.propagation.facts) h) }
     {
         self.propagation.facts.held();
         let mut learnt = false;
@@ -238,14 +230,14 @@ impl<'a, P: Reaches + Drop, L: LastValues + Drop, B: ByteFacts, W: Transfer, R: 
     /// All that row i lets one infer, where more of its cells are known than when its rules were
     /// applied last.
     fn infer_inferred(&mut self, i: u32, row: &StepRow) -> Result<bool, LearnError>
-        requires inside { i < (P.timeline self.old.propagation.facts.paths).legs.count }
-        requires row { (P.timeline self.old.propagation.facts.paths).legs.row i ≡ Some row.now }
-        requires tracked { IsRowTracked row.now i (state_of (reader P.timeline L.values) W.sets W.moves R.rules B.store self.old.propagation.facts) }
+        requires inside { i < (timeline self.old.propagation.facts.paths).legs.count }
+        requires row { (timeline self.old.propagation.facts.paths).legs.row i ≡ Some row.now }
+        requires tracked { IsRowTracked row.now i (state_of W.sets W.moves R.rules B.store self.old.propagation.facts) }
         requires open { self.old.propagation.facts.complete ≡ false }
-        requires uncut { IsUncut (state_of (reader P.timeline L.values) W.sets W.moves R.rules B.store self.old.propagation.facts) }
-        ensures grows { Grows (state_of (reader P.timeline L.values) W.sets W.moves R.rules B.store self.old.propagation.facts) (state_of (reader P.timeline L.values) W.sets W.moves R.rules B.store self.new.propagation.facts) }
-        ensures inferred { IfOk result (λ learnt. HasInferred (state_of (reader P.timeline L.values) W.sets W.moves R.rules B.store self.old.propagation.facts) (state_of (reader P.timeline L.values) W.sets W.moves R.rules B.store self.new.propagation.facts) learnt (InferredKnown row.now i)) }
-        ensures halt { IfErr result (λ h. IsHalt (state_of (reader P.timeline L.values) W.sets W.moves R.rules B.store self.new.propagation.facts) h) }
+        requires uncut { IsUncut (state_of W.sets W.moves R.rules B.store self.old.propagation.facts) }
+        ensures grows { Grows (state_of W.sets W.moves R.rules B.store self.old.propagation.facts) (state_of W.sets W.moves R.rules B.store self.new.propagation.facts) }
+        ensures inferred { IfOk result (λ learnt. HasInferred (state_of W.sets W.moves R.rules B.store self.old.propagation.facts) (state_of W.sets W.moves R.rules B.store self.new.propagation.facts) learnt (InferredKnown row.now i)) }
+        ensures halt { IfErr result (λ h. IsHalt (state_of W.sets W.moves R.rules B.store self.new.propagation.facts) h) }
     {
         let cells = self.propagation.facts.cells(i, row);
         let pass = self.propagation.facts.pass(i);
@@ -258,17 +250,17 @@ impl<'a, P: Reaches + Drop, L: LastValues + Drop, B: ByteFacts, W: Transfer, R: 
 
     /// All that it lets one infer, where so many of its cells are known, and more than then.
     fn infer_anew(&mut self, i: u32, row: &StepRow, cells: u32) -> Result<bool, LearnError>
-        requires inside { i < (P.timeline self.old.propagation.facts.paths).legs.count }
-        requires row { (P.timeline self.old.propagation.facts.paths).legs.row i ≡ Some row.now }
-        requires tracked { IsRowTracked row.now i (state_of (reader P.timeline L.values) W.sets W.moves R.rules B.store self.old.propagation.facts) }
+        requires inside { i < (timeline self.old.propagation.facts.paths).legs.count }
+        requires row { (timeline self.old.propagation.facts.paths).legs.row i ≡ Some row.now }
+        requires tracked { IsRowTracked row.now i (state_of W.sets W.moves R.rules B.store self.old.propagation.facts) }
         requires open { self.old.propagation.facts.complete ≡ false }
-        requires uncut { IsUncut (state_of (reader P.timeline L.values) W.sets W.moves R.rules B.store self.old.propagation.facts) }
-        requires cells { cells ≡ cells_known R.rules row.now (around (P.timeline self.old.propagation.facts.paths).moments (known_of B.store self.old.propagation.facts.known) i) }
+        requires uncut { IsUncut (state_of W.sets W.moves R.rules B.store self.old.propagation.facts) }
+        requires cells { cells ≡ cells_known R.rules row.now (around (timeline self.old.propagation.facts.paths).moments (known_of B.store self.old.propagation.facts.known) i) }
         requires few { cells ≤ 11 }
         requires more { slice_get self.old.propagation.facts.work.inferred i ≡ Some (Pass.With cells) → ⊥ }
-        ensures grows { Grows (state_of (reader P.timeline L.values) W.sets W.moves R.rules B.store self.old.propagation.facts) (state_of (reader P.timeline L.values) W.sets W.moves R.rules B.store self.new.propagation.facts) }
-        ensures inferred { IfOk result (λ learnt. HasInferred (state_of (reader P.timeline L.values) W.sets W.moves R.rules B.store self.old.propagation.facts) (state_of (reader P.timeline L.values) W.sets W.moves R.rules B.store self.new.propagation.facts) learnt (InferredKnown row.now i)) }
-        ensures halt { IfErr result (λ h. IsHalt (state_of (reader P.timeline L.values) W.sets W.moves R.rules B.store self.new.propagation.facts) h) }
+        ensures grows { Grows (state_of W.sets W.moves R.rules B.store self.old.propagation.facts) (state_of W.sets W.moves R.rules B.store self.new.propagation.facts) }
+        ensures inferred { IfOk result (λ learnt. HasInferred (state_of W.sets W.moves R.rules B.store self.old.propagation.facts) (state_of W.sets W.moves R.rules B.store self.new.propagation.facts) learnt (InferredKnown row.now i)) }
+        ensures halt { IfErr result (λ h. IsHalt (state_of W.sets W.moves R.rules B.store self.new.propagation.facts) h) }
     {
         self.propagation.facts.held();
         let list = self.propagation.facts.list_inferred(i, row);
@@ -287,13 +279,13 @@ impl<'a, P: Reaches + Drop, L: LastValues + Drop, B: ByteFacts, W: Transfer, R: 
 
     /// The bytes that row i's rules look at, over the rows around it that may not write them.
     fn carry_row(&mut self, i: u32, row: &StepRow) -> Result<bool, LearnError>
-        requires inside { i < (P.timeline self.old.propagation.facts.paths).legs.count }
-        requires row { (P.timeline self.old.propagation.facts.paths).legs.row i ≡ Some row.now }
-        requires writings { AreWritings (state_of (reader P.timeline L.values) W.sets W.moves R.rules B.store self.old.propagation.facts) }
+        requires inside { i < (timeline self.old.propagation.facts.paths).legs.count }
+        requires row { (timeline self.old.propagation.facts.paths).legs.row i ≡ Some row.now }
+        requires writings { AreWritings (state_of W.sets W.moves R.rules B.store self.old.propagation.facts) }
         requires open { self.old.propagation.facts.complete ≡ false }
-        ensures grows { Grows (state_of (reader P.timeline L.values) W.sets W.moves R.rules B.store self.old.propagation.facts) (state_of (reader P.timeline L.values) W.sets W.moves R.rules B.store self.new.propagation.facts) }
-        ensures inferred { IfOk result (λ learnt. HasInferred (state_of (reader P.timeline L.values) W.sets W.moves R.rules B.store self.old.propagation.facts) (state_of (reader P.timeline L.values) W.sets W.moves R.rules B.store self.new.propagation.facts) learnt (λ _. ⊤)) }
-        ensures halt { IfErr result (λ h. IsHalt (state_of (reader P.timeline L.values) W.sets W.moves R.rules B.store self.new.propagation.facts) h) }
+        ensures grows { Grows (state_of W.sets W.moves R.rules B.store self.old.propagation.facts) (state_of W.sets W.moves R.rules B.store self.new.propagation.facts) }
+        ensures inferred { IfOk result (λ learnt. HasInferred (state_of W.sets W.moves R.rules B.store self.old.propagation.facts) (state_of W.sets W.moves R.rules B.store self.new.propagation.facts) learnt (λ _. ⊤)) }
+        ensures halt { IfErr result (λ h. IsHalt (state_of W.sets W.moves R.rules B.store self.new.propagation.facts) h) }
     {
         match self.propagation.facts.row_base(i, row) {
             None => Ok(false),
@@ -309,7 +301,7 @@ impl<'a, P: Reaches + Drop, L: LastValues + Drop, B: ByteFacts, W: Transfer, R: 
     /// Whether the byte at an address, the first one of row i's, isn't known at its side of the
     /// row.
     fn lacks_first(&self, i: u32, row: &StepRow, a: u32) -> bool
-        requires { (P.timeline self.now.propagation.facts.paths).legs.row i ≡ Some row.now }
+        requires { (timeline self.now.propagation.facts.paths).legs.row i ≡ Some row.now }
     {
         let point = self.propagation.facts.moment_at(i, side(&row.instr));
         R::places(row) > 0 && self.propagation.facts.known_byte(point, a).is_none()
@@ -318,8 +310,8 @@ impl<'a, P: Reaches + Drop, L: LastValues + Drop, B: ByteFacts, W: Transfer, R: 
     /// Whether row i's first byte isn't known, and may be carried to it: a row was put in the list
     /// anew since the last store of unknown address that was looked at.
     fn lacks_byte(&mut self, i: u32, row: &StepRow) -> bool
-        requires inside { i < (P.timeline self.old.propagation.facts.paths).legs.count }
-        requires row { (P.timeline self.old.propagation.facts.paths).legs.row i ≡ Some row.now }
+        requires inside { i < (timeline self.old.propagation.facts.paths).legs.count }
+        requires row { (timeline self.old.propagation.facts.paths).legs.row i ≡ Some row.now }
         ensures { self.new.propagation.facts ≡ self.old.propagation.facts }
     {
         if !self.propagation.facts.is_freed() {
@@ -338,13 +330,13 @@ impl<'a, P: Reaches + Drop, L: LastValues + Drop, B: ByteFacts, W: Transfer, R: 
 
     /// The bytes that row i's rules look at, tracked and carried to it.
     fn fetch_bytes(&mut self, i: u32, row: &StepRow) -> Result<bool, LearnError>
-        requires inside { i < (P.timeline self.old.propagation.facts.paths).legs.count }
-        requires row { (P.timeline self.old.propagation.facts.paths).legs.row i ≡ Some row.now }
-        requires writings { AreWritings (state_of (reader P.timeline L.values) W.sets W.moves R.rules B.store self.old.propagation.facts) }
+        requires inside { i < (timeline self.old.propagation.facts.paths).legs.count }
+        requires row { (timeline self.old.propagation.facts.paths).legs.row i ≡ Some row.now }
+        requires writings { AreWritings (state_of W.sets W.moves R.rules B.store self.old.propagation.facts) }
         requires open { self.old.propagation.facts.complete ≡ false }
-        ensures grows { Grows (state_of (reader P.timeline L.values) W.sets W.moves R.rules B.store self.old.propagation.facts) (state_of (reader P.timeline L.values) W.sets W.moves R.rules B.store self.new.propagation.facts) }
-        ensures inferred { IfOk result (λ learnt. HasInferred (state_of (reader P.timeline L.values) W.sets W.moves R.rules B.store self.old.propagation.facts) (state_of (reader P.timeline L.values) W.sets W.moves R.rules B.store self.new.propagation.facts) learnt (λ _. ⊤)) }
-        ensures halt { IfErr result (λ h. IsHalt (state_of (reader P.timeline L.values) W.sets W.moves R.rules B.store self.new.propagation.facts) h) }
+        ensures grows { Grows (state_of W.sets W.moves R.rules B.store self.old.propagation.facts) (state_of W.sets W.moves R.rules B.store self.new.propagation.facts) }
+        ensures inferred { IfOk result (λ learnt. HasInferred (state_of W.sets W.moves R.rules B.store self.old.propagation.facts) (state_of W.sets W.moves R.rules B.store self.new.propagation.facts) learnt (λ _. ⊤)) }
+        ensures halt { IfErr result (λ h. IsHalt (state_of W.sets W.moves R.rules B.store self.new.propagation.facts) h) }
     {
         let tracked = self.track_row(i, row)?;
         let carried = self.carry_row(i, row)?;
@@ -354,13 +346,13 @@ impl<'a, P: Reaches + Drop, L: LastValues + Drop, B: ByteFacts, W: Transfer, R: 
     /// Tracks the bytes that row i's rules look at, and carries them to it, where the first one
     /// isn't known: so its rules are applied with them.
     fn fetch(&mut self, i: u32, row: &StepRow) -> Result<bool, LearnError>
-        requires inside { i < (P.timeline self.old.propagation.facts.paths).legs.count }
-        requires row { (P.timeline self.old.propagation.facts.paths).legs.row i ≡ Some row.now }
-        requires writings { AreWritings (state_of (reader P.timeline L.values) W.sets W.moves R.rules B.store self.old.propagation.facts) }
+        requires inside { i < (timeline self.old.propagation.facts.paths).legs.count }
+        requires row { (timeline self.old.propagation.facts.paths).legs.row i ≡ Some row.now }
+        requires writings { AreWritings (state_of W.sets W.moves R.rules B.store self.old.propagation.facts) }
         requires open { self.old.propagation.facts.complete ≡ false }
-        ensures grows { Grows (state_of (reader P.timeline L.values) W.sets W.moves R.rules B.store self.old.propagation.facts) (state_of (reader P.timeline L.values) W.sets W.moves R.rules B.store self.new.propagation.facts) }
-        ensures inferred { IfOk result (λ learnt. HasInferred (state_of (reader P.timeline L.values) W.sets W.moves R.rules B.store self.old.propagation.facts) (state_of (reader P.timeline L.values) W.sets W.moves R.rules B.store self.new.propagation.facts) learnt (λ _. ⊤)) }
-        ensures halt { IfErr result (λ h. IsHalt (state_of (reader P.timeline L.values) W.sets W.moves R.rules B.store self.new.propagation.facts) h) }
+        ensures grows { Grows (state_of W.sets W.moves R.rules B.store self.old.propagation.facts) (state_of W.sets W.moves R.rules B.store self.new.propagation.facts) }
+        ensures inferred { IfOk result (λ learnt. HasInferred (state_of W.sets W.moves R.rules B.store self.old.propagation.facts) (state_of W.sets W.moves R.rules B.store self.new.propagation.facts) learnt (λ _. ⊤)) }
+        ensures halt { IfErr result (λ h. IsHalt (state_of W.sets W.moves R.rules B.store self.new.propagation.facts) h) }
     {
         if !self.lacks_byte(i, row) {
             return Ok(false);
@@ -371,15 +363,15 @@ impl<'a, P: Reaches + Drop, L: LastValues + Drop, B: ByteFacts, W: Transfer, R: 
     /// All that row i lets one infer; where its rules were applied, the bytes that it may write are
     /// listed anew, and its bytes are carried at once.
     fn infer_around(&mut self, i: u32, row: &StepRow) -> Result<bool, LearnError>
-        requires inside { i < (P.timeline self.old.propagation.facts.paths).legs.count }
-        requires row { (P.timeline self.old.propagation.facts.paths).legs.row i ≡ Some row.now }
-        requires tracked { IsRowTracked row.now i (state_of (reader P.timeline L.values) W.sets W.moves R.rules B.store self.old.propagation.facts) }
-        requires writings { AreWritings (state_of (reader P.timeline L.values) W.sets W.moves R.rules B.store self.old.propagation.facts) }
+        requires inside { i < (timeline self.old.propagation.facts.paths).legs.count }
+        requires row { (timeline self.old.propagation.facts.paths).legs.row i ≡ Some row.now }
+        requires tracked { IsRowTracked row.now i (state_of W.sets W.moves R.rules B.store self.old.propagation.facts) }
+        requires writings { AreWritings (state_of W.sets W.moves R.rules B.store self.old.propagation.facts) }
         requires open { self.old.propagation.facts.complete ≡ false }
-        requires uncut { IsUncut (state_of (reader P.timeline L.values) W.sets W.moves R.rules B.store self.old.propagation.facts) }
-        ensures grows { Grows (state_of (reader P.timeline L.values) W.sets W.moves R.rules B.store self.old.propagation.facts) (state_of (reader P.timeline L.values) W.sets W.moves R.rules B.store self.new.propagation.facts) }
-        ensures inferred { IfOk result (λ learnt. HasInferred (state_of (reader P.timeline L.values) W.sets W.moves R.rules B.store self.old.propagation.facts) (state_of (reader P.timeline L.values) W.sets W.moves R.rules B.store self.new.propagation.facts) learnt (InferredKnown row.now i)) }
-        ensures halt { IfErr result (λ h. IsHalt (state_of (reader P.timeline L.values) W.sets W.moves R.rules B.store self.new.propagation.facts) h) }
+        requires uncut { IsUncut (state_of W.sets W.moves R.rules B.store self.old.propagation.facts) }
+        ensures grows { Grows (state_of W.sets W.moves R.rules B.store self.old.propagation.facts) (state_of W.sets W.moves R.rules B.store self.new.propagation.facts) }
+        ensures inferred { IfOk result (λ learnt. HasInferred (state_of W.sets W.moves R.rules B.store self.old.propagation.facts) (state_of W.sets W.moves R.rules B.store self.new.propagation.facts) learnt (InferredKnown row.now i)) }
+        ensures halt { IfErr result (λ h. IsHalt (state_of W.sets W.moves R.rules B.store self.new.propagation.facts) h) }
     {
         let inferred = self.infer_inferred(i, row)?;
         if !inferred {
@@ -392,13 +384,13 @@ impl<'a, P: Reaches + Drop, L: LastValues + Drop, B: ByteFacts, W: Transfer, R: 
 
     /// All that row i lets one conclude, if there is one.
     fn infer_row(&mut self, i: u32) -> Result<bool, LearnError>
-        requires inside { i < (P.timeline self.old.propagation.facts.paths).legs.count }
-        requires writings { AreWritings (state_of (reader P.timeline L.values) W.sets W.moves R.rules B.store self.old.propagation.facts) }
+        requires inside { i < (timeline self.old.propagation.facts.paths).legs.count }
+        requires writings { AreWritings (state_of W.sets W.moves R.rules B.store self.old.propagation.facts) }
         requires open { self.old.propagation.facts.complete ≡ false }
-        requires uncut { IsUncut (state_of (reader P.timeline L.values) W.sets W.moves R.rules B.store self.old.propagation.facts) }
-        ensures grows { Grows (state_of (reader P.timeline L.values) W.sets W.moves R.rules B.store self.old.propagation.facts) (state_of (reader P.timeline L.values) W.sets W.moves R.rules B.store self.new.propagation.facts) }
-        ensures inferred { IfOk result (λ learnt. HasInferred (state_of (reader P.timeline L.values) W.sets W.moves R.rules B.store self.old.propagation.facts) (state_of (reader P.timeline L.values) W.sets W.moves R.rules B.store self.new.propagation.facts) learnt (IsRowClosed i)) }
-        ensures halt { IfErr result (λ h. IsHalt (state_of (reader P.timeline L.values) W.sets W.moves R.rules B.store self.new.propagation.facts) h) }
+        requires uncut { IsUncut (state_of W.sets W.moves R.rules B.store self.old.propagation.facts) }
+        ensures grows { Grows (state_of W.sets W.moves R.rules B.store self.old.propagation.facts) (state_of W.sets W.moves R.rules B.store self.new.propagation.facts) }
+        ensures inferred { IfOk result (λ learnt. HasInferred (state_of W.sets W.moves R.rules B.store self.old.propagation.facts) (state_of W.sets W.moves R.rules B.store self.new.propagation.facts) learnt (IsRowClosed i)) }
+        ensures halt { IfErr result (λ h. IsHalt (state_of W.sets W.moves R.rules B.store self.new.propagation.facts) h) }
     {
         match self.propagation.facts.row(i) {
             None => Ok(false),
@@ -408,14 +400,14 @@ impl<'a, P: Reaches + Drop, L: LastValues + Drop, B: ByteFacts, W: Transfer, R: 
 
     /// All that this row lets one conclude.
     fn infer_all(&mut self, i: u32, row: &StepRow) -> Result<bool, LearnError>
-        requires inside { i < (P.timeline self.old.propagation.facts.paths).legs.count }
-        requires row { (P.timeline self.old.propagation.facts.paths).legs.row i ≡ Some row.now }
-        requires writings { AreWritings (state_of (reader P.timeline L.values) W.sets W.moves R.rules B.store self.old.propagation.facts) }
+        requires inside { i < (timeline self.old.propagation.facts.paths).legs.count }
+        requires row { (timeline self.old.propagation.facts.paths).legs.row i ≡ Some row.now }
+        requires writings { AreWritings (state_of W.sets W.moves R.rules B.store self.old.propagation.facts) }
         requires open { self.old.propagation.facts.complete ≡ false }
-        requires uncut { IsUncut (state_of (reader P.timeline L.values) W.sets W.moves R.rules B.store self.old.propagation.facts) }
-        ensures grows { Grows (state_of (reader P.timeline L.values) W.sets W.moves R.rules B.store self.old.propagation.facts) (state_of (reader P.timeline L.values) W.sets W.moves R.rules B.store self.new.propagation.facts) }
-        ensures inferred { IfOk result (λ learnt. HasInferred (state_of (reader P.timeline L.values) W.sets W.moves R.rules B.store self.old.propagation.facts) (state_of (reader P.timeline L.values) W.sets W.moves R.rules B.store self.new.propagation.facts) learnt (IsRowInferred row.now i)) }
-        ensures halt { IfErr result (λ h. IsHalt (state_of (reader P.timeline L.values) W.sets W.moves R.rules B.store self.new.propagation.facts) h) }
+        requires uncut { IsUncut (state_of W.sets W.moves R.rules B.store self.old.propagation.facts) }
+        ensures grows { Grows (state_of W.sets W.moves R.rules B.store self.old.propagation.facts) (state_of W.sets W.moves R.rules B.store self.new.propagation.facts) }
+        ensures inferred { IfOk result (λ learnt. HasInferred (state_of W.sets W.moves R.rules B.store self.old.propagation.facts) (state_of W.sets W.moves R.rules B.store self.new.propagation.facts) learnt (IsRowInferred row.now i)) }
+        ensures halt { IfErr result (λ h. IsHalt (state_of W.sets W.moves R.rules B.store self.new.propagation.facts) h) }
     {
         let registers = self.carry_all(i, row)?;
         let fetched = self.fetch(i, row)?;
@@ -458,13 +450,13 @@ impl<'a, P: Reaches + Drop, L: LastValues + Drop, B: ByteFacts, W: Transfer, R: 
 
     /// All that row i lets one conclude, and that it was looked at.
     pub(super) fn infer_noted(&mut self, i: u32) -> Result<bool, LearnError>
-        requires inside { i < (P.timeline self.old.propagation.facts.paths).legs.count }
-        requires writings { AreWritings (state_of (reader P.timeline L.values) W.sets W.moves R.rules B.store self.old.propagation.facts) }
+        requires inside { i < (timeline self.old.propagation.facts.paths).legs.count }
+        requires writings { AreWritings (state_of W.sets W.moves R.rules B.store self.old.propagation.facts) }
         requires open { self.old.propagation.facts.complete ≡ false }
-        requires uncut { IsUncut (state_of (reader P.timeline L.values) W.sets W.moves R.rules B.store self.old.propagation.facts) }
-        ensures grows { Grows (state_of (reader P.timeline L.values) W.sets W.moves R.rules B.store self.old.propagation.facts) (state_of (reader P.timeline L.values) W.sets W.moves R.rules B.store self.new.propagation.facts) }
-        ensures inferred { IfOk result (λ learnt. HasInferred (state_of (reader P.timeline L.values) W.sets W.moves R.rules B.store self.old.propagation.facts) (state_of (reader P.timeline L.values) W.sets W.moves R.rules B.store self.new.propagation.facts) learnt (IsRowClosed i)) }
-        ensures halt { IfErr result (λ h. IsHalt (state_of (reader P.timeline L.values) W.sets W.moves R.rules B.store self.new.propagation.facts) h) }
+        requires uncut { IsUncut (state_of W.sets W.moves R.rules B.store self.old.propagation.facts) }
+        ensures grows { Grows (state_of W.sets W.moves R.rules B.store self.old.propagation.facts) (state_of W.sets W.moves R.rules B.store self.new.propagation.facts) }
+        ensures inferred { IfOk result (λ learnt. HasInferred (state_of W.sets W.moves R.rules B.store self.old.propagation.facts) (state_of W.sets W.moves R.rules B.store self.new.propagation.facts) learnt (IsRowClosed i)) }
+        ensures halt { IfErr result (λ h. IsHalt (state_of W.sets W.moves R.rules B.store self.new.propagation.facts) h) }
     {
         let len = self.propagation.facts.len();
         let time = self.propagation.recent.now();
@@ -488,7 +480,7 @@ impl<'a, P: Reaches + Drop, L: LastValues + Drop, B: ByteFacts, W: Transfer, R: 
     /// Whether something was learnt of one of the bytes that row i's rules look at since it was
     /// looked at; a number is that of the moment before it.
     fn has_recent(&mut self, number: u32, i: u32, row: &StepRow) -> bool
-        requires { i < (P.timeline self.old.propagation.facts.paths).legs.count }
+        requires { i < (timeline self.old.propagation.facts.paths).legs.count }
         ensures { self.new.propagation.facts ≡ self.old.propagation.facts }
     {
         let Some(base) = self.propagation.facts.row_base(i, row) else {
@@ -504,7 +496,7 @@ impl<'a, P: Reaches + Drop, L: LastValues + Drop, B: ByteFacts, W: Transfer, R: 
     /// Whether row i looks at bytes of which not all are known, and of which something was learnt
     /// lately, along other rows.
     fn may_tell(&mut self, number: u32, i: u32, row: &StepRow) -> bool
-        requires { i < (P.timeline self.old.propagation.facts.paths).legs.count }
+        requires { i < (timeline self.old.propagation.facts.paths).legs.count }
         ensures { self.new.propagation.facts ≡ self.old.propagation.facts }
     {
         let places = R::places(row).min(4);
@@ -520,14 +512,14 @@ impl<'a, P: Reaches + Drop, L: LastValues + Drop, B: ByteFacts, W: Transfer, R: 
     /// All that row i lets one infer with bytes of which something was learnt lately, and that it
     /// was looked at. What its registers keep was carried before.
     fn infer_bytes(&mut self, i: u32, row: &StepRow) -> Result<bool, LearnError>
-        requires inside { i < (P.timeline self.old.propagation.facts.paths).legs.count }
-        requires row { (P.timeline self.old.propagation.facts.paths).legs.row i ≡ Some row.now }
-        requires writings { AreWritings (state_of (reader P.timeline L.values) W.sets W.moves R.rules B.store self.old.propagation.facts) }
+        requires inside { i < (timeline self.old.propagation.facts.paths).legs.count }
+        requires row { (timeline self.old.propagation.facts.paths).legs.row i ≡ Some row.now }
+        requires writings { AreWritings (state_of W.sets W.moves R.rules B.store self.old.propagation.facts) }
         requires open { self.old.propagation.facts.complete ≡ false }
-        requires uncut { IsUncut (state_of (reader P.timeline L.values) W.sets W.moves R.rules B.store self.old.propagation.facts) }
-        ensures grows { Grows (state_of (reader P.timeline L.values) W.sets W.moves R.rules B.store self.old.propagation.facts) (state_of (reader P.timeline L.values) W.sets W.moves R.rules B.store self.new.propagation.facts) }
-        ensures inferred { IfOk result (λ learnt. HasInferred (state_of (reader P.timeline L.values) W.sets W.moves R.rules B.store self.old.propagation.facts) (state_of (reader P.timeline L.values) W.sets W.moves R.rules B.store self.new.propagation.facts) learnt (λ _. ⊤)) }
-        ensures halt { IfErr result (λ h. IsHalt (state_of (reader P.timeline L.values) W.sets W.moves R.rules B.store self.new.propagation.facts) h) }
+        requires uncut { IsUncut (state_of W.sets W.moves R.rules B.store self.old.propagation.facts) }
+        ensures grows { Grows (state_of W.sets W.moves R.rules B.store self.old.propagation.facts) (state_of W.sets W.moves R.rules B.store self.new.propagation.facts) }
+        ensures inferred { IfOk result (λ learnt. HasInferred (state_of W.sets W.moves R.rules B.store self.old.propagation.facts) (state_of W.sets W.moves R.rules B.store self.new.propagation.facts) learnt (λ _. ⊤)) }
+        ensures halt { IfErr result (λ h. IsHalt (state_of W.sets W.moves R.rules B.store self.new.propagation.facts) h) }
     {
         let len = self.propagation.facts.len();
         let time = self.propagation.recent.now();
@@ -541,13 +533,13 @@ impl<'a, P: Reaches + Drop, L: LastValues + Drop, B: ByteFacts, W: Transfer, R: 
     /// All that row i lets one conclude, where it may tell something new: something was learnt
     /// beside it since it was looked at, or of bytes that it looks at.
     pub(super) fn infer_fresh(&mut self, number: u32, i: u32) -> Result<bool, LearnError>
-        requires inside { i < (P.timeline self.old.propagation.facts.paths).legs.count }
-        requires writings { AreWritings (state_of (reader P.timeline L.values) W.sets W.moves R.rules B.store self.old.propagation.facts) }
+        requires inside { i < (timeline self.old.propagation.facts.paths).legs.count }
+        requires writings { AreWritings (state_of W.sets W.moves R.rules B.store self.old.propagation.facts) }
         requires open { self.old.propagation.facts.complete ≡ false }
-        requires uncut { IsUncut (state_of (reader P.timeline L.values) W.sets W.moves R.rules B.store self.old.propagation.facts) }
-        ensures grows { Grows (state_of (reader P.timeline L.values) W.sets W.moves R.rules B.store self.old.propagation.facts) (state_of (reader P.timeline L.values) W.sets W.moves R.rules B.store self.new.propagation.facts) }
-        ensures inferred { IfOk result (λ learnt. HasInferred (state_of (reader P.timeline L.values) W.sets W.moves R.rules B.store self.old.propagation.facts) (state_of (reader P.timeline L.values) W.sets W.moves R.rules B.store self.new.propagation.facts) learnt (λ _. ⊤)) }
-        ensures halt { IfErr result (λ h. IsHalt (state_of (reader P.timeline L.values) W.sets W.moves R.rules B.store self.new.propagation.facts) h) }
+        requires uncut { IsUncut (state_of W.sets W.moves R.rules B.store self.old.propagation.facts) }
+        ensures grows { Grows (state_of W.sets W.moves R.rules B.store self.old.propagation.facts) (state_of W.sets W.moves R.rules B.store self.new.propagation.facts) }
+        ensures inferred { IfOk result (λ learnt. HasInferred (state_of W.sets W.moves R.rules B.store self.old.propagation.facts) (state_of W.sets W.moves R.rules B.store self.new.propagation.facts) learnt (λ _. ⊤)) }
+        ensures halt { IfErr result (λ h. IsHalt (state_of W.sets W.moves R.rules B.store self.new.propagation.facts) h) }
     {
         if self.fresh.has(number) {
             return self.infer_noted(i);

@@ -1,5 +1,6 @@
 //! What is answered after a conflict, and where memory ran out.
 
+ghost use Rattle.rept_timeline.specs.Paths.{timeline};
 ghost use Rattle.std.specs.Prelude.{◌≡◌, ◌+◌, ◌<◌, ◌≤◌, length, true, false};
 ghost use Rattle.rept_reason.specs.declared.fact.Cell.{Cell};
 ghost use Rattle.rept_reason.specs.Facts.{told};
@@ -7,16 +8,15 @@ ghost use Rattle.rept_report.specs.Conflicts.{IsQuiet};
 ghost use Rattle.rept_report.specs.declared.conflict.ConflictKind.{ConflictKind};
 ghost use Rattle.rept_report.specs.Log.{oldest};
 ghost use Rattle.rept_facts.specs.Begun.{ends_told, KnowsEnds, HasEndsFirst, LearnsEndsFirst};
-ghost use Rattle.rept_facts.specs.State.{IsLined, setting_of, state_of, reader};
+ghost use Rattle.rept_facts.specs.State.{IsLined, setting_of, state_of};
 ghost use Rattle.rept_report.specs.Why.{fact_of};
 ghost use Rattle.rept_facts.specs.Inferring.{IsHalt, SameFacts, IsClash};
 ghost use Rattle.rept_facts.specs.Refined.{QuietBelow, IsStopped, IsHalted, clash_kind};
 
 use super::Analysis;
 use rept_facts::{LearnError, Stop};
-use rept_log::LastValues;
 use rept_reason::{Cell, RowRules};
-use rept_report::{ConflictKind, Paths, Reaches};
+use rept_report::ConflictKind;
 use rept_span::Transfer;
 use rept_versions::ByteFacts;
 
@@ -41,22 +41,15 @@ fn clash_kind(point: u32, cell: Cell, known: u32, value: u32) -> ConflictKind
     }
 }
 
-impl<'a, P: Reaches + Drop, L: LastValues + Drop, B: ByteFacts, W: Transfer, R: RowRules> Analysis<
-    'a,
-    P,
-    L,
-    B,
-    W,
-    R,
-> {
+impl<'a, B: ByteFacts, W: Transfer, R: RowRules> Analysis<'a, B, W, R> {
     /// The least place such that the facts at places below it leave a set empty or a turn wrong.
     fn bisect(&mut self) -> u32
         requires open { self.old.propagation.facts.complete ≡ false }
-        requires loud { IsQuiet (setting_of (reader P.timeline L.values) W.sets W.moves R.rules self.old.propagation.facts) (told self.old.propagation.facts.known.log) → ⊥ }
-        ensures same { SameFacts (state_of (reader P.timeline L.values) W.sets W.moves R.rules B.store self.old.propagation.facts) (state_of (reader P.timeline L.values) W.sets W.moves R.rules B.store self.new.propagation.facts) }
+        requires loud { IsQuiet (setting_of W.sets W.moves R.rules self.old.propagation.facts) (told self.old.propagation.facts.known.log) → ⊥ }
+        ensures same { SameFacts (state_of W.sets W.moves R.rules B.store self.old.propagation.facts) (state_of W.sets W.moves R.rules B.store self.new.propagation.facts) }
         ensures within { result ≤ length self.old.propagation.facts.known.log }
-        ensures quiet { QuietBelow (state_of (reader P.timeline L.values) W.sets W.moves R.rules B.store self.old.propagation.facts) result }
-        ensures loud { IsQuiet (setting_of (reader P.timeline L.values) W.sets W.moves R.rules self.old.propagation.facts) (told (oldest result self.old.propagation.facts.known.log)) → ⊥ }
+        ensures quiet { QuietBelow (state_of W.sets W.moves R.rules B.store self.old.propagation.facts) result }
+        ensures loud { IsQuiet (setting_of W.sets W.moves R.rules self.old.propagation.facts) (told (oldest result self.old.propagation.facts.known.log)) → ⊥ }
     {
         self.propagation.facts.held();
         let mut low = 0;
@@ -76,11 +69,11 @@ impl<'a, P: Reaches + Drop, L: LastValues + Drop, B: ByteFacts, W: Transfer, R: 
     /// Rolls back to the least place at which the facts show a conflict, and names it.
     pub(super) fn stop_least(&mut self) -> ConflictKind
         requires open { self.old.propagation.facts.complete ≡ false }
-        requires loud { IsQuiet (setting_of (reader P.timeline L.values) W.sets W.moves R.rules self.old.propagation.facts) (told self.old.propagation.facts.known.log) → ⊥ }
-        ensures ended { IsStopped (state_of (reader P.timeline L.values) W.sets W.moves R.rules B.store self.old.propagation.facts) (state_of (reader P.timeline L.values) W.sets W.moves R.rules B.store self.new.propagation.facts) result }
+        requires loud { IsQuiet (setting_of W.sets W.moves R.rules self.old.propagation.facts) (told self.old.propagation.facts.known.log) → ⊥ }
+        ensures ended { IsStopped (state_of W.sets W.moves R.rules B.store self.old.propagation.facts) (state_of W.sets W.moves R.rules B.store self.new.propagation.facts) result }
         ensures still { self.new.propagation.facts.work.infers ≡ self.old.propagation.facts.work.infers }
         ensures log { self.new.propagation.facts.known.log ≡ self.old.propagation.facts.known.log }
-        ensures ends { LearnsEndsFirst (state_of (reader P.timeline L.values) W.sets W.moves R.rules B.store self.old.propagation.facts) → IsQuiet (setting_of (reader P.timeline L.values) W.sets W.moves R.rules self.old.propagation.facts) (ends_told (setting_of (reader P.timeline L.values) W.sets W.moves R.rules self.old.propagation.facts)) → KnowsEnds (setting_of (reader P.timeline L.values) W.sets W.moves R.rules self.old.propagation.facts) (told (oldest self.new.propagation.facts.shown self.new.propagation.facts.known.log)) }
+        ensures ends { LearnsEndsFirst (state_of W.sets W.moves R.rules B.store self.old.propagation.facts) → IsQuiet (setting_of W.sets W.moves R.rules self.old.propagation.facts) (ends_told (setting_of W.sets W.moves R.rules self.old.propagation.facts)) → KnowsEnds (setting_of W.sets W.moves R.rules self.old.propagation.facts) (told (oldest self.new.propagation.facts.shown self.new.propagation.facts.known.log)) }
     {
         self.propagation.facts.held();
         let limit = self.bisect();
@@ -93,11 +86,11 @@ impl<'a, P: Reaches + Drop, L: LastValues + Drop, B: ByteFacts, W: Transfer, R: 
     /// Names the clash, where the facts show no other conflict, and else their least one.
     fn stop_clash(&mut self, point: u32, cell: Cell, known: u32, value: u32) -> ConflictKind
         requires open { self.old.propagation.facts.complete ≡ false }
-        requires clash { IsClash (state_of (reader P.timeline L.values) W.sets W.moves R.rules B.store self.old.propagation.facts) (fact_of point cell value) known }
-        ensures ended { IsStopped (state_of (reader P.timeline L.values) W.sets W.moves R.rules B.store self.old.propagation.facts) (state_of (reader P.timeline L.values) W.sets W.moves R.rules B.store self.new.propagation.facts) result }
+        requires clash { IsClash (state_of W.sets W.moves R.rules B.store self.old.propagation.facts) (fact_of point cell value) known }
+        ensures ended { IsStopped (state_of W.sets W.moves R.rules B.store self.old.propagation.facts) (state_of W.sets W.moves R.rules B.store self.new.propagation.facts) result }
         ensures still { self.new.propagation.facts.work.infers ≡ self.old.propagation.facts.work.infers }
         ensures log { self.new.propagation.facts.known.log ≡ self.old.propagation.facts.known.log }
-        ensures ends { HasEndsFirst (state_of (reader P.timeline L.values) W.sets W.moves R.rules B.store self.old.propagation.facts) → IsQuiet (setting_of (reader P.timeline L.values) W.sets W.moves R.rules self.old.propagation.facts) (ends_told (setting_of (reader P.timeline L.values) W.sets W.moves R.rules self.old.propagation.facts)) → KnowsEnds (setting_of (reader P.timeline L.values) W.sets W.moves R.rules self.old.propagation.facts) (told (oldest self.new.propagation.facts.shown self.new.propagation.facts.known.log)) }
+        ensures ends { HasEndsFirst (state_of W.sets W.moves R.rules B.store self.old.propagation.facts) → IsQuiet (setting_of W.sets W.moves R.rules self.old.propagation.facts) (ends_told (setting_of W.sets W.moves R.rules self.old.propagation.facts)) → KnowsEnds (setting_of W.sets W.moves R.rules self.old.propagation.facts) (told (oldest self.new.propagation.facts.shown self.new.propagation.facts.known.log)) }
     {
         self.propagation.facts.held();
         let len = self.propagation.facts.len();
@@ -115,10 +108,10 @@ impl<'a, P: Reaches + Drop, L: LastValues + Drop, B: ByteFacts, W: Transfer, R: 
     /// least one.
     fn stop_memory(&mut self) -> Stop
         requires open { self.old.propagation.facts.complete ≡ false }
-        ensures ended { IsHalted (state_of (reader P.timeline L.values) W.sets W.moves R.rules B.store self.old.propagation.facts) (state_of (reader P.timeline L.values) W.sets W.moves R.rules B.store self.new.propagation.facts) result }
+        ensures ended { IsHalted (state_of W.sets W.moves R.rules B.store self.old.propagation.facts) (state_of W.sets W.moves R.rules B.store self.new.propagation.facts) result }
         ensures still { self.new.propagation.facts.work.infers ≡ self.old.propagation.facts.work.infers }
         ensures log { self.new.propagation.facts.known.log ≡ self.old.propagation.facts.known.log }
-        ensures ends { HasEndsFirst (state_of (reader P.timeline L.values) W.sets W.moves R.rules B.store self.old.propagation.facts) → IsQuiet (setting_of (reader P.timeline L.values) W.sets W.moves R.rules self.old.propagation.facts) (ends_told (setting_of (reader P.timeline L.values) W.sets W.moves R.rules self.old.propagation.facts)) → (kind : ConflictKind) → result ≡ Stop.Conflict kind → KnowsEnds (setting_of (reader P.timeline L.values) W.sets W.moves R.rules self.old.propagation.facts) (told (oldest self.new.propagation.facts.shown self.new.propagation.facts.known.log)) }
+        ensures ends { HasEndsFirst (state_of W.sets W.moves R.rules B.store self.old.propagation.facts) → IsQuiet (setting_of W.sets W.moves R.rules self.old.propagation.facts) (ends_told (setting_of W.sets W.moves R.rules self.old.propagation.facts)) → (kind : ConflictKind) → result ≡ Stop.Conflict kind → KnowsEnds (setting_of W.sets W.moves R.rules self.old.propagation.facts) (told (oldest self.new.propagation.facts.shown self.new.propagation.facts.known.log)) }
     {
         self.propagation.facts.held();
         let len = self.propagation.facts.len();
@@ -133,12 +126,12 @@ impl<'a, P: Reaches + Drop, L: LastValues + Drop, B: ByteFacts, W: Transfer, R: 
     /// What a halt comes to.
     pub(super) fn stop(&mut self, halt: &LearnError) -> Stop
         requires open { self.old.propagation.facts.complete ≡ false }
-        requires halt { IsHalt (state_of (reader P.timeline L.values) W.sets W.moves R.rules B.store self.old.propagation.facts) halt.now }
-        ensures ended { IsHalted (state_of (reader P.timeline L.values) W.sets W.moves R.rules B.store self.old.propagation.facts) (state_of (reader P.timeline L.values) W.sets W.moves R.rules B.store self.new.propagation.facts) result }
+        requires halt { IsHalt (state_of W.sets W.moves R.rules B.store self.old.propagation.facts) halt.now }
+        ensures ended { IsHalted (state_of W.sets W.moves R.rules B.store self.old.propagation.facts) (state_of W.sets W.moves R.rules B.store self.new.propagation.facts) result }
         ensures still { self.new.propagation.facts.work.infers ≡ self.old.propagation.facts.work.infers }
         ensures log { self.new.propagation.facts.known.log ≡ self.old.propagation.facts.known.log }
-        ensures ends { HasEndsFirst (state_of (reader P.timeline L.values) W.sets W.moves R.rules B.store self.old.propagation.facts) → IsQuiet (setting_of (reader P.timeline L.values) W.sets W.moves R.rules self.old.propagation.facts) (ends_told (setting_of (reader P.timeline L.values) W.sets W.moves R.rules self.old.propagation.facts)) → (kind : ConflictKind) → result ≡ Stop.Conflict kind → KnowsEnds (setting_of (reader P.timeline L.values) W.sets W.moves R.rules self.old.propagation.facts) (told (oldest self.new.propagation.facts.shown self.new.propagation.facts.known.log)) }
-        ensures plain { result ≡ Stop.OutOfMemory → B.JOINS ≡ true → IsLined (P.timeline self.old.propagation.facts.paths) → ⊥ }
+        ensures ends { HasEndsFirst (state_of W.sets W.moves R.rules B.store self.old.propagation.facts) → IsQuiet (setting_of W.sets W.moves R.rules self.old.propagation.facts) (ends_told (setting_of W.sets W.moves R.rules self.old.propagation.facts)) → (kind : ConflictKind) → result ≡ Stop.Conflict kind → KnowsEnds (setting_of W.sets W.moves R.rules self.old.propagation.facts) (told (oldest self.new.propagation.facts.shown self.new.propagation.facts.known.log)) }
+        ensures plain { result ≡ Stop.OutOfMemory → B.JOINS ≡ true → IsLined (timeline self.old.propagation.facts.paths) → ⊥ }
     {
         self.propagation.facts.counted();
         match halt {

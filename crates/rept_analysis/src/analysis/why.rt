@@ -1,21 +1,20 @@
 //! Reasons of facts.
 
+ghost use Rattle.rept_timeline.specs.Paths.{timeline};
 ghost use Rattle.std.specs.Prelude.{◌<◌, ◌≤◌, ◌≡◌, ◌≢◌, ℕ, ◌+◌, ◌-◌, ◌↔◌, length, true, false, Some, IfOk, IfSome, IfNone, IsTrue};
 ghost use Rattle.rept_reason.specs.declared.fact.Cell.TheVariants.{Register, Byte};
 ghost use Rattle.rept_report.specs.Log.{entry, oldest};
 ghost use Rattle.rept_report.specs.Reasons.{StandsIn};
 ghost use Rattle.rept_report.specs.Why.{because, IsReason, IsLeastFront};
 ghost use Rattle.rept_log.specs.Fronts.{IsInPlace, told_by};
-ghost use Rattle.rept_facts.specs.State.{setting_of, state_of, reader};
+ghost use Rattle.rept_facts.specs.State.{setting_of, state_of};
 ghost use Rattle.rept_facts.specs.Kept.{answers};
 ghost use Rattle.rept_facts.specs.Reasoned.{AreSetsOf, IsNotLast};
 
 use super::Analysis;
 use rept_facts::FrontSets;
 use rept_isa::Reg;
-use rept_log::LastValues;
 use rept_reason::{Cell, Fact, Reason, RowRules};
-use rept_report::{Paths, Reaches};
 use rept_span::{Spans, Transfer};
 use rept_versions::ByteFacts;
 use std::alloc::{AllocError as OutOfMemory, Global};
@@ -36,22 +35,15 @@ fn probe(low: u32, high: u32, guess: u32) -> u32
     low + (high - low) / 2
 }
 
-impl<'a, P: Reaches + Drop, L: LastValues + Drop, B: ByteFacts, W: Transfer, R: RowRules> Analysis<
-    'a,
-    P,
-    L,
-    B,
-    W,
-    R,
-> {
+impl<'a, B: ByteFacts, W: Transfer, R: RowRules> Analysis<'a, B, W, R> {
     /// The place in the log of a register's fact.
     fn place(&self, fact: &Fact, r: Reg) -> Option<u32>
-        requires point { fact.now.point ≤ (P.timeline self.now.propagation.facts.paths).legs.count }
+        requires point { fact.now.point ≤ (timeline self.now.propagation.facts.paths).legs.count }
         requires cell { fact.now.cell ≡ Register r }
         requires complete { self.now.propagation.facts.complete ≡ true }
         ensures found { IfSome result (λ t. entry self.now.propagation.facts.known.log t ≡ Some fact.now) }
         ensures named { IfSome result (λ _. 0 < r) }
-        ensures none { IfNone result (answers (state_of (reader P.timeline L.values) W.sets W.moves R.rules B.store self.now.propagation.facts) fact.now.point fact.now.cell ≢ Some fact.now.value) }
+        ensures none { IfNone result (answers (state_of W.sets W.moves R.rules B.store self.now.propagation.facts) fact.now.point fact.now.cell ≢ Some fact.now.value) }
     {
         self.propagation.facts.held();
         if r.number() == 0 {
@@ -72,11 +64,11 @@ impl<'a, P: Reaches + Drop, L: LastValues + Drop, B: ByteFacts, W: Transfer, R: 
         fact: &Fact,
         r: Reg,
     ) -> Result<Option<Reason>, OutOfMemory>
-        requires point { fact.now.point ≤ (P.timeline self.now.propagation.facts.paths).legs.count }
+        requires point { fact.now.point ≤ (timeline self.now.propagation.facts.paths).legs.count }
         requires cell { fact.now.cell ≡ Register r }
         requires complete { self.now.propagation.facts.complete ≡ true }
-        ensures none { IfOk result (λ found. IfNone found (answers (state_of (reader P.timeline L.values) W.sets W.moves R.rules B.store self.now.propagation.facts) fact.now.point fact.now.cell ≢ Some fact.now.value)) }
-        ensures reason { IfOk result (λ found. IfSome found (λ reason. IsReason (setting_of (reader P.timeline L.values) W.sets W.moves R.rules self.now.propagation.facts) self.now.propagation.facts.known.log fact.now (told_by reason))) }
+        ensures none { IfOk result (λ found. IfNone found (answers (state_of W.sets W.moves R.rules B.store self.now.propagation.facts) fact.now.point fact.now.cell ≢ Some fact.now.value)) }
+        ensures reason { IfOk result (λ found. IfSome found (λ reason. IsReason (setting_of W.sets W.moves R.rules self.now.propagation.facts) self.now.propagation.facts.known.log fact.now (told_by reason))) }
         ensures room { IfOk result (λ found. IfSome found IsInPlace) }
     {
         self.propagation.facts.held();
@@ -101,11 +93,11 @@ impl<'a, P: Reaches + Drop, L: LastValues + Drop, B: ByteFacts, W: Transfer, R: 
         a: u32,
     ) -> Result<bool, OutOfMemory>
         requires within { limit ≤ length self.now.propagation.facts.known.log }
-        requires sets { AreSetsOf (setting_of (reader P.timeline L.values) W.sets W.moves R.rules self.now.propagation.facts) (oldest limit self.now.propagation.facts.known.log) spans.now }
-        requires moment { fact.now.point ≤ (P.timeline self.now.propagation.facts.paths).moments.end }
+        requires sets { AreSetsOf (setting_of W.sets W.moves R.rules self.now.propagation.facts) (oldest limit self.now.propagation.facts.known.log) spans.now }
+        requires moment { fact.now.point ≤ (timeline self.now.propagation.facts.paths).moments.end }
         requires cell { fact.now.cell ≡ Byte a }
         requires complete { self.now.propagation.facts.complete ≡ true }
-        ensures { IfOk result (λ stands. IsTrue stands ↔ StandsIn (setting_of (reader P.timeline L.values) W.sets W.moves R.rules self.now.propagation.facts) (oldest limit self.now.propagation.facts.known.log) fact.now) }
+        ensures { IfOk result (λ stands. IsTrue stands ↔ StandsIn (setting_of W.sets W.moves R.rules self.now.propagation.facts) (oldest limit self.now.propagation.facts.known.log) fact.now) }
     {
         self.propagation.facts.held();
         let found = self
@@ -127,14 +119,14 @@ impl<'a, P: Reaches + Drop, L: LastValues + Drop, B: ByteFacts, W: Transfer, R: 
         fact: &Fact,
         a: u32,
     ) -> Result<u32, OutOfMemory>
-        requires sets { AreSetsOf (setting_of (reader P.timeline L.values) W.sets W.moves R.rules self.now.propagation.facts) (oldest sets.old.limit self.now.propagation.facts.known.log) sets.old.spans }
-        requires moment { fact.now.point ≤ (P.timeline self.now.propagation.facts.paths).moments.end }
+        requires sets { AreSetsOf (setting_of W.sets W.moves R.rules self.now.propagation.facts) (oldest sets.old.limit self.now.propagation.facts.known.log) sets.old.spans }
+        requires moment { fact.now.point ≤ (timeline self.now.propagation.facts.paths).moments.end }
         requires cell { fact.now.cell ≡ Byte a }
         requires complete { self.now.propagation.facts.complete ≡ true }
-        requires known { answers (state_of (reader P.timeline L.values) W.sets W.moves R.rules B.store self.now.propagation.facts) fact.now.point fact.now.cell ≡ Some fact.now.value }
-        ensures least { IfOk result (λ t. IsLeastFront (setting_of (reader P.timeline L.values) W.sets W.moves R.rules self.now.propagation.facts) self.now.propagation.facts.known.log fact.now t) }
+        requires known { answers (state_of W.sets W.moves R.rules B.store self.now.propagation.facts) fact.now.point fact.now.cell ≡ Some fact.now.value }
+        ensures least { IfOk result (λ t. IsLeastFront (setting_of W.sets W.moves R.rules self.now.propagation.facts) self.now.propagation.facts.known.log fact.now t) }
         ensures within { IfOk result (λ t. t ≤ length self.now.propagation.facts.known.log) }
-        ensures sets { AreSetsOf (setting_of (reader P.timeline L.values) W.sets W.moves R.rules self.now.propagation.facts) (oldest sets.new.limit self.now.propagation.facts.known.log) sets.new.spans }
+        ensures sets { AreSetsOf (setting_of W.sets W.moves R.rules self.now.propagation.facts) (oldest sets.new.limit self.now.propagation.facts.known.log) sets.new.spans }
     {
         self.propagation.facts.held();
         let mut low = 0;
@@ -161,14 +153,14 @@ impl<'a, P: Reaches + Drop, L: LastValues + Drop, B: ByteFacts, W: Transfer, R: 
         fact: &Fact,
         a: u32,
     ) -> Result<Option<Reason>, OutOfMemory>
-        requires sets { AreSetsOf (setting_of (reader P.timeline L.values) W.sets W.moves R.rules self.now.propagation.facts) (oldest sets.old.limit self.now.propagation.facts.known.log) sets.old.spans }
-        requires moment { fact.now.point ≤ (P.timeline self.now.propagation.facts.paths).moments.end }
+        requires sets { AreSetsOf (setting_of W.sets W.moves R.rules self.now.propagation.facts) (oldest sets.old.limit self.now.propagation.facts.known.log) sets.old.spans }
+        requires moment { fact.now.point ≤ (timeline self.now.propagation.facts.paths).moments.end }
         requires cell { fact.now.cell ≡ Byte a }
         requires complete { self.now.propagation.facts.complete ≡ true }
-        requires least { IsLeastFront (setting_of (reader P.timeline L.values) W.sets W.moves R.rules self.now.propagation.facts) self.now.propagation.facts.known.log fact.now (place + 1) }
+        requires least { IsLeastFront (setting_of W.sets W.moves R.rules self.now.propagation.facts) self.now.propagation.facts.known.log fact.now (place + 1) }
         requires entry { entry self.now.propagation.facts.known.log place ≡ Some fact.now }
-        ensures none { IfOk result (λ found. IfNone found (answers (state_of (reader P.timeline L.values) W.sets W.moves R.rules B.store self.now.propagation.facts) fact.now.point fact.now.cell ≢ Some fact.now.value)) }
-        ensures reason { IfOk result (λ found. IfSome found (λ reason. IsReason (setting_of (reader P.timeline L.values) W.sets W.moves R.rules self.now.propagation.facts) self.now.propagation.facts.known.log fact.now (told_by reason))) }
+        ensures none { IfOk result (λ found. IfNone found (answers (state_of W.sets W.moves R.rules B.store self.now.propagation.facts) fact.now.point fact.now.cell ≢ Some fact.now.value)) }
+        ensures reason { IfOk result (λ found. IfSome found (λ reason. IsReason (setting_of W.sets W.moves R.rules self.now.propagation.facts) self.now.propagation.facts.known.log fact.now (told_by reason))) }
         ensures room { IfOk result (λ found. IfSome found IsInPlace) }
     {
         self.propagation.facts.held();
@@ -187,15 +179,15 @@ impl<'a, P: Reaches + Drop, L: LastValues + Drop, B: ByteFacts, W: Transfer, R: 
         fact: &Fact,
         a: u32,
     ) -> Result<Option<Reason>, OutOfMemory>
-        requires sets { AreSetsOf (setting_of (reader P.timeline L.values) W.sets W.moves R.rules self.now.propagation.facts) (oldest sets.old.limit self.now.propagation.facts.known.log) sets.old.spans }
+        requires sets { AreSetsOf (setting_of W.sets W.moves R.rules self.now.propagation.facts) (oldest sets.old.limit self.now.propagation.facts.known.log) sets.old.spans }
         requires within { limit ≤ length self.now.propagation.facts.known.log }
-        requires moment { fact.now.point ≤ (P.timeline self.now.propagation.facts.paths).moments.end }
+        requires moment { fact.now.point ≤ (timeline self.now.propagation.facts.paths).moments.end }
         requires cell { fact.now.cell ≡ Byte a }
         requires complete { self.now.propagation.facts.complete ≡ true }
-        requires least { IsLeastFront (setting_of (reader P.timeline L.values) W.sets W.moves R.rules self.now.propagation.facts) self.now.propagation.facts.known.log fact.now limit }
+        requires least { IsLeastFront (setting_of W.sets W.moves R.rules self.now.propagation.facts) self.now.propagation.facts.known.log fact.now limit }
         requires other { IsNotLast self.now.propagation.facts.known.log fact.now limit }
-        ensures none { IfOk result (λ found. IfNone found (answers (state_of (reader P.timeline L.values) W.sets W.moves R.rules B.store self.now.propagation.facts) fact.now.point fact.now.cell ≢ Some fact.now.value)) }
-        ensures reason { IfOk result (λ found. IfSome found (λ reason. IsReason (setting_of (reader P.timeline L.values) W.sets W.moves R.rules self.now.propagation.facts) self.now.propagation.facts.known.log fact.now (told_by reason))) }
+        ensures none { IfOk result (λ found. IfNone found (answers (state_of W.sets W.moves R.rules B.store self.now.propagation.facts) fact.now.point fact.now.cell ≢ Some fact.now.value)) }
+        ensures reason { IfOk result (λ found. IfSome found (λ reason. IsReason (setting_of W.sets W.moves R.rules self.now.propagation.facts) self.now.propagation.facts.known.log fact.now (told_by reason))) }
         ensures room { IfOk result (λ found. IfSome found IsInPlace) }
     {
         self.propagation.facts.held();
@@ -207,10 +199,10 @@ impl<'a, P: Reaches + Drop, L: LastValues + Drop, B: ByteFacts, W: Transfer, R: 
 
     /// Whether a byte's fact is answered.
     fn is_answered(&self, fact: &Fact, a: u32) -> bool
-        requires moment { fact.now.point ≤ (P.timeline self.now.propagation.facts.paths).moments.end }
+        requires moment { fact.now.point ≤ (timeline self.now.propagation.facts.paths).moments.end }
         requires cell { fact.now.cell ≡ Byte a }
         requires complete { self.now.propagation.facts.complete ≡ true }
-        ensures { IsTrue result ↔ (answers (state_of (reader P.timeline L.values) W.sets W.moves R.rules B.store self.now.propagation.facts) fact.now.point fact.now.cell ≡ Some fact.now.value) }
+        ensures { IsTrue result ↔ (answers (state_of W.sets W.moves R.rules B.store self.now.propagation.facts) fact.now.point fact.now.cell ≡ Some fact.now.value) }
     {
         match self.byte(fact.point, a) {
             Some(byte) => u32::from(byte) == fact.value,
@@ -229,11 +221,11 @@ impl<'a, P: Reaches + Drop, L: LastValues + Drop, B: ByteFacts, W: Transfer, R: 
 
     /// The reason of a byte's fact, by the least prefix in which it stands.
     fn why_byte(&self, alloc: Global, fact: &Fact, a: u32) -> Result<Option<Reason>, OutOfMemory>
-        requires moment { fact.now.point ≤ (P.timeline self.now.propagation.facts.paths).moments.end }
+        requires moment { fact.now.point ≤ (timeline self.now.propagation.facts.paths).moments.end }
         requires cell { fact.now.cell ≡ Byte a }
         requires complete { self.now.propagation.facts.complete ≡ true }
-        ensures none { IfOk result (λ found. IfNone found (answers (state_of (reader P.timeline L.values) W.sets W.moves R.rules B.store self.now.propagation.facts) fact.now.point fact.now.cell ≢ Some fact.now.value)) }
-        ensures reason { IfOk result (λ found. IfSome found (λ reason. IsReason (setting_of (reader P.timeline L.values) W.sets W.moves R.rules self.now.propagation.facts) self.now.propagation.facts.known.log fact.now (told_by reason))) }
+        ensures none { IfOk result (λ found. IfNone found (answers (state_of W.sets W.moves R.rules B.store self.now.propagation.facts) fact.now.point fact.now.cell ≢ Some fact.now.value)) }
+        ensures reason { IfOk result (λ found. IfSome found (λ reason. IsReason (setting_of W.sets W.moves R.rules self.now.propagation.facts) self.now.propagation.facts.known.log fact.now (told_by reason))) }
         ensures room { IfOk result (λ found. IfSome found IsInPlace) }
     {
         if !self.is_answered(fact, a) {
@@ -252,11 +244,11 @@ impl<'a, P: Reaches + Drop, L: LastValues + Drop, B: ByteFacts, W: Transfer, R: 
     /// known before it, and the ranges that the rule looked at, by those facts. `None` exactly
     /// where the fact isn't answered. `OutOfMemory` says that the room for the search can't be had.
     pub fn why(&self, alloc: Global, fact: Fact) -> Result<Option<Reason>, OutOfMemory>
-        requires point { (r : ℕ) → fact.cell ≡ Register r → fact.point ≤ (P.timeline self.now.propagation.facts.paths).legs.count }
-        requires moment { (a : ℕ) → fact.cell ≡ Byte a → fact.point ≤ (P.timeline self.now.propagation.facts.paths).moments.end }
+        requires point { (r : ℕ) → fact.cell ≡ Register r → fact.point ≤ (timeline self.now.propagation.facts.paths).legs.count }
+        requires moment { (a : ℕ) → fact.cell ≡ Byte a → fact.point ≤ (timeline self.now.propagation.facts.paths).moments.end }
         requires complete { self.now.propagation.facts.complete ≡ true }
-        ensures none { IfOk result (λ found. IfNone found (answers (state_of (reader P.timeline L.values) W.sets W.moves R.rules B.store self.now.propagation.facts) fact.point fact.cell ≢ Some fact.value)) }
-        ensures reason { IfOk result (λ found. IfSome found (λ reason. IsReason (setting_of (reader P.timeline L.values) W.sets W.moves R.rules self.now.propagation.facts) self.now.propagation.facts.known.log fact (because reason.rule reason.premises.items reason.ranges.items))) }
+        ensures none { IfOk result (λ found. IfNone found (answers (state_of W.sets W.moves R.rules B.store self.now.propagation.facts) fact.point fact.cell ≢ Some fact.value)) }
+        ensures reason { IfOk result (λ found. IfSome found (λ reason. IsReason (setting_of W.sets W.moves R.rules self.now.propagation.facts) self.now.propagation.facts.known.log fact (because reason.rule reason.premises.items reason.ranges.items))) }
         ensures room { IfOk result (λ found. IfSome found IsInPlace) }
     {
         match &fact.cell {

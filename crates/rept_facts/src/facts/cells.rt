@@ -1,5 +1,6 @@
 //! How many of a row's registers and bytes are known.
 
+ghost use Rattle.rept_timeline.specs.Paths.{timeline};
 ghost use Rattle.std.specs.Prelude.{◌≡◌, ◌*◌, ◌<◌, ◌≤◌, is_some, IsSome};
 ghost use Rattle.rept_log.specs.Around.{around};
 ghost use Rattle.rept_log.specs.Known.{known_of};
@@ -10,27 +11,18 @@ ghost use Rattle.rept_isa.specs.Operands.{first_read};
 use super::CrashFacts;
 use crate::rows::address;
 use rept_isa::{Reg, StepRow, reads, writes};
-use rept_log::LastValues;
 use rept_log::views::point_at;
 use rept_partial::Flat;
 use rept_reason::{RowRules, When};
-use rept_report::Reaches;
 use rept_span::Transfer;
 use rept_versions::ByteFacts;
 
-impl<
-    'a,
-    P: Reaches + Drop,
-    L: LastValues + Drop,
-    B: ByteFacts,
-    W: Transfer,
-    R: RowRules,
-> CrashFacts<'a, P, L, B, W, R> {
+impl<'a, B: ByteFacts, W: Transfer, R: RowRules> CrashFacts<'a, B, W, R> {
     /// The value of the register in the place of rs1 before row i, from which on its rules look at
     /// bytes; none where there is no such register, or its value isn't known.
     pub fn row_base(&self, i: u32, row: &StepRow) -> Option<u32>
-        requires { i < (P.timeline self.now.paths).legs.count }
-        ensures { result ≡ base_known (first_read row.now.instr) (around (P.timeline self.now.paths).moments (known_of B.store self.now.known) i) }
+        requires { i < (timeline self.now.paths).legs.count }
+        ensures { result ≡ base_known (first_read row.now.instr) (around (timeline self.now.paths).moments (known_of B.store self.now.known) i) }
     {
         let (first, _) = reads(&row.instr);
         let _count = self.count();
@@ -45,8 +37,8 @@ impl<
 
     /// 1 where there is a register and it is known before row i or after it.
     fn operand_cell(&self, i: u32, when: When, r: Option<Reg>) -> u32
-        requires { i < (P.timeline self.now.paths).legs.count }
-        ensures value { result ≡ operand_known (around (P.timeline self.now.paths).moments (known_of B.store self.now.known) i) when r }
+        requires { i < (timeline self.now.paths).legs.count }
+        ensures value { result ≡ operand_known (around (timeline self.now.paths).moments (known_of B.store self.now.known) i) when r }
         ensures few { result ≤ 1 }
     {
         let _count = self.count();
@@ -73,8 +65,8 @@ impl<
 
     /// At how many of the two moments around row i the byte at an address is known.
     fn byte_cells(&self, i: u32, a: u32) -> u32
-        requires { IsSome ((P.timeline self.now.paths).legs.row i) }
-        ensures value { result ≡ byte_known (around (P.timeline self.now.paths).moments (known_of B.store self.now.known) i) a }
+        requires { IsSome ((timeline self.now.paths).legs.row i) }
+        ensures value { result ≡ byte_known (around (timeline self.now.paths).moments (known_of B.store self.now.known) i) a }
         ensures few { result ≤ 2 }
     {
         let before = self.moment_at(i, When::Before);
@@ -85,9 +77,9 @@ impl<
     /// At how many of the two moments around row i up to four bytes from an address on are known,
     /// in all.
     fn byte_cells_from(&self, i: u32, start: u32, count: u32) -> u32
-        requires row { IsSome ((P.timeline self.now.paths).legs.row i) }
+        requires row { IsSome ((timeline self.now.paths).legs.row i) }
         requires four { count ≤ 4 }
-        ensures value { result ≡ bytes_from (around (P.timeline self.now.paths).moments (known_of B.store self.now.known) i) start count }
+        ensures value { result ≡ bytes_from (around (timeline self.now.paths).moments (known_of B.store self.now.known) i) start count }
         ensures few { result ≤ 2 * count }
     {
         let mut sum = 0;
@@ -100,9 +92,9 @@ impl<
     /// At how many of the two moments around row i the bytes that its rules look at are known, in
     /// all.
     fn row_byte_cells(&self, i: u32, row: &StepRow) -> u32
-        requires inside { i < (P.timeline self.now.paths).legs.count }
-        requires row { IsSome ((P.timeline self.now.paths).legs.row i) }
-        ensures value { result ≡ bytes_known R.rules row.now (around (P.timeline self.now.paths).moments (known_of B.store self.now.known) i) (base_known (first_read row.now.instr) (around (P.timeline self.now.paths).moments (known_of B.store self.now.known) i)) }
+        requires inside { i < (timeline self.now.paths).legs.count }
+        requires row { IsSome ((timeline self.now.paths).legs.row i) }
+        ensures value { result ≡ bytes_known R.rules row.now (around (timeline self.now.paths).moments (known_of B.store self.now.known) i) (base_known (first_read row.now.instr) (around (timeline self.now.paths).moments (known_of B.store self.now.known) i)) }
         ensures few { result ≤ 8 }
     {
         match self.row_base(i, row) {
@@ -116,9 +108,9 @@ impl<
 
     /// How many of the registers and bytes that row i's rules look at are known.
     pub fn cells(&self, i: u32, row: &StepRow) -> u32
-        requires inside { i < (P.timeline self.now.paths).legs.count }
-        requires row { IsSome ((P.timeline self.now.paths).legs.row i) }
-        ensures value { result ≡ cells_known R.rules row.now (around (P.timeline self.now.paths).moments (known_of B.store self.now.known) i) }
+        requires inside { i < (timeline self.now.paths).legs.count }
+        requires row { IsSome ((timeline self.now.paths).legs.row i) }
+        ensures value { result ≡ cells_known R.rules row.now (around (timeline self.now.paths).moments (known_of B.store self.now.known) i) }
         ensures few { result ≤ 11 }
     {
         let (first, second) = reads(&row.instr);

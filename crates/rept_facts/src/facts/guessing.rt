@@ -5,11 +5,9 @@ ghost use Rattle.std.specs.Prelude.{◌<◌};
 
 use super::CrashFacts;
 use rept_isa::{Reg, StepRow, reads, writes};
-use rept_log::LastValues;
 use rept_reason::{Cell, RowRules, When};
-use rept_report::paths::row_between;
-use rept_report::{Paths, Reaches};
 use rept_span::Transfer;
+use rept_timeline::row_between;
 use rept_versions::ByteFacts;
 use std::alloc::{AllocError as OutOfMemory, Global};
 
@@ -40,14 +38,7 @@ fn at(numbers: &[u32], index: usize) -> u32 {
     }
 }
 
-impl<
-    'a,
-    P: Reaches + Drop,
-    L: LastValues + Drop,
-    B: ByteFacts,
-    W: Transfer,
-    R: RowRules,
-> CrashFacts<'a, P, L, B, W, R> {
+impl<'a, B: ByteFacts, W: Transfer, R: RowRules> CrashFacts<'a, B, W, R> {
     /// How many facts tell the value of a register at a point; `NEVER` where none do.
     fn value_need(&self, point: u32, r: Reg) -> u32 {
         if r.number() == 0 || point > self.count() {
@@ -152,7 +143,7 @@ impl<
 
     /// How many tell whether the row between two moments may write a byte.
     fn need_between(&self, from: u32, to: u32) -> u32 {
-        let Some(i) = row_between(&self.paths, from, to) else {
+        let Some(i) = row_between(self.paths, from, to) else {
             return 0;
         };
         match self.row(i) {

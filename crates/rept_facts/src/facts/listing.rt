@@ -1,8 +1,9 @@
 //! The list of the rows that may write, in the order of their moments.
 
+ghost use Rattle.rept_timeline.specs.Paths.{timeline};
 ghost use Rattle.std.specs.Prelude.{◌≡◌, ◌∷◌, ◌++◌, [], ◌+◌, ◌^◌, ◌<◌, ◌≤◌, ℕ, length, true, false, Some, None, IsSome, set, slice_get};
 ghost use Rattle.rept_alias.specs.Accesses.{call_hits};
-ghost use Rattle.rept_facts.specs.State.{state_of, with_writing, reader};
+ghost use Rattle.rept_facts.specs.State.{state_of, with_writing};
 ghost use Rattle.rept_facts.specs.Inferring.{past, Grows, IsFitted, AreWritings, AreWritingsBefore, AreExact, IsUncut};
 ghost use Rattle.rept_isa.specs.declared.row.StepRow.{StepRow};
 ghost use Rattle.rept_report.specs.Reach.Reaching.{IsExtent};
@@ -14,9 +15,7 @@ use super::CrashFacts;
 use crate::rows::is_store;
 use rept_alias::CallAccess;
 use rept_isa::{StepRow, is_call};
-use rept_log::LastValues;
 use rept_reason::{RowRules, When};
-use rept_report::Reaches;
 use rept_span::Transfer;
 use rept_versions::ByteFacts;
 use rept_writing::Writing;
@@ -28,14 +27,7 @@ fn is_none(access: &CallAccess) -> bool
     access.first.is_none() && access.second.is_none()
 }
 
-impl<
-    'a,
-    P: Reaches + Drop,
-    L: LastValues + Drop,
-    B: ByteFacts,
-    W: Transfer,
-    R: RowRules,
-> CrashFacts<'a, P, L, B, W, R> {
+impl<'a, B: ByteFacts, W: Transfer, R: RowRules> CrashFacts<'a, B, W, R> {
     /// The index of the first row from index k to before another one that may write the byte, in
     /// the list of those that may write.
     pub fn next_hit(&self, k: usize, end: usize, a: u32) -> Option<usize>
@@ -110,8 +102,8 @@ impl<
     fn put_writing(&mut self, k: usize, writing: Writing) -> bool
         requires open { self.old.complete ≡ false }
         requires within { k < length self.old.work.writing }
-        ensures put { result ≡ true → (state_of (reader P.timeline L.values) W.sets W.moves R.rules B.store self.new) ≡ with_writing (state_of (reader P.timeline L.values) W.sets W.moves R.rules B.store self.old) (set self.old.work.writing k writing) }
-        ensures same { result ≡ false → (state_of (reader P.timeline L.values) W.sets W.moves R.rules B.store self.new) ≡ (state_of (reader P.timeline L.values) W.sets W.moves R.rules B.store self.old) }
+        ensures put { result ≡ true → (state_of W.sets W.moves R.rules B.store self.new) ≡ with_writing (state_of W.sets W.moves R.rules B.store self.old) (set self.old.work.writing k writing) }
+        ensures same { result ≡ false → (state_of W.sets W.moves R.rules B.store self.new) ≡ (state_of W.sets W.moves R.rules B.store self.old) }
     {
         self.writing.replace(k, writing)
     }
@@ -152,7 +144,7 @@ impl<
     /// Makes the rows of the list found by the byte again, where many were put in it anew.
     fn renew_index(&mut self)
         requires open { self.old.complete ≡ false }
-        ensures { (state_of (reader P.timeline L.values) W.sets W.moves R.rules B.store self.new) ≡ (state_of (reader P.timeline L.values) W.sets W.moves R.rules B.store self.old) }
+        ensures { (state_of W.sets W.moves R.rules B.store self.new) ≡ (state_of W.sets W.moves R.rules B.store self.old) }
     {
         if self.writing.is_worn() {
             self.index_writing();
@@ -162,11 +154,11 @@ impl<
     /// An entry of that list: row i, which stands at a number and may write these bytes, with the
     /// numbers between which it may act.
     fn writing_of(&self, i: u32, row: &StepRow, at: u32, access: CallAccess) -> Writing
-        requires row { (P.timeline self.now.paths).legs.row i ≡ Some row.now }
+        requires row { (timeline self.now.paths).legs.row i ≡ Some row.now }
         ensures row { result.row ≡ i }
         ensures at { result.at ≡ at }
         ensures access { result.access ≡ access }
-        ensures extent { IsExtent (P.timeline self.now.paths).moments i (record { from = result.from; to = result.to }) }
+        ensures extent { IsExtent (timeline self.now.paths).moments i (record { from = result.from; to = result.to }) }
     {
         let extent = self.paths.extent(i);
         Writing {
@@ -182,14 +174,14 @@ impl<
     /// Puts the bytes that row i may write by all that is known by now in the list, where it may
     /// write many by the list.
     fn list_anew(&mut self, k: usize, i: u32, row: &StepRow)
-        requires inside { i < (P.timeline self.old.paths).legs.count }
-        requires row { (P.timeline self.old.paths).legs.row i ≡ Some row.now }
+        requires inside { i < (timeline self.old.paths).legs.count }
+        requires row { (timeline self.old.paths).legs.row i ≡ Some row.now }
         requires listed { (w : Writing) → slice_get self.old.work.writing k ≡ Some w → w.row ≡ i }
         requires within { k < length self.old.work.writing }
-        requires writings { AreWritings (state_of (reader P.timeline L.values) W.sets W.moves R.rules B.store self.old) }
+        requires writings { AreWritings (state_of W.sets W.moves R.rules B.store self.old) }
         requires open { self.old.complete ≡ false }
-        ensures grows { Grows (state_of (reader P.timeline L.values) W.sets W.moves R.rules B.store self.old) (state_of (reader P.timeline L.values) W.sets W.moves R.rules B.store self.new) }
-        ensures uncut { IsUncut (state_of (reader P.timeline L.values) W.sets W.moves R.rules B.store self.old) → IsUncut (state_of (reader P.timeline L.values) W.sets W.moves R.rules B.store self.new) }
+        ensures grows { Grows (state_of W.sets W.moves R.rules B.store self.old) (state_of W.sets W.moves R.rules B.store self.new) }
+        ensures uncut { IsUncut (state_of W.sets W.moves R.rules B.store self.old) → IsUncut (state_of W.sets W.moves R.rules B.store self.new) }
     {
         let access = self.access_now(i, row);
         let at = self.moment_at(i, When::Before);
@@ -203,12 +195,12 @@ impl<
     /// Puts the bytes that row i may write in the list, for a store that may stand in the list or
     /// not. For another row, and in the first round, it does nothing.
     pub fn free(&mut self, i: u32, row: &StepRow)
-        requires inside { i < (P.timeline self.old.paths).legs.count }
-        requires row { (P.timeline self.old.paths).legs.row i ≡ Some row.now }
-        requires writings { AreWritings (state_of (reader P.timeline L.values) W.sets W.moves R.rules B.store self.old) }
+        requires inside { i < (timeline self.old.paths).legs.count }
+        requires row { (timeline self.old.paths).legs.row i ≡ Some row.now }
+        requires writings { AreWritings (state_of W.sets W.moves R.rules B.store self.old) }
         requires open { self.old.complete ≡ false }
-        ensures grows { Grows (state_of (reader P.timeline L.values) W.sets W.moves R.rules B.store self.old) (state_of (reader P.timeline L.values) W.sets W.moves R.rules B.store self.new) }
-        ensures uncut { IsUncut (state_of (reader P.timeline L.values) W.sets W.moves R.rules B.store self.old) → IsUncut (state_of (reader P.timeline L.values) W.sets W.moves R.rules B.store self.new) }
+        ensures grows { Grows (state_of W.sets W.moves R.rules B.store self.old) (state_of W.sets W.moves R.rules B.store self.new) }
+        ensures uncut { IsUncut (state_of W.sets W.moves R.rules B.store self.old) → IsUncut (state_of W.sets W.moves R.rules B.store self.new) }
     {
         let before = self.moment_at(i, When::Before);
         let k = self.listed_before(before);
@@ -223,11 +215,11 @@ impl<
 
     /// The row that may write, at an index, which stands at a moment.
     pub fn entry(&self, k: usize) -> Writing
-        requires writings { AreWritings (state_of (reader P.timeline L.values) W.sets W.moves R.rules B.store self.now) }
+        requires writings { AreWritings (state_of W.sets W.moves R.rules B.store self.now) }
         requires within { k < length self.now.work.writing }
         ensures found { slice_get self.now.work.writing k ≡ Some result }
-        ensures there { IsSome ((P.timeline self.now.paths).legs.row result.row) }
-        ensures early { result.at ≤ (P.timeline self.now.paths).moments.end }
+        ensures there { IsSome ((timeline self.now.paths).legs.row result.row) }
+        ensures early { result.at ≤ (timeline self.now.paths).moments.end }
     {
         let _end = self.end();
         self.writing_at(k)
@@ -235,7 +227,7 @@ impl<
 
     /// The number after that of the entry before an index in that list, or the first one.
     pub fn number_past(&self, k: usize) -> u32
-        requires writings { AreWritings (state_of (reader P.timeline L.values) W.sets W.moves R.rules B.store self.now) }
+        requires writings { AreWritings (state_of W.sets W.moves R.rules B.store self.now) }
         requires within { k ≤ length self.now.work.writing }
         ensures value { result ≡ past self.now.work.writing k }
     {
@@ -250,7 +242,7 @@ impl<
     /// Takes all rows out of the list of those that may write.
     fn clear_writing(&mut self)
         requires open { self.old.complete ≡ false }
-        ensures { (state_of (reader P.timeline L.values) W.sets W.moves R.rules B.store self.new) ≡ with_writing (state_of (reader P.timeline L.values) W.sets W.moves R.rules B.store self.old) [] }
+        ensures { (state_of W.sets W.moves R.rules B.store self.new) ≡ with_writing (state_of W.sets W.moves R.rules B.store self.old) [] }
     {
         self.writing.clear();
     }
@@ -258,8 +250,8 @@ impl<
     /// Adds a row to it.
     fn add_writing(&mut self, writing: Writing)
         requires open { self.old.complete ≡ false }
-        requires room { length self.old.work.writing ≤ (P.timeline self.old.paths).moments.end }
-        ensures { (state_of (reader P.timeline L.values) W.sets W.moves R.rules B.store self.new) ≡ with_writing (state_of (reader P.timeline L.values) W.sets W.moves R.rules B.store self.old) (self.old.work.writing ++ writing ∷ []) }
+        requires room { length self.old.work.writing ≤ (timeline self.old.paths).moments.end }
+        ensures { (state_of W.sets W.moves R.rules B.store self.new) ≡ with_writing (state_of W.sets W.moves R.rules B.store self.old) (self.old.work.writing ++ writing ∷ []) }
     {
         self.writing.add(writing);
     }
@@ -267,14 +259,14 @@ impl<
     /// Makes the rows of the list found by the byte that they may write.
     fn index_writing(&mut self)
         requires open { self.old.complete ≡ false }
-        ensures { (state_of (reader P.timeline L.values) W.sets W.moves R.rules B.store self.new) ≡ (state_of (reader P.timeline L.values) W.sets W.moves R.rules B.store self.old) }
+        ensures { (state_of W.sets W.moves R.rules B.store self.new) ≡ (state_of W.sets W.moves R.rules B.store self.old) }
     {
         self.writing.index();
     }
 
     /// The row before which a moment lies, if there is one.
     pub fn row_at(&self, number: u32) -> Option<u32>
-        ensures { IsRowAt (P.timeline self.now.paths) number result }
+        ensures { IsRowAt (timeline self.now.paths) number result }
     {
         self.paths.row_at(number)
     }
@@ -283,13 +275,13 @@ impl<
     /// which the sets are.
     fn list_at(&mut self, number: u32)
         requires open { self.old.complete ≡ false }
-        requires inside { number ≤ (P.timeline self.old.paths).moments.end }
+        requires inside { number ≤ (timeline self.old.paths).moments.end }
         requires room { length self.old.work.writing ≤ number }
-        requires fitted { IsFitted (state_of (reader P.timeline L.values) W.sets W.moves R.rules B.store self.old) }
-        requires before { AreWritingsBefore number self.old.work.writing (state_of (reader P.timeline L.values) W.sets W.moves R.rules B.store self.old) }
-        ensures same { (state_of (reader P.timeline L.values) W.sets W.moves R.rules B.store self.new) ≡ with_writing (state_of (reader P.timeline L.values) W.sets W.moves R.rules B.store self.old) self.new.work.writing }
+        requires fitted { IsFitted (state_of W.sets W.moves R.rules B.store self.old) }
+        requires before { AreWritingsBefore number self.old.work.writing (state_of W.sets W.moves R.rules B.store self.old) }
+        ensures same { (state_of W.sets W.moves R.rules B.store self.new) ≡ with_writing (state_of W.sets W.moves R.rules B.store self.old) self.new.work.writing }
         ensures room { length self.new.work.writing ≤ number + 1 }
-        ensures listed { AreWritingsBefore (number + 1) self.new.work.writing (state_of (reader P.timeline L.values) W.sets W.moves R.rules B.store self.old) }
+        ensures listed { AreWritingsBefore (number + 1) self.new.work.writing (state_of W.sets W.moves R.rules B.store self.old) }
     {
         match self.row_at(number) {
             None => {}
@@ -300,14 +292,14 @@ impl<
     /// Adds the row that leads from a point, if it may write.
     fn list_row(&mut self, number: u32, i: u32)
         requires open { self.old.complete ≡ false }
-        requires inside { number ≤ (P.timeline self.old.paths).moments.end }
-        requires row { IsRowAt (P.timeline self.old.paths) number (Some i) }
+        requires inside { number ≤ (timeline self.old.paths).moments.end }
+        requires row { IsRowAt (timeline self.old.paths) number (Some i) }
         requires room { length self.old.work.writing ≤ number }
-        requires fitted { IsFitted (state_of (reader P.timeline L.values) W.sets W.moves R.rules B.store self.old) }
-        requires before { AreWritingsBefore number self.old.work.writing (state_of (reader P.timeline L.values) W.sets W.moves R.rules B.store self.old) }
-        ensures same { (state_of (reader P.timeline L.values) W.sets W.moves R.rules B.store self.new) ≡ with_writing (state_of (reader P.timeline L.values) W.sets W.moves R.rules B.store self.old) self.new.work.writing }
+        requires fitted { IsFitted (state_of W.sets W.moves R.rules B.store self.old) }
+        requires before { AreWritingsBefore number self.old.work.writing (state_of W.sets W.moves R.rules B.store self.old) }
+        ensures same { (state_of W.sets W.moves R.rules B.store self.new) ≡ with_writing (state_of W.sets W.moves R.rules B.store self.old) self.new.work.writing }
         ensures room { length self.new.work.writing ≤ number + 1 }
-        ensures listed { AreWritingsBefore (number + 1) self.new.work.writing (state_of (reader P.timeline L.values) W.sets W.moves R.rules B.store self.old) }
+        ensures listed { AreWritingsBefore (number + 1) self.new.work.writing (state_of W.sets W.moves R.rules B.store self.old) }
     {
         match self.row(i) {
             None => {}
@@ -318,16 +310,16 @@ impl<
     /// Adds this row, if it may write.
     fn list_there(&mut self, number: u32, i: u32, row: &StepRow)
         requires open { self.old.complete ≡ false }
-        requires inside { number ≤ (P.timeline self.old.paths).moments.end }
-        requires point { i < (P.timeline self.old.paths).legs.count }
-        requires at { IsRowAt (P.timeline self.old.paths) number (Some i) }
-        requires row { (P.timeline self.old.paths).legs.row i ≡ Some row.now }
+        requires inside { number ≤ (timeline self.old.paths).moments.end }
+        requires point { i < (timeline self.old.paths).legs.count }
+        requires at { IsRowAt (timeline self.old.paths) number (Some i) }
+        requires row { (timeline self.old.paths).legs.row i ≡ Some row.now }
         requires room { length self.old.work.writing ≤ number }
-        requires fitted { IsFitted (state_of (reader P.timeline L.values) W.sets W.moves R.rules B.store self.old) }
-        requires before { AreWritingsBefore number self.old.work.writing (state_of (reader P.timeline L.values) W.sets W.moves R.rules B.store self.old) }
-        ensures same { (state_of (reader P.timeline L.values) W.sets W.moves R.rules B.store self.new) ≡ with_writing (state_of (reader P.timeline L.values) W.sets W.moves R.rules B.store self.old) self.new.work.writing }
+        requires fitted { IsFitted (state_of W.sets W.moves R.rules B.store self.old) }
+        requires before { AreWritingsBefore number self.old.work.writing (state_of W.sets W.moves R.rules B.store self.old) }
+        ensures same { (state_of W.sets W.moves R.rules B.store self.new) ≡ with_writing (state_of W.sets W.moves R.rules B.store self.old) self.new.work.writing }
         ensures room { length self.new.work.writing ≤ number + 1 }
-        ensures listed { AreWritingsBefore (number + 1) self.new.work.writing (state_of (reader P.timeline L.values) W.sets W.moves R.rules B.store self.old) }
+        ensures listed { AreWritingsBefore (number + 1) self.new.work.writing (state_of W.sets W.moves R.rules B.store self.old) }
     {
         let access = self.access(i, row);
         if !is_none(&access) {
@@ -338,10 +330,10 @@ impl<
     /// Lists the rows that may write, by the facts of which the sets are.
     pub fn list_writing(&mut self)
         requires open { self.old.complete ≡ false }
-        requires fitted { IsFitted (state_of (reader P.timeline L.values) W.sets W.moves R.rules B.store self.old) }
-        ensures same { (state_of (reader P.timeline L.values) W.sets W.moves R.rules B.store self.new) ≡ with_writing (state_of (reader P.timeline L.values) W.sets W.moves R.rules B.store self.old) self.new.work.writing }
-        ensures listed { AreWritings (state_of (reader P.timeline L.values) W.sets W.moves R.rules B.store self.new) }
-        ensures exact { AreExact (state_of (reader P.timeline L.values) W.sets W.moves R.rules B.store self.new) }
+        requires fitted { IsFitted (state_of W.sets W.moves R.rules B.store self.old) }
+        ensures same { (state_of W.sets W.moves R.rules B.store self.new) ≡ with_writing (state_of W.sets W.moves R.rules B.store self.old) self.new.work.writing }
+        ensures listed { AreWritings (state_of W.sets W.moves R.rules B.store self.new) }
+        ensures exact { AreExact (state_of W.sets W.moves R.rules B.store self.new) }
     {
         self.held();
         let count = self.end() + 1;

@@ -1,26 +1,26 @@
 //! Which rows write which bytes, by the facts of which the sets are.
 
+ghost use Rattle.rept_timeline.specs.Paths.{timeline};
 ghost use Rattle.std.specs.Prelude.{◌<◌};
 
 use super::CrashFacts;
 use crate::moment::RegisterView;
-use rept_log::LastValues;
 use rept_reason::RowRules;
-use rept_report::{Reaches, RowWrites};
+use rept_report::RowWrites;
 use rept_span::Transfer;
 use rept_versions::ByteFacts;
 
-impl<'a, P: Reaches + Drop, L: LastValues + Drop, B: ByteFacts, W: Transfer, R: RowRules> RowWrites
-    for CrashFacts<'a, P, L, B, W, R> {
+impl<'a, B: ByteFacts, W: Transfer, R: RowRules> RowWrites for CrashFacts<'a, B, W, R> {
+    ghost use Rattle.rept_timeline.specs.Paths.{timeline};
     ghost use Rattle.rept_reason.specs.Facts.{told};
     ghost use Rattle.rept_report.specs.Log.{oldest};
-    ghost use Rattle.rept_facts.specs.State.{setting_of, state_of, reader};
+    ghost use Rattle.rept_facts.specs.State.{setting_of, state_of};
     ghost use Rattle.rept_facts.specs.Inferring.{IsFitted};
     ghost use Rattle.rept_facts.specs.Latest.{writes_by};
 
-    ghost writes = { λ a. writes_by (setting_of (reader P.timeline L.values) W.sets W.moves R.rules a) (told (oldest a.filled a.known.log)) };
+    ghost writes = { λ a. writes_by (setting_of W.sets W.moves R.rules a) (told (oldest a.filled a.known.log)) };
 
-    ghost ready = { λ a i. (i < (P.timeline a.paths).legs.count) × IsFitted (state_of (reader P.timeline L.values) W.sets W.moves R.rules B.store a) };
+    ghost ready = { λ a i. (i < (timeline a.paths).legs.count) × IsFitted (state_of W.sets W.moves R.rules B.store a) };
 
     fn may_write(&self, row: u32, a: u32) -> bool {
         match self.row(row) {

@@ -21,7 +21,8 @@ use Rattle.rept_findings.specs.declared.place.Place.TheVariants as places
 use Rattle.rept_findings.specs.declared.place.ThreadPlace.{ThreadPlace}
 use Rattle.rept_findings.specs.declared.place.ThreadPoint.{ThreadPoint}
 use Rattle.rept_found.specs.Places.Places.{thread_point, point_named, after_named, point_on, last_by, last_on, end_on, named_on, place_on, place_number}
-use Rattle.rept_found.proofs.PlacesLemmas.Naming.{IsOnly, is_only, before_number, after_number, last_number, last_of_all}
+use Rattle.rept_found.proofs.PlacesLemmas.Naming.{before_number, after_number, last_number, last_of_all}
+use Rattle.rept_timeline.proofs.Only.{IsOnly, is_only}
 
 after_same : {q r : Row} → after q ≡ after r → q ≡ r
 after_same e = cc

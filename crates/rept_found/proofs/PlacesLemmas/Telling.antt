@@ -8,7 +8,8 @@ use Rattle.rept_moments.specs.declared.course.NumberedRun as courses
 use Rattle.rept_moments.specs.Courses.{seen_in, threads_in, count_in, IsCourseOf}
 use Rattle.rept_moments.proofs.Places.{few_threads}
 use Rattle.rept_found.specs.Places.Places.{thread_point, point_on}
-use Rattle.rept_found.proofs.PlacesLemmas.Naming.{is_only, past_points, threads_same}
+use Rattle.rept_found.proofs.PlacesLemmas.Naming.{threads_same}
+use Rattle.rept_timeline.proofs.Only.{is_only, past_points}
 
 -- a point up to the last one is a point of the course
 pub inside : (c : courses.NumberedRun) (number last : ℕ) → last ≡ (seen_in c).legs.count → threads_in c ≢ 0 → number ≤ last → number < count_in c

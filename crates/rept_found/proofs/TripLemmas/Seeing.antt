@@ -38,7 +38,8 @@ use Rattle.rept_report.specs.Setting.{Setting, IsLast}
 use Rattle.rept_report.specs.Runs as runs
 use Rattle.rept_report.specs.Runs.{Run, Runs, StepWrites}
 use Rattle.rept_report.proofs.Line.{next_is}
-use Rattle.rept_found.specs.Trip.Trip.{Trip, thread_on, given_by, setting_on}
+use Rattle.rept_found.specs.Trip.Trip.{Trip, given_by, setting_on}
+use Rattle.rept_timeline.specs.Ends.{thread_on}
 use Rattle.rept_found.specs.Trip.Executed.{IsHistoryOf, run_on}
 use Rattle.rept_found.proofs.TripLemmas.Single.{is_alone, one_thread, rows_are, count_is, is_row, last_low, last_high, is_moment}
 

@@ -1,10 +1,10 @@
 -- What is analysed: what the threads of a run executed and when, how the run ended, and by which
 -- sets of values and which rules of its rows it is read. This project's own.
+use Rattle.rept_timeline.specs.Ends.{values_by}
 use Rattle.std.specs.Prelude.{ℕ, nat_lt, if◌then◌else◌, List, length, Option, Some, None}
 use Rattle.rept_isa.specs.declared.row.StepRow.{StepRow}
 use Rattle.rept_steps.specs.Course.{Course}
 use Rattle.rept_order.specs.History.{Ending}
-use Rattle.rept_order.specs.Legs.{point_at}
 use Rattle.rept_moments.specs.Seen.{alone_by, seen_by}
 use Rattle.rept_partial.specs.Sets.{Sets}
 use Rattle.rept_span.specs.Moves.{Moves}
@@ -20,16 +20,6 @@ pub record Trip (W : Type 0) : Type 0 where
   pub course : Course
   -- the registers of each thread, and the bytes of memory, at the end
   pub ending : Ending
-
--- the thread of a point; a number that is no point's goes by the first thread
-abbrev pub thread_on : Course → ℕ → ℕ
-thread_on C p = if nat_lt (point_at C p).thread (length C.threads) then (point_at C p).thread else 0
-
--- the last values of registers of the thread of a point; where there is one thread in one slice,
--- all of which is told, those of that thread
-abbrev pub values_by : Course → (ℕ → ℕ → Option ℕ) → Option (List StepRow) → ℕ → ℕ → Option ℕ
-values_by C registers (Some rows) p = registers 0
-values_by C registers None p = registers (thread_on C p)
 
 -- what is given of it, by whether it is such a run
 abbrev pub given_by : Course → Ending → Option (List StepRow) → Given

@@ -1,5 +1,6 @@
 //! Reasons by what rows let one infer in a prefix of a log.
 
+ghost use Rattle.rept_timeline.specs.Paths.{timeline};
 ghost use Rattle.std.specs.Prelude.{◌≡◌, ◌-◌, ◌<◌, ◌≤◌, length, map, Some, IsSome, IfOk, IfSome, IfNone, Contains};
 ghost use Rattle.rept_reason.specs.declared.fact.Cell.TheVariants.{Register, Byte};
 ghost use Rattle.rept_reason.specs.declared.view.inferred.Conclusion.{Conclusion};
@@ -9,11 +10,9 @@ ghost use Rattle.rept_log.specs.Fronts.{basis_of, front_of, stands, told_by, IsI
 
 use super::Front;
 use super::views::Standing;
-use crate::last::LastValues;
 use rept_isa::{Reg, StepRow};
 use rept_partial::Partial;
 use rept_reason::{Cell, Conclusion, Fact, Premise, Reason, RowRules, RowView, When};
-use rept_report::Paths;
 use rept_span::Transfer;
 use rept_versions::ByteFacts;
 use smallvec::SmallVec;
@@ -32,20 +31,12 @@ fn seen_by<V: RowView>(view: &V, when: When, cell: &Cell) -> Option<u32>
     }
 }
 
-impl<'k, 'd, P: Paths, L: LastValues, B: ByteFacts, W: Transfer, R: RowRules> Front<
-    'k,
-    'd,
-    P,
-    L,
-    B,
-    W,
-    R,
-> {
+impl<'k, 'd, B: ByteFacts, W: Transfer, R: RowRules> Front<'k, 'd, B, W, R> {
     /// Of conclusions of row i the first one that says what the fact says.
     fn matching(&self, list: &[Conclusion], i: u32, fact: &Fact) -> Option<Conclusion>
-        requires { IsSome ((P.timeline self.now.paths).legs.row i) }
-        ensures found { IfSome result (λ d. Contains list.now d × Gives (P.timeline self.now.paths).moments i d fact.now) }
-        ensures none { IfNone result ((d : Conclusion) → Contains list.now d → Gives (P.timeline self.now.paths).moments i d fact.now → ⊥) }
+        requires { IsSome ((timeline self.now.paths).legs.row i) }
+        ensures found { IfSome result (λ d. Contains list.now d × Gives (timeline self.now.paths).moments i d fact.now) }
+        ensures none { IfNone result ((d : Conclusion) → Contains list.now d → Gives (timeline self.now.paths).moments i d fact.now → ⊥) }
     {
         for inferred in list {
             if fact.point == self.instant(i, inferred.when, &inferred.cell)
@@ -60,8 +51,8 @@ impl<'k, 'd, P: Paths, L: LastValues, B: ByteFacts, W: Transfer, R: RowRules> Fr
 
     /// What a conclusion of row i rests on, as a fact.
     fn premise<V: RowView>(&self, view: &V, i: u32, need: &Premise) -> Fact
-        requires { IsSome ((P.timeline self.now.paths).legs.row i) }
-        ensures { result ≡ premise_of (P.timeline self.now.paths).moments (V.seen view.now) i need.now }
+        requires { IsSome ((timeline self.now.paths).legs.row i) }
+        ensures { result ≡ premise_of (timeline self.now.paths).moments (V.seen view.now) i need.now }
     {
         let cell = need.cell;
         let value = match seen_by(view, need.when, &cell) {
@@ -83,9 +74,9 @@ impl<'k, 'd, P: Paths, L: LastValues, B: ByteFacts, W: Transfer, R: RowRules> Fr
         i: u32,
         needs: &[Premise],
     ) -> SmallVec<Fact, 10>
-        requires row { IsSome ((P.timeline self.now.paths).legs.row i) }
+        requires row { IsSome ((timeline self.now.paths).legs.row i) }
         requires few { length needs.now ≤ 10 }
-        ensures facts { result.items ≡ map (premise_of (P.timeline self.now.paths).moments (V.seen view.now) i) needs.now }
+        ensures facts { result.items ≡ map (premise_of (timeline self.now.paths).moments (V.seen view.now) i) needs.now }
         ensures room { result.capacity ≡ 10 }
     {
         let mut premises = SmallVec::new(alloc);
@@ -105,9 +96,9 @@ impl<'k, 'd, P: Paths, L: LastValues, B: ByteFacts, W: Transfer, R: RowRules> Fr
         row: &StepRow,
         fact: &Fact,
     ) -> Result<Option<Reason>, OutOfMemory>
-        requires { (P.timeline self.now.paths).legs.row i ≡ Some row.now }
-        ensures found { IfOk result (λ found. IfSome found (λ reason. IsInferredBecause (setting_in (front_of W.sets W.moves R.rules (basis_of P.timeline L.values self.now))) (stands (front_of W.sets W.moves R.rules (basis_of P.timeline L.values self.now))) fact.now (told_by reason))) }
-        ensures none { IfOk result (λ found. IfNone found (IsNotInferredBy (front_of W.sets W.moves R.rules (basis_of P.timeline L.values self.now)) i fact.now)) }
+        requires { (timeline self.now.paths).legs.row i ≡ Some row.now }
+        ensures found { IfOk result (λ found. IfSome found (λ reason. IsInferredBecause (setting_in (front_of W.sets W.moves R.rules (basis_of self.now))) (stands (front_of W.sets W.moves R.rules (basis_of self.now))) fact.now (told_by reason))) }
+        ensures none { IfOk result (λ found. IfNone found (IsNotInferredBy (front_of W.sets W.moves R.rules (basis_of self.now)) i fact.now)) }
         ensures room { IfOk result (λ found. IfSome found IsInPlace) }
     {
         let _count = self.count();
@@ -140,8 +131,8 @@ impl<'k, 'd, P: Paths, L: LastValues, B: ByteFacts, W: Transfer, R: RowRules> Fr
         i: u32,
         fact: &Fact,
     ) -> Result<Option<Reason>, OutOfMemory>
-        ensures found { IfOk result (λ found. IfSome found (λ reason. IsInferredBecause (setting_in (front_of W.sets W.moves R.rules (basis_of P.timeline L.values self.now))) (stands (front_of W.sets W.moves R.rules (basis_of P.timeline L.values self.now))) fact.now (told_by reason))) }
-        ensures none { IfOk result (λ found. IfNone found (IsNotInferredBy (front_of W.sets W.moves R.rules (basis_of P.timeline L.values self.now)) i fact.now)) }
+        ensures found { IfOk result (λ found. IfSome found (λ reason. IsInferredBecause (setting_in (front_of W.sets W.moves R.rules (basis_of self.now))) (stands (front_of W.sets W.moves R.rules (basis_of self.now))) fact.now (told_by reason))) }
+        ensures none { IfOk result (λ found. IfNone found (IsNotInferredBy (front_of W.sets W.moves R.rules (basis_of self.now)) i fact.now)) }
         ensures room { IfOk result (λ found. IfSome found IsInPlace) }
     {
         match self.row(i) {
@@ -157,8 +148,8 @@ impl<'k, 'd, P: Paths, L: LastValues, B: ByteFacts, W: Transfer, R: RowRules> Fr
         alloc: Global,
         fact: &Fact,
     ) -> Result<Option<Reason>, OutOfMemory>
-        ensures found { IfOk result (λ found. IfSome found (λ reason. IsInferredBecause (setting_in (front_of W.sets W.moves R.rules (basis_of P.timeline L.values self.now))) (stands (front_of W.sets W.moves R.rules (basis_of P.timeline L.values self.now))) fact.now (told_by reason))) }
-        ensures none { IfOk result (λ found. IfNone found (0 < fact.now.point → IsNotInferredBy (front_of W.sets W.moves R.rules (basis_of P.timeline L.values self.now)) (fact.now.point - 1) fact.now)) }
+        ensures found { IfOk result (λ found. IfSome found (λ reason. IsInferredBecause (setting_in (front_of W.sets W.moves R.rules (basis_of self.now))) (stands (front_of W.sets W.moves R.rules (basis_of self.now))) fact.now (told_by reason))) }
+        ensures none { IfOk result (λ found. IfNone found (0 < fact.now.point → IsNotInferredBy (front_of W.sets W.moves R.rules (basis_of self.now)) (fact.now.point - 1) fact.now)) }
         ensures room { IfOk result (λ found. IfSome found IsInPlace) }
     {
         if fact.point == 0 {
@@ -177,8 +168,8 @@ impl<'k, 'd, P: Paths, L: LastValues, B: ByteFacts, W: Transfer, R: RowRules> Fr
         r: Reg,
     ) -> Result<Option<Reason>, OutOfMemory>
         requires { fact.now.cell ≡ Register r }
-        ensures found { IfOk result (λ found. IfSome found (λ reason. IsInferredBecause (setting_in (front_of W.sets W.moves R.rules (basis_of P.timeline L.values self.now))) (stands (front_of W.sets W.moves R.rules (basis_of P.timeline L.values self.now))) fact.now (told_by reason))) }
-        ensures none { IfOk result (λ found. IfNone found (IsNotInferred (front_of W.sets W.moves R.rules (basis_of P.timeline L.values self.now)) fact.now)) }
+        ensures found { IfOk result (λ found. IfSome found (λ reason. IsInferredBecause (setting_in (front_of W.sets W.moves R.rules (basis_of self.now))) (stands (front_of W.sets W.moves R.rules (basis_of self.now))) fact.now (told_by reason))) }
+        ensures none { IfOk result (λ found. IfNone found (IsNotInferred (front_of W.sets W.moves R.rules (basis_of self.now)) fact.now)) }
         ensures room { IfOk result (λ found. IfSome found IsInPlace) }
     {
         let found = self.inferred_to(rules, alloc, fact)?;
@@ -195,8 +186,8 @@ impl<'k, 'd, P: Paths, L: LastValues, B: ByteFacts, W: Transfer, R: RowRules> Fr
         alloc: Global,
         fact: &Fact,
     ) -> Result<Option<Reason>, OutOfMemory>
-        ensures found { IfOk result (λ found. IfSome found (λ reason. IsInferredBecause (setting_in (front_of W.sets W.moves R.rules (basis_of P.timeline L.values self.now))) (stands (front_of W.sets W.moves R.rules (basis_of P.timeline L.values self.now))) fact.now (told_by reason))) }
-        ensures none { IfOk result (λ found. IfNone found (AreNotInferredBefore (front_of W.sets W.moves R.rules (basis_of P.timeline L.values self.now)) (P.timeline self.now.paths).legs.count fact.now)) }
+        ensures found { IfOk result (λ found. IfSome found (λ reason. IsInferredBecause (setting_in (front_of W.sets W.moves R.rules (basis_of self.now))) (stands (front_of W.sets W.moves R.rules (basis_of self.now))) fact.now (told_by reason))) }
+        ensures none { IfOk result (λ found. IfNone found (AreNotInferredBefore (front_of W.sets W.moves R.rules (basis_of self.now)) (timeline self.now.paths).legs.count fact.now)) }
         ensures room { IfOk result (λ found. IfSome found IsInPlace) }
     {
         let count = self.count();
@@ -221,8 +212,8 @@ impl<'k, 'd, P: Paths, L: LastValues, B: ByteFacts, W: Transfer, R: RowRules> Fr
         alloc: Global,
         fact: &Fact,
     ) -> Result<Option<Reason>, OutOfMemory>
-        ensures found { IfOk result (λ found. IfSome found (λ reason. IsInferredBecause (setting_in (front_of W.sets W.moves R.rules (basis_of P.timeline L.values self.now))) (stands (front_of W.sets W.moves R.rules (basis_of P.timeline L.values self.now))) fact.now (told_by reason))) }
-        ensures none { IfOk result (λ found. IfNone found (AreNotInferredAfter (front_of W.sets W.moves R.rules (basis_of P.timeline L.values self.now)) fact.now)) }
+        ensures found { IfOk result (λ found. IfSome found (λ reason. IsInferredBecause (setting_in (front_of W.sets W.moves R.rules (basis_of self.now))) (stands (front_of W.sets W.moves R.rules (basis_of self.now))) fact.now (told_by reason))) }
+        ensures none { IfOk result (λ found. IfNone found (AreNotInferredAfter (front_of W.sets W.moves R.rules (basis_of self.now)) fact.now)) }
         ensures room { IfOk result (λ found. IfSome found IsInPlace) }
     {
         match self.row_at(fact.point) {
@@ -242,8 +233,8 @@ impl<'k, 'd, P: Paths, L: LastValues, B: ByteFacts, W: Transfer, R: RowRules> Fr
         a: u32,
     ) -> Result<Option<Reason>, OutOfMemory>
         requires { fact.now.cell ≡ Byte a }
-        ensures found { IfOk result (λ found. IfSome found (λ reason. IsInferredBecause (setting_in (front_of W.sets W.moves R.rules (basis_of P.timeline L.values self.now))) (stands (front_of W.sets W.moves R.rules (basis_of P.timeline L.values self.now))) fact.now (told_by reason))) }
-        ensures none { IfOk result (λ found. IfNone found (IsNotInferred (front_of W.sets W.moves R.rules (basis_of P.timeline L.values self.now)) fact.now)) }
+        ensures found { IfOk result (λ found. IfSome found (λ reason. IsInferredBecause (setting_in (front_of W.sets W.moves R.rules (basis_of self.now))) (stands (front_of W.sets W.moves R.rules (basis_of self.now))) fact.now (told_by reason))) }
+        ensures none { IfOk result (λ found. IfNone found (IsNotInferred (front_of W.sets W.moves R.rules (basis_of self.now)) fact.now)) }
         ensures room { IfOk result (λ found. IfSome found IsInPlace) }
     {
         let _count = self.count();

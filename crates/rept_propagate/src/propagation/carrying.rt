@@ -1,9 +1,10 @@
 //! The carrying of bytes over rows that may not write them.
 
+ghost use Rattle.rept_timeline.specs.Paths.{timeline};
 ghost use Rattle.std.specs.Prelude.{◌≡◌, ◌+◌, ◌<◌, ◌≤◌, ◌^◌, ◌⊎◌, ℕ, if◌then◌else◌, length, true, false, Some, None, IsSome, IfSome, IfOk, IfErr, ⊤};
 ghost use Rattle.rept_reason.specs.declared.fact.Cell.TheVariants.{Byte};
 ghost use Rattle.rept_versions.specs.Facts.{KnownValues, Nexts};
-ghost use Rattle.rept_facts.specs.State.{IsLined, state_of, reader};
+ghost use Rattle.rept_facts.specs.State.{IsLined, state_of};
 ghost use Rattle.rept_facts.specs.Inferring.{Knows, IsTracked, Grows, HasInferred, IsHalt, AreWritings, IsBridged, IsSparedBetween, IsLed, IsSpreadTo, IsCarriedFrom, IsCalm, IsLooseEnd, IsLooseBefore, IsPiece, IsCarriedIf, IsCarriedBeside, IsCarriedIn, AreLinks, AreLinksBelow, IsBrought, IsHitBy};
 ghost use Rattle.rept_report.specs.Timeline.{IsStrip};
 ghost use Rattle.rept_report.specs.Why.{fact_of};
@@ -11,9 +12,7 @@ ghost use Rattle.rept_report.specs.Why.{fact_of};
 use super::Propagation;
 use crate::link::Link;
 use rept_facts::{LearnError, Piece};
-use rept_log::LastValues;
 use rept_reason::{Cell, RowRules};
-use rept_report::Reaches;
 use rept_report::paths::Strip;
 use rept_span::Transfer;
 use rept_versions::{ByteFacts, Carried, ValueStretch};
@@ -105,14 +104,7 @@ fn like_along(stretch: &ValueStretch, here: Option<u8>, from: u32, end: u32) -> 
     }
 }
 
-impl<
-    'a,
-    P: Reaches + Drop,
-    L: LastValues + Drop,
-    B: ByteFacts,
-    W: Transfer,
-    R: RowRules,
-> Propagation<'a, P, L, B, W, R> {
+impl<'a, B: ByteFacts, W: Transfer, R: RowRules> Propagation<'a, B, W, R> {
     /// Carries a byte's value along a way of numbers, each of which comes from a known one, and
     /// answers whether it was new.
     pub(super) fn spread_led(
@@ -122,14 +114,14 @@ impl<
         to: u32,
         value: u8,
     ) -> Result<bool, LearnError>
-        requires from { from ≤ (P.timeline self.old.facts.paths).moments.end }
-        requires to { to ≤ (P.timeline self.old.facts.paths).moments.end }
-        requires known { Knows from (Byte a) value (state_of (reader P.timeline L.values) W.sets W.moves R.rules B.store self.old.facts) }
-        requires led { IsLed (record { address = a; from = from; to = to; value = value }) (state_of (reader P.timeline L.values) W.sets W.moves R.rules B.store self.old.facts) }
+        requires from { from ≤ (timeline self.old.facts.paths).moments.end }
+        requires to { to ≤ (timeline self.old.facts.paths).moments.end }
+        requires known { Knows from (Byte a) value (state_of W.sets W.moves R.rules B.store self.old.facts) }
+        requires led { IsLed (record { address = a; from = from; to = to; value = value }) (state_of W.sets W.moves R.rules B.store self.old.facts) }
         requires open { self.old.facts.complete ≡ false }
-        ensures grows { Grows (state_of (reader P.timeline L.values) W.sets W.moves R.rules B.store self.old.facts) (state_of (reader P.timeline L.values) W.sets W.moves R.rules B.store self.new.facts) }
-        ensures inferred { IfOk result (λ learnt. HasInferred (state_of (reader P.timeline L.values) W.sets W.moves R.rules B.store self.old.facts) (state_of (reader P.timeline L.values) W.sets W.moves R.rules B.store self.new.facts) learnt (IsSpreadTo (record { address = a; from = from; to = to; value = value }))) }
-        ensures halt { IfErr result (λ h. IsHalt (state_of (reader P.timeline L.values) W.sets W.moves R.rules B.store self.new.facts) h) }
+        ensures grows { Grows (state_of W.sets W.moves R.rules B.store self.old.facts) (state_of W.sets W.moves R.rules B.store self.new.facts) }
+        ensures inferred { IfOk result (λ learnt. HasInferred (state_of W.sets W.moves R.rules B.store self.old.facts) (state_of W.sets W.moves R.rules B.store self.new.facts) learnt (IsSpreadTo (record { address = a; from = from; to = to; value = value }))) }
+        ensures halt { IfErr result (λ h. IsHalt (state_of W.sets W.moves R.rules B.store self.new.facts) h) }
     {
         match self.facts.send(a, from, to, value) {
             Ok(Carried::Same) => Ok(false),
@@ -153,14 +145,14 @@ impl<
     /// The value of a byte at a number, at those from there to another one, where no row between
     /// may write it.
     fn spread(&mut self, a: u32, from: u32, to: u32, value: u8) -> Result<bool, LearnError>
-        requires from { from ≤ (P.timeline self.old.facts.paths).moments.end }
-        requires to { to ≤ (P.timeline self.old.facts.paths).moments.end }
-        requires known { Knows from (Byte a) value (state_of (reader P.timeline L.values) W.sets W.moves R.rules B.store self.old.facts) }
-        requires spared { IsSparedBetween from to a (state_of (reader P.timeline L.values) W.sets W.moves R.rules B.store self.old.facts) }
+        requires from { from ≤ (timeline self.old.facts.paths).moments.end }
+        requires to { to ≤ (timeline self.old.facts.paths).moments.end }
+        requires known { Knows from (Byte a) value (state_of W.sets W.moves R.rules B.store self.old.facts) }
+        requires spared { IsSparedBetween from to a (state_of W.sets W.moves R.rules B.store self.old.facts) }
         requires open { self.old.facts.complete ≡ false }
-        ensures grows { Grows (state_of (reader P.timeline L.values) W.sets W.moves R.rules B.store self.old.facts) (state_of (reader P.timeline L.values) W.sets W.moves R.rules B.store self.new.facts) }
-        ensures inferred { IfOk result (λ learnt. HasInferred (state_of (reader P.timeline L.values) W.sets W.moves R.rules B.store self.old.facts) (state_of (reader P.timeline L.values) W.sets W.moves R.rules B.store self.new.facts) learnt (IsSpreadTo (record { address = a; from = from; to = to; value = value }))) }
-        ensures halt { IfErr result (λ h. IsHalt (state_of (reader P.timeline L.values) W.sets W.moves R.rules B.store self.new.facts) h) }
+        ensures grows { Grows (state_of W.sets W.moves R.rules B.store self.old.facts) (state_of W.sets W.moves R.rules B.store self.new.facts) }
+        ensures inferred { IfOk result (λ learnt. HasInferred (state_of W.sets W.moves R.rules B.store self.old.facts) (state_of W.sets W.moves R.rules B.store self.new.facts) learnt (IsSpreadTo (record { address = a; from = from; to = to; value = value }))) }
+        ensures halt { IfErr result (λ h. IsHalt (state_of W.sets W.moves R.rules B.store self.new.facts) h) }
     {
         self.spread_led(a, from, to, value)
     }
@@ -168,12 +160,12 @@ impl<
     /// The value of a byte from a point to another one, where no row between may write it.
     pub(super) fn carry_segment(&mut self, a: u32, from: u32, to: u32) -> Result<bool, LearnError>
         requires order { from ≤ to }
-        requires to { to ≤ (P.timeline self.old.facts.paths).moments.end }
-        requires spared { IsSparedBetween from to a (state_of (reader P.timeline L.values) W.sets W.moves R.rules B.store self.old.facts) }
+        requires to { to ≤ (timeline self.old.facts.paths).moments.end }
+        requires spared { IsSparedBetween from to a (state_of W.sets W.moves R.rules B.store self.old.facts) }
         requires open { self.old.facts.complete ≡ false }
-        ensures grows { Grows (state_of (reader P.timeline L.values) W.sets W.moves R.rules B.store self.old.facts) (state_of (reader P.timeline L.values) W.sets W.moves R.rules B.store self.new.facts) }
-        ensures inferred { IfOk result (λ learnt. HasInferred (state_of (reader P.timeline L.values) W.sets W.moves R.rules B.store self.old.facts) (state_of (reader P.timeline L.values) W.sets W.moves R.rules B.store self.new.facts) learnt (IsCarriedFrom a from to)) }
-        ensures halt { IfErr result (λ h. IsHalt (state_of (reader P.timeline L.values) W.sets W.moves R.rules B.store self.new.facts) h) }
+        ensures grows { Grows (state_of W.sets W.moves R.rules B.store self.old.facts) (state_of W.sets W.moves R.rules B.store self.new.facts) }
+        ensures inferred { IfOk result (λ learnt. HasInferred (state_of W.sets W.moves R.rules B.store self.old.facts) (state_of W.sets W.moves R.rules B.store self.new.facts) learnt (IsCarriedFrom a from to)) }
+        ensures halt { IfErr result (λ h. IsHalt (state_of W.sets W.moves R.rules B.store self.new.facts) h) }
     {
         match self.facts.stretch(a, from) {
             None => Ok(false),
@@ -195,9 +187,9 @@ impl<
 
     /// Whether nothing that may write the byte may act at the pause of a strip, if it has one.
     pub(super) fn is_calm(&self, a: u32, strip: Strip) -> bool
-        requires writings { AreWritings (state_of (reader P.timeline L.values) W.sets W.moves R.rules B.store self.now.facts) }
-        requires strip { (number : ℕ) × IsStrip (P.timeline self.now.facts.paths) number strip }
-        ensures { result ≡ true → IsCalm a strip (state_of (reader P.timeline L.values) W.sets W.moves R.rules B.store self.now.facts) }
+        requires writings { AreWritings (state_of W.sets W.moves R.rules B.store self.now.facts) }
+        requires strip { (number : ℕ) × IsStrip (timeline self.now.facts.paths) number strip }
+        ensures { result ≡ true → IsCalm a strip (state_of W.sets W.moves R.rules B.store self.now.facts) }
     {
         match strip.pause {
             None => true,
@@ -214,10 +206,10 @@ impl<
     /// The number of an entry of the list from which it isn't known whether the byte is carried on
     /// in a strip: none, where the row of the entry may act there.
     fn loose_end(&self, strip: Strip, k: usize) -> Option<u32>
-        requires writings { AreWritings (state_of (reader P.timeline L.values) W.sets W.moves R.rules B.store self.now.facts) }
-        requires strip { (number : ℕ) × IsStrip (P.timeline self.now.facts.paths) number strip }
+        requires writings { AreWritings (state_of W.sets W.moves R.rules B.store self.now.facts) }
+        requires strip { (number : ℕ) × IsStrip (timeline self.now.facts.paths) number strip }
         requires within { k < length self.now.facts.work.writing }
-        ensures { IsLooseEnd strip k result (state_of (reader P.timeline L.values) W.sets W.moves R.rules B.store self.now.facts) }
+        ensures { IsLooseEnd strip k result (state_of W.sets W.moves R.rules B.store self.now.facts) }
     {
         let _end = self.facts.end();
         let entry = self.facts.entry(k);
@@ -236,10 +228,10 @@ impl<
 
     /// That of the entry before an index, if there is one.
     fn loose_before(&self, strip: Strip, k: usize) -> Option<u32>
-        requires writings { AreWritings (state_of (reader P.timeline L.values) W.sets W.moves R.rules B.store self.now.facts) }
-        requires strip { (number : ℕ) × IsStrip (P.timeline self.now.facts.paths) number strip }
+        requires writings { AreWritings (state_of W.sets W.moves R.rules B.store self.now.facts) }
+        requires strip { (number : ℕ) × IsStrip (timeline self.now.facts.paths) number strip }
         requires within { k ≤ length self.now.facts.work.writing }
-        ensures { IsLooseBefore strip k result (state_of (reader P.timeline L.values) W.sets W.moves R.rules B.store self.now.facts) }
+        ensures { IsLooseBefore strip k result (state_of W.sets W.moves R.rules B.store self.now.facts) }
     {
         if k == 0 {
             None
@@ -250,10 +242,10 @@ impl<
 
     /// The numbers of a strip around one, from one row that may write the byte to the next one.
     pub(super) fn piece(&self, a: u32, point: u32, strip: Strip) -> Piece
-        requires writings { AreWritings (state_of (reader P.timeline L.values) W.sets W.moves R.rules B.store self.now.facts) }
-        requires strip { IsStrip (P.timeline self.now.facts.paths) point strip }
-        requires calm { IsCalm a strip (state_of (reader P.timeline L.values) W.sets W.moves R.rules B.store self.now.facts) }
-        ensures { IsPiece a strip point result (state_of (reader P.timeline L.values) W.sets W.moves R.rules B.store self.now.facts) }
+        requires writings { AreWritings (state_of W.sets W.moves R.rules B.store self.now.facts) }
+        requires strip { IsStrip (timeline self.now.facts.paths) point strip }
+        requires calm { IsCalm a strip (state_of W.sets W.moves R.rules B.store self.now.facts) }
+        ensures { IsPiece a strip point result (state_of W.sets W.moves R.rules B.store self.now.facts) }
     {
         let low = self.facts.listed_before(strip.first);
         let last = self.facts.listed_before(strip.last);
@@ -278,12 +270,12 @@ impl<
 
     /// The value of a byte from a number to the one after it, and back, if it is carried.
     fn carry_step(&mut self, a: u32, m: u32) -> Result<bool, LearnError>
-        requires writings { AreWritings (state_of (reader P.timeline L.values) W.sets W.moves R.rules B.store self.old.facts) }
-        requires next { (P.timeline self.old.facts.paths).moments.next m (m + 1) ≡ true }
+        requires writings { AreWritings (state_of W.sets W.moves R.rules B.store self.old.facts) }
+        requires next { (timeline self.old.facts.paths).moments.next m (m + 1) ≡ true }
         requires open { self.old.facts.complete ≡ false }
-        ensures grows { Grows (state_of (reader P.timeline L.values) W.sets W.moves R.rules B.store self.old.facts) (state_of (reader P.timeline L.values) W.sets W.moves R.rules B.store self.new.facts) }
-        ensures inferred { IfOk result (λ learnt. HasInferred (state_of (reader P.timeline L.values) W.sets W.moves R.rules B.store self.old.facts) (state_of (reader P.timeline L.values) W.sets W.moves R.rules B.store self.new.facts) learnt (IsCarriedIf (record { address = a; from = m; to = m + 1 }))) }
-        ensures halt { IfErr result (λ h. IsHalt (state_of (reader P.timeline L.values) W.sets W.moves R.rules B.store self.new.facts) h) }
+        ensures grows { Grows (state_of W.sets W.moves R.rules B.store self.old.facts) (state_of W.sets W.moves R.rules B.store self.new.facts) }
+        ensures inferred { IfOk result (λ learnt. HasInferred (state_of W.sets W.moves R.rules B.store self.old.facts) (state_of W.sets W.moves R.rules B.store self.new.facts) learnt (IsCarriedIf (record { address = a; from = m; to = m + 1 }))) }
+        ensures halt { IfErr result (λ h. IsHalt (state_of W.sets W.moves R.rules B.store self.new.facts) h) }
     {
         let end = self.facts.end();
         self.facts.held();
@@ -301,12 +293,12 @@ impl<
 
     /// Carries the value of a byte from a number, if one is named, to the one after it, and back.
     fn carry_end(&mut self, a: u32, m: Option<u32>) -> Result<bool, LearnError>
-        requires writings { AreWritings (state_of (reader P.timeline L.values) W.sets W.moves R.rules B.store self.old.facts) }
-        requires next { (i : ℕ) → m ≡ Some i → (P.timeline self.old.facts.paths).moments.next i (i + 1) ≡ true }
+        requires writings { AreWritings (state_of W.sets W.moves R.rules B.store self.old.facts) }
+        requires next { (i : ℕ) → m ≡ Some i → (timeline self.old.facts.paths).moments.next i (i + 1) ≡ true }
         requires open { self.old.facts.complete ≡ false }
-        ensures grows { Grows (state_of (reader P.timeline L.values) W.sets W.moves R.rules B.store self.old.facts) (state_of (reader P.timeline L.values) W.sets W.moves R.rules B.store self.new.facts) }
-        ensures inferred { IfOk result (λ learnt. HasInferred (state_of (reader P.timeline L.values) W.sets W.moves R.rules B.store self.old.facts) (state_of (reader P.timeline L.values) W.sets W.moves R.rules B.store self.new.facts) learnt (λ s. (i : ℕ) → m ≡ Some i → IsCarriedIf (record { address = a; from = i; to = i + 1 }) s)) }
-        ensures halt { IfErr result (λ h. IsHalt (state_of (reader P.timeline L.values) W.sets W.moves R.rules B.store self.new.facts) h) }
+        ensures grows { Grows (state_of W.sets W.moves R.rules B.store self.old.facts) (state_of W.sets W.moves R.rules B.store self.new.facts) }
+        ensures inferred { IfOk result (λ learnt. HasInferred (state_of W.sets W.moves R.rules B.store self.old.facts) (state_of W.sets W.moves R.rules B.store self.new.facts) learnt (λ s. (i : ℕ) → m ≡ Some i → IsCarriedIf (record { address = a; from = i; to = i + 1 }) s)) }
+        ensures halt { IfErr result (λ h. IsHalt (state_of W.sets W.moves R.rules B.store self.new.facts) h) }
     {
         let Some(m) = m else {
             return Ok(false);
@@ -317,13 +309,13 @@ impl<
     /// The value of a byte from the last row before a number that may write it to the next one, in
     /// a strip in which no other may. Answers whether it was new, and how far it is carried.
     fn carry_beside(&mut self, a: u32, point: u32, strip: Strip) -> Result<(bool, u32), LearnError>
-        requires strip { IsStrip (P.timeline self.old.facts.paths) point strip }
-        requires calm { IsCalm a strip (state_of (reader P.timeline L.values) W.sets W.moves R.rules B.store self.old.facts) }
-        requires writings { AreWritings (state_of (reader P.timeline L.values) W.sets W.moves R.rules B.store self.old.facts) }
+        requires strip { IsStrip (timeline self.old.facts.paths) point strip }
+        requires calm { IsCalm a strip (state_of W.sets W.moves R.rules B.store self.old.facts) }
+        requires writings { AreWritings (state_of W.sets W.moves R.rules B.store self.old.facts) }
         requires open { self.old.facts.complete ≡ false }
-        ensures grows { Grows (state_of (reader P.timeline L.values) W.sets W.moves R.rules B.store self.old.facts) (state_of (reader P.timeline L.values) W.sets W.moves R.rules B.store self.new.facts) }
-        ensures inferred { IfOk result (λ ended. HasInferred (state_of (reader P.timeline L.values) W.sets W.moves R.rules B.store self.old.facts) (state_of (reader P.timeline L.values) W.sets W.moves R.rules B.store self.new.facts) ended.0 (IsCarriedBeside a strip point ended.1)) }
-        ensures halt { IfErr result (λ h. IsHalt (state_of (reader P.timeline L.values) W.sets W.moves R.rules B.store self.new.facts) h) }
+        ensures grows { Grows (state_of W.sets W.moves R.rules B.store self.old.facts) (state_of W.sets W.moves R.rules B.store self.new.facts) }
+        ensures inferred { IfOk result (λ ended. HasInferred (state_of W.sets W.moves R.rules B.store self.old.facts) (state_of W.sets W.moves R.rules B.store self.new.facts) ended.0 (IsCarriedBeside a strip point ended.1)) }
+        ensures halt { IfErr result (λ h. IsHalt (state_of W.sets W.moves R.rules B.store self.new.facts) h) }
         ensures onward { IfOk result (λ ended. (point ≤ ended.1) × (ended.1 ≤ strip.last)) }
     {
         let piece = self.piece(a, point, strip);
@@ -337,13 +329,13 @@ impl<
     /// from each number at which its value begins or ends, and nowhere else, so that a path on
     /// which many rows may write something takes no longer.
     fn carry_calm(&mut self, a: u32, strip: Strip) -> Result<bool, LearnError>
-        requires strip { IsStrip (P.timeline self.old.facts.paths) strip.first strip }
-        requires calm { IsCalm a strip (state_of (reader P.timeline L.values) W.sets W.moves R.rules B.store self.old.facts) }
-        requires writings { AreWritings (state_of (reader P.timeline L.values) W.sets W.moves R.rules B.store self.old.facts) }
+        requires strip { IsStrip (timeline self.old.facts.paths) strip.first strip }
+        requires calm { IsCalm a strip (state_of W.sets W.moves R.rules B.store self.old.facts) }
+        requires writings { AreWritings (state_of W.sets W.moves R.rules B.store self.old.facts) }
         requires open { self.old.facts.complete ≡ false }
-        ensures grows { Grows (state_of (reader P.timeline L.values) W.sets W.moves R.rules B.store self.old.facts) (state_of (reader P.timeline L.values) W.sets W.moves R.rules B.store self.new.facts) }
-        ensures inferred { IfOk result (λ learnt. HasInferred (state_of (reader P.timeline L.values) W.sets W.moves R.rules B.store self.old.facts) (state_of (reader P.timeline L.values) W.sets W.moves R.rules B.store self.new.facts) learnt (IsCarriedIn a strip)) }
-        ensures halt { IfErr result (λ h. IsHalt (state_of (reader P.timeline L.values) W.sets W.moves R.rules B.store self.new.facts) h) }
+        ensures grows { Grows (state_of W.sets W.moves R.rules B.store self.old.facts) (state_of W.sets W.moves R.rules B.store self.new.facts) }
+        ensures inferred { IfOk result (λ learnt. HasInferred (state_of W.sets W.moves R.rules B.store self.old.facts) (state_of W.sets W.moves R.rules B.store self.new.facts) learnt (IsCarriedIn a strip)) }
+        ensures halt { IfErr result (λ h. IsHalt (state_of W.sets W.moves R.rules B.store self.new.facts) h) }
     {
         let _end = self.facts.end();
         let mut learnt = false;
@@ -367,13 +359,13 @@ impl<
     /// The value of a byte from a number of a strip down, number by number, as long as it is new
     /// there. That this is done at once saves rounds: no clause rests on it.
     fn carry_down(&mut self, a: u32, strip: Strip, number: u32) -> Result<bool, LearnError>
-        requires strip { IsStrip (P.timeline self.old.facts.paths) strip.first strip }
+        requires strip { IsStrip (timeline self.old.facts.paths) strip.first strip }
         requires inside { number ≤ strip.last }
-        requires writings { AreWritings (state_of (reader P.timeline L.values) W.sets W.moves R.rules B.store self.old.facts) }
+        requires writings { AreWritings (state_of W.sets W.moves R.rules B.store self.old.facts) }
         requires open { self.old.facts.complete ≡ false }
-        ensures grows { Grows (state_of (reader P.timeline L.values) W.sets W.moves R.rules B.store self.old.facts) (state_of (reader P.timeline L.values) W.sets W.moves R.rules B.store self.new.facts) }
-        ensures inferred { IfOk result (λ learnt. HasInferred (state_of (reader P.timeline L.values) W.sets W.moves R.rules B.store self.old.facts) (state_of (reader P.timeline L.values) W.sets W.moves R.rules B.store self.new.facts) learnt (λ _. ⊤)) }
-        ensures halt { IfErr result (λ h. IsHalt (state_of (reader P.timeline L.values) W.sets W.moves R.rules B.store self.new.facts) h) }
+        ensures grows { Grows (state_of W.sets W.moves R.rules B.store self.old.facts) (state_of W.sets W.moves R.rules B.store self.new.facts) }
+        ensures inferred { IfOk result (λ learnt. HasInferred (state_of W.sets W.moves R.rules B.store self.old.facts) (state_of W.sets W.moves R.rules B.store self.new.facts) learnt (λ _. ⊤)) }
+        ensures halt { IfErr result (λ h. IsHalt (state_of W.sets W.moves R.rules B.store self.new.facts) h) }
     {
         let mut learnt = false;
         let mut m = number;
@@ -391,14 +383,14 @@ impl<
     /// The value of a byte between a number of a strip and the one after it; where it is new, down
     /// from there, too.
     fn carry_border(&mut self, a: u32, strip: Strip, m: u32) -> Result<bool, LearnError>
-        requires strip { IsStrip (P.timeline self.old.facts.paths) strip.first strip }
+        requires strip { IsStrip (timeline self.old.facts.paths) strip.first strip }
         requires inside { m < strip.last }
         requires from { strip.first ≤ m }
-        requires writings { AreWritings (state_of (reader P.timeline L.values) W.sets W.moves R.rules B.store self.old.facts) }
+        requires writings { AreWritings (state_of W.sets W.moves R.rules B.store self.old.facts) }
         requires open { self.old.facts.complete ≡ false }
-        ensures grows { Grows (state_of (reader P.timeline L.values) W.sets W.moves R.rules B.store self.old.facts) (state_of (reader P.timeline L.values) W.sets W.moves R.rules B.store self.new.facts) }
-        ensures inferred { IfOk result (λ learnt. HasInferred (state_of (reader P.timeline L.values) W.sets W.moves R.rules B.store self.old.facts) (state_of (reader P.timeline L.values) W.sets W.moves R.rules B.store self.new.facts) learnt (IsCarriedIf (record { address = a; from = m; to = m + 1 }))) }
-        ensures halt { IfErr result (λ h. IsHalt (state_of (reader P.timeline L.values) W.sets W.moves R.rules B.store self.new.facts) h) }
+        ensures grows { Grows (state_of W.sets W.moves R.rules B.store self.old.facts) (state_of W.sets W.moves R.rules B.store self.new.facts) }
+        ensures inferred { IfOk result (λ learnt. HasInferred (state_of W.sets W.moves R.rules B.store self.old.facts) (state_of W.sets W.moves R.rules B.store self.new.facts) learnt (IsCarriedIf (record { address = a; from = m; to = m + 1 }))) }
+        ensures halt { IfErr result (λ h. IsHalt (state_of W.sets W.moves R.rules B.store self.new.facts) h) }
     {
         let new = self.carry_step(a, m)?;
         if !new {
@@ -411,12 +403,12 @@ impl<
     /// Carries the value of a byte in any strip, number by number, from each number at which the
     /// value ends or before which it begins.
     fn carry_singly(&mut self, a: u32, strip: Strip) -> Result<bool, LearnError>
-        requires strip { IsStrip (P.timeline self.old.facts.paths) strip.first strip }
-        requires writings { AreWritings (state_of (reader P.timeline L.values) W.sets W.moves R.rules B.store self.old.facts) }
+        requires strip { IsStrip (timeline self.old.facts.paths) strip.first strip }
+        requires writings { AreWritings (state_of W.sets W.moves R.rules B.store self.old.facts) }
         requires open { self.old.facts.complete ≡ false }
-        ensures grows { Grows (state_of (reader P.timeline L.values) W.sets W.moves R.rules B.store self.old.facts) (state_of (reader P.timeline L.values) W.sets W.moves R.rules B.store self.new.facts) }
-        ensures inferred { IfOk result (λ learnt. HasInferred (state_of (reader P.timeline L.values) W.sets W.moves R.rules B.store self.old.facts) (state_of (reader P.timeline L.values) W.sets W.moves R.rules B.store self.new.facts) learnt (IsCarriedIn a strip)) }
-        ensures halt { IfErr result (λ h. IsHalt (state_of (reader P.timeline L.values) W.sets W.moves R.rules B.store self.new.facts) h) }
+        ensures grows { Grows (state_of W.sets W.moves R.rules B.store self.old.facts) (state_of W.sets W.moves R.rules B.store self.new.facts) }
+        ensures inferred { IfOk result (λ learnt. HasInferred (state_of W.sets W.moves R.rules B.store self.old.facts) (state_of W.sets W.moves R.rules B.store self.new.facts) learnt (IsCarriedIn a strip)) }
+        ensures halt { IfErr result (λ h. IsHalt (state_of W.sets W.moves R.rules B.store self.new.facts) h) }
     {
         let _end = self.facts.end();
         let mut learnt = false;
@@ -438,12 +430,12 @@ impl<
 
     /// The value of a byte in a strip.
     pub(super) fn carry_strip(&mut self, a: u32, strip: Strip) -> Result<bool, LearnError>
-        requires strip { IsStrip (P.timeline self.old.facts.paths) strip.first strip }
-        requires writings { AreWritings (state_of (reader P.timeline L.values) W.sets W.moves R.rules B.store self.old.facts) }
+        requires strip { IsStrip (timeline self.old.facts.paths) strip.first strip }
+        requires writings { AreWritings (state_of W.sets W.moves R.rules B.store self.old.facts) }
         requires open { self.old.facts.complete ≡ false }
-        ensures grows { Grows (state_of (reader P.timeline L.values) W.sets W.moves R.rules B.store self.old.facts) (state_of (reader P.timeline L.values) W.sets W.moves R.rules B.store self.new.facts) }
-        ensures inferred { IfOk result (λ learnt. HasInferred (state_of (reader P.timeline L.values) W.sets W.moves R.rules B.store self.old.facts) (state_of (reader P.timeline L.values) W.sets W.moves R.rules B.store self.new.facts) learnt (IsCarriedIn a strip)) }
-        ensures halt { IfErr result (λ h. IsHalt (state_of (reader P.timeline L.values) W.sets W.moves R.rules B.store self.new.facts) h) }
+        ensures grows { Grows (state_of W.sets W.moves R.rules B.store self.old.facts) (state_of W.sets W.moves R.rules B.store self.new.facts) }
+        ensures inferred { IfOk result (λ learnt. HasInferred (state_of W.sets W.moves R.rules B.store self.old.facts) (state_of W.sets W.moves R.rules B.store self.new.facts) learnt (IsCarriedIn a strip)) }
+        ensures halt { IfErr result (λ h. IsHalt (state_of W.sets W.moves R.rules B.store self.new.facts) h) }
     {
         if self.even_to(a, strip.first) >= strip.last {
             return Ok(false);
@@ -458,14 +450,14 @@ impl<
     /// Tells the value of a byte at a number to which it is carried from one that isn't before or
     /// after it by one.
     fn tell_across(&mut self, a: u32, to: u32, value: u8) -> Result<bool, LearnError>
-        requires to { to ≤ (P.timeline self.old.facts.paths).moments.end }
-        requires tracked { IsTracked a (state_of (reader P.timeline L.values) W.sets W.moves R.rules B.store self.old.facts) }
-        requires brought { IsBrought (state_of (reader P.timeline L.values) W.sets W.moves R.rules B.store self.old.facts) (fact_of to (Byte a) value) }
-        requires room { IsLined (P.timeline self.old.facts.paths) → ⊥ }
+        requires to { to ≤ (timeline self.old.facts.paths).moments.end }
+        requires tracked { IsTracked a (state_of W.sets W.moves R.rules B.store self.old.facts) }
+        requires brought { IsBrought (state_of W.sets W.moves R.rules B.store self.old.facts) (fact_of to (Byte a) value) }
+        requires room { IsLined (timeline self.old.facts.paths) → ⊥ }
         requires open { self.old.facts.complete ≡ false }
-        ensures grows { Grows (state_of (reader P.timeline L.values) W.sets W.moves R.rules B.store self.old.facts) (state_of (reader P.timeline L.values) W.sets W.moves R.rules B.store self.new.facts) }
-        ensures inferred { IfOk result (λ learnt. HasInferred (state_of (reader P.timeline L.values) W.sets W.moves R.rules B.store self.old.facts) (state_of (reader P.timeline L.values) W.sets W.moves R.rules B.store self.new.facts) learnt (Knows to (Byte a) value)) }
-        ensures halt { IfErr result (λ h. IsHalt (state_of (reader P.timeline L.values) W.sets W.moves R.rules B.store self.new.facts) h) }
+        ensures grows { Grows (state_of W.sets W.moves R.rules B.store self.old.facts) (state_of W.sets W.moves R.rules B.store self.new.facts) }
+        ensures inferred { IfOk result (λ learnt. HasInferred (state_of W.sets W.moves R.rules B.store self.old.facts) (state_of W.sets W.moves R.rules B.store self.new.facts) learnt (Knows to (Byte a) value)) }
+        ensures halt { IfErr result (λ h. IsHalt (state_of W.sets W.moves R.rules B.store self.new.facts) h) }
     {
         self.learn_byte(to, a, value, false)
     }
@@ -473,14 +465,14 @@ impl<
     /// Tells the value of a byte at a number that is known at one that is next to it, over which it
     /// is carried, if it is known there.
     fn tell_back(&mut self, a: u32, m: u32, w: u32) -> Result<bool, LearnError>
-        requires tracked { IsTracked a (state_of (reader P.timeline L.values) W.sets W.moves R.rules B.store self.old.facts) }
-        requires bridged { IsBridged (record { address = a; from = m; to = w }) (state_of (reader P.timeline L.values) W.sets W.moves R.rules B.store self.old.facts) }
+        requires tracked { IsTracked a (state_of W.sets W.moves R.rules B.store self.old.facts) }
+        requires bridged { IsBridged (record { address = a; from = m; to = w }) (state_of W.sets W.moves R.rules B.store self.old.facts) }
         requires unknown { (B.store self.old.facts.known.bytes).fact m a ≡ None }
-        requires room { IsLined (P.timeline self.old.facts.paths) → ⊥ }
+        requires room { IsLined (timeline self.old.facts.paths) → ⊥ }
         requires open { self.old.facts.complete ≡ false }
-        ensures grows { Grows (state_of (reader P.timeline L.values) W.sets W.moves R.rules B.store self.old.facts) (state_of (reader P.timeline L.values) W.sets W.moves R.rules B.store self.new.facts) }
-        ensures inferred { IfOk result (λ learnt. HasInferred (state_of (reader P.timeline L.values) W.sets W.moves R.rules B.store self.old.facts) (state_of (reader P.timeline L.values) W.sets W.moves R.rules B.store self.new.facts) learnt (IsCarriedIf (record { address = a; from = m; to = w }))) }
-        ensures halt { IfErr result (λ h. IsHalt (state_of (reader P.timeline L.values) W.sets W.moves R.rules B.store self.new.facts) h) }
+        ensures grows { Grows (state_of W.sets W.moves R.rules B.store self.old.facts) (state_of W.sets W.moves R.rules B.store self.new.facts) }
+        ensures inferred { IfOk result (λ learnt. HasInferred (state_of W.sets W.moves R.rules B.store self.old.facts) (state_of W.sets W.moves R.rules B.store self.new.facts) learnt (IsCarriedIf (record { address = a; from = m; to = w }))) }
+        ensures halt { IfErr result (λ h. IsHalt (state_of W.sets W.moves R.rules B.store self.new.facts) h) }
     {
         self.facts.held();
         let Some(value) = self.facts.known_byte(w, a) else {
@@ -492,13 +484,13 @@ impl<
     /// Tells the value of a byte at one of two numbers that are next to each other, if it is known
     /// at the other and carried between them.
     fn tell_either(&mut self, a: u32, m: u32, w: u32) -> Result<bool, LearnError>
-        requires tracked { IsTracked a (state_of (reader P.timeline L.values) W.sets W.moves R.rules B.store self.old.facts) }
-        requires bridged { IsBridged (record { address = a; from = m; to = w }) (state_of (reader P.timeline L.values) W.sets W.moves R.rules B.store self.old.facts) }
-        requires room { IsLined (P.timeline self.old.facts.paths) → ⊥ }
+        requires tracked { IsTracked a (state_of W.sets W.moves R.rules B.store self.old.facts) }
+        requires bridged { IsBridged (record { address = a; from = m; to = w }) (state_of W.sets W.moves R.rules B.store self.old.facts) }
+        requires room { IsLined (timeline self.old.facts.paths) → ⊥ }
         requires open { self.old.facts.complete ≡ false }
-        ensures grows { Grows (state_of (reader P.timeline L.values) W.sets W.moves R.rules B.store self.old.facts) (state_of (reader P.timeline L.values) W.sets W.moves R.rules B.store self.new.facts) }
-        ensures inferred { IfOk result (λ learnt. HasInferred (state_of (reader P.timeline L.values) W.sets W.moves R.rules B.store self.old.facts) (state_of (reader P.timeline L.values) W.sets W.moves R.rules B.store self.new.facts) learnt (IsCarriedIf (record { address = a; from = m; to = w }))) }
-        ensures halt { IfErr result (λ h. IsHalt (state_of (reader P.timeline L.values) W.sets W.moves R.rules B.store self.new.facts) h) }
+        ensures grows { Grows (state_of W.sets W.moves R.rules B.store self.old.facts) (state_of W.sets W.moves R.rules B.store self.new.facts) }
+        ensures inferred { IfOk result (λ learnt. HasInferred (state_of W.sets W.moves R.rules B.store self.old.facts) (state_of W.sets W.moves R.rules B.store self.new.facts) learnt (IsCarriedIf (record { address = a; from = m; to = w }))) }
+        ensures halt { IfErr result (λ h. IsHalt (state_of W.sets W.moves R.rules B.store self.new.facts) h) }
     {
         self.facts.held();
         match self.facts.known_byte(m, a) {
@@ -509,12 +501,12 @@ impl<
 
     /// The value of a byte from a number to one that is next to it, and back, where it is carried.
     fn cross(&mut self, a: u32, m: u32, w: u32) -> Result<bool, LearnError>
-        requires tracked { IsTracked a (state_of (reader P.timeline L.values) W.sets W.moves R.rules B.store self.old.facts) }
-        requires bridged { IsBridged (record { address = a; from = m; to = w }) (state_of (reader P.timeline L.values) W.sets W.moves R.rules B.store self.old.facts) }
+        requires tracked { IsTracked a (state_of W.sets W.moves R.rules B.store self.old.facts) }
+        requires bridged { IsBridged (record { address = a; from = m; to = w }) (state_of W.sets W.moves R.rules B.store self.old.facts) }
         requires open { self.old.facts.complete ≡ false }
-        ensures grows { Grows (state_of (reader P.timeline L.values) W.sets W.moves R.rules B.store self.old.facts) (state_of (reader P.timeline L.values) W.sets W.moves R.rules B.store self.new.facts) }
-        ensures inferred { IfOk result (λ learnt. HasInferred (state_of (reader P.timeline L.values) W.sets W.moves R.rules B.store self.old.facts) (state_of (reader P.timeline L.values) W.sets W.moves R.rules B.store self.new.facts) learnt (IsCarriedIf (record { address = a; from = m; to = w }))) }
-        ensures halt { IfErr result (λ h. IsHalt (state_of (reader P.timeline L.values) W.sets W.moves R.rules B.store self.new.facts) h) }
+        ensures grows { Grows (state_of W.sets W.moves R.rules B.store self.old.facts) (state_of W.sets W.moves R.rules B.store self.new.facts) }
+        ensures inferred { IfOk result (λ learnt. HasInferred (state_of W.sets W.moves R.rules B.store self.old.facts) (state_of W.sets W.moves R.rules B.store self.new.facts) learnt (IsCarriedIf (record { address = a; from = m; to = w }))) }
+        ensures halt { IfErr result (λ h. IsHalt (state_of W.sets W.moves R.rules B.store self.new.facts) h) }
     {
         if is_after(m, w) {
             return self.carry_segment(a, m, m + 1);
@@ -530,13 +522,13 @@ impl<
         w: u32,
         blocker: Option<usize>,
     ) -> Result<Link, LearnError>
-        requires tracked { IsTracked a (state_of (reader P.timeline L.values) W.sets W.moves R.rules B.store self.old.facts) }
-        requires next { (P.timeline self.old.facts.paths).moments.next m w ≡ true }
-        requires writings { AreWritings (state_of (reader P.timeline L.values) W.sets W.moves R.rules B.store self.old.facts) }
+        requires tracked { IsTracked a (state_of W.sets W.moves R.rules B.store self.old.facts) }
+        requires next { (timeline self.old.facts.paths).moments.next m w ≡ true }
+        requires writings { AreWritings (state_of W.sets W.moves R.rules B.store self.old.facts) }
         requires open { self.old.facts.complete ≡ false }
-        ensures grows { Grows (state_of (reader P.timeline L.values) W.sets W.moves R.rules B.store self.old.facts) (state_of (reader P.timeline L.values) W.sets W.moves R.rules B.store self.new.facts) }
-        ensures inferred { IfOk result (λ link. HasInferred (state_of (reader P.timeline L.values) W.sets W.moves R.rules B.store self.old.facts) (state_of (reader P.timeline L.values) W.sets W.moves R.rules B.store self.new.facts) link.has_news (IsCarriedIf (record { address = a; from = m; to = w }))) }
-        ensures halt { IfErr result (λ h. IsHalt (state_of (reader P.timeline L.values) W.sets W.moves R.rules B.store self.new.facts) h) }
+        ensures grows { Grows (state_of W.sets W.moves R.rules B.store self.old.facts) (state_of W.sets W.moves R.rules B.store self.new.facts) }
+        ensures inferred { IfOk result (λ link. HasInferred (state_of W.sets W.moves R.rules B.store self.old.facts) (state_of W.sets W.moves R.rules B.store self.new.facts) link.has_news (IsCarriedIf (record { address = a; from = m; to = w }))) }
+        ensures halt { IfErr result (λ h. IsHalt (state_of W.sets W.moves R.rules B.store self.new.facts) h) }
     {
         if self.facts.is_untraced_between(m, w) {
             return Ok(unchanged(blocker));
@@ -552,7 +544,7 @@ impl<
 
     /// A number from one on, before which from there on a value is known of a byte, or none.
     fn like_to(&self, a: u32, here: Option<u8>, from: u32) -> u32
-        requires inside { from ≤ (P.timeline self.now.facts.paths).moments.end }
+        requires inside { from ≤ (timeline self.now.facts.paths).moments.end }
         ensures order { from ≤ result }
         ensures alike { (w : ℕ) → from ≤ w → w < result → (B.store self.now.facts.known.bytes).fact w a ≡ here }
     {
@@ -566,14 +558,14 @@ impl<
     /// A number from one on that is next to another one, before which from there on the byte goes
     /// nowhere: the same is known as at that one, or it isn't carried.
     fn idle_from(&self, a: u32, m: u32, w: u32, here: Option<u8>, row: Option<u32>) -> u32
-        requires inside { w ≤ (P.timeline self.now.facts.paths).moments.end }
-        requires writings { AreWritings (state_of (reader P.timeline L.values) W.sets W.moves R.rules B.store self.now.facts) }
-        requires next { (P.timeline self.now.facts.paths).moments.next m w ≡ true }
+        requires inside { w ≤ (timeline self.now.facts.paths).moments.end }
+        requires writings { AreWritings (state_of W.sets W.moves R.rules B.store self.now.facts) }
+        requires next { (timeline self.now.facts.paths).moments.next m w ≡ true }
         requires here { here ≡ (B.store self.now.facts.known.bytes).fact m a }
-        requires there { IfSome row (λ i. IsSome ((P.timeline self.now.facts.paths).legs.row i)) }
-        requires hits { IfSome row (λ i. IsHitBy a i (state_of (reader P.timeline L.values) W.sets W.moves R.rules B.store self.now.facts)) }
+        requires there { IfSome row (λ i. IsSome ((timeline self.now.facts.paths).legs.row i)) }
+        requires hits { IfSome row (λ i. IsHitBy a i (state_of W.sets W.moves R.rules B.store self.now.facts)) }
         ensures order { w ≤ result }
-        ensures idle { (v : ℕ) → w ≤ v → v < result → IsCarriedIf (record { address = a; from = m; to = v }) (state_of (reader P.timeline L.values) W.sets W.moves R.rules B.store self.now.facts) }
+        ensures idle { (v : ℕ) → w ≤ v → v < result → IsCarriedIf (record { address = a; from = m; to = v }) (state_of W.sets W.moves R.rules B.store self.now.facts) }
     {
         let like = self.like_to(a, here, w);
         if like > w {
@@ -585,10 +577,10 @@ impl<
     /// A number from one on, before which from there on a byte goes to none that is next to another
     /// number: by what is known, and a row of the list, if one is named.
     fn idle_to(&self, a: u32, m: u32, least: u32, index: Option<usize>) -> u32
-        requires inside { m ≤ (P.timeline self.now.facts.paths).moments.end }
-        requires writings { AreWritings (state_of (reader P.timeline L.values) W.sets W.moves R.rules B.store self.now.facts) }
+        requires inside { m ≤ (timeline self.now.facts.paths).moments.end }
+        requires writings { AreWritings (state_of W.sets W.moves R.rules B.store self.now.facts) }
         ensures order { least ≤ result }
-        ensures below { AreLinksBelow a m least (state_of (reader P.timeline L.values) W.sets W.moves R.rules B.store self.now.facts) → AreLinksBelow a m result (state_of (reader P.timeline L.values) W.sets W.moves R.rules B.store self.now.facts) }
+        ensures below { AreLinksBelow a m least (state_of W.sets W.moves R.rules B.store self.now.facts) → AreLinksBelow a m result (state_of W.sets W.moves R.rules B.store self.now.facts) }
     {
         let end = self.facts.end();
         let here = self.facts.known_byte(m, a);
@@ -615,15 +607,15 @@ impl<
         next: u32,
         blocker: Option<usize>,
     ) -> Result<(Link, u32), LearnError>
-        requires inside { m ≤ (P.timeline self.old.facts.paths).moments.end }
-        requires tracked { IsTracked a (state_of (reader P.timeline L.values) W.sets W.moves R.rules B.store self.old.facts) }
-        requires next { (P.timeline self.old.facts.paths).moments.next m next ≡ true }
-        requires writings { AreWritings (state_of (reader P.timeline L.values) W.sets W.moves R.rules B.store self.old.facts) }
+        requires inside { m ≤ (timeline self.old.facts.paths).moments.end }
+        requires tracked { IsTracked a (state_of W.sets W.moves R.rules B.store self.old.facts) }
+        requires next { (timeline self.old.facts.paths).moments.next m next ≡ true }
+        requires writings { AreWritings (state_of W.sets W.moves R.rules B.store self.old.facts) }
         requires open { self.old.facts.complete ≡ false }
-        ensures grows { Grows (state_of (reader P.timeline L.values) W.sets W.moves R.rules B.store self.old.facts) (state_of (reader P.timeline L.values) W.sets W.moves R.rules B.store self.new.facts) }
-        ensures inferred { IfOk result (λ done. HasInferred (state_of (reader P.timeline L.values) W.sets W.moves R.rules B.store self.old.facts) (state_of (reader P.timeline L.values) W.sets W.moves R.rules B.store self.new.facts) done.0.has_news (λ s. (w : ℕ) → next ≤ w → w < done.1 → IsCarriedIf (record { address = a; from = m; to = w }) s)) }
+        ensures grows { Grows (state_of W.sets W.moves R.rules B.store self.old.facts) (state_of W.sets W.moves R.rules B.store self.new.facts) }
+        ensures inferred { IfOk result (λ done. HasInferred (state_of W.sets W.moves R.rules B.store self.old.facts) (state_of W.sets W.moves R.rules B.store self.new.facts) done.0.has_news (λ s. (w : ℕ) → next ≤ w → w < done.1 → IsCarriedIf (record { address = a; from = m; to = w }) s)) }
         ensures onward { IfOk result (λ done. next < done.1) }
-        ensures halt { IfErr result (λ h. IsHalt (state_of (reader P.timeline L.values) W.sets W.moves R.rules B.store self.new.facts) h) }
+        ensures halt { IfErr result (λ h. IsHalt (state_of W.sets W.moves R.rules B.store self.new.facts) h) }
     {
         if self.blocks(a, m, next, blocker) {
             return Ok((unchanged(blocker), next + 1));
@@ -641,13 +633,13 @@ impl<
     /// list, one at which a byte stopped before or one that is found, may act between it and all of
     /// them, these are gone over no further.
     pub(super) fn carry_links(&mut self, a: u32, m: u32) -> Result<bool, LearnError>
-        requires inside { m ≤ (P.timeline self.old.facts.paths).moments.end }
-        requires tracked { IsTracked a (state_of (reader P.timeline L.values) W.sets W.moves R.rules B.store self.old.facts) }
-        requires writings { AreWritings (state_of (reader P.timeline L.values) W.sets W.moves R.rules B.store self.old.facts) }
+        requires inside { m ≤ (timeline self.old.facts.paths).moments.end }
+        requires tracked { IsTracked a (state_of W.sets W.moves R.rules B.store self.old.facts) }
+        requires writings { AreWritings (state_of W.sets W.moves R.rules B.store self.old.facts) }
         requires open { self.old.facts.complete ≡ false }
-        ensures grows { Grows (state_of (reader P.timeline L.values) W.sets W.moves R.rules B.store self.old.facts) (state_of (reader P.timeline L.values) W.sets W.moves R.rules B.store self.new.facts) }
-        ensures inferred { IfOk result (λ has_news. HasInferred (state_of (reader P.timeline L.values) W.sets W.moves R.rules B.store self.old.facts) (state_of (reader P.timeline L.values) W.sets W.moves R.rules B.store self.new.facts) has_news (AreLinks a m)) }
-        ensures halt { IfErr result (λ h. IsHalt (state_of (reader P.timeline L.values) W.sets W.moves R.rules B.store self.new.facts) h) }
+        ensures grows { Grows (state_of W.sets W.moves R.rules B.store self.old.facts) (state_of W.sets W.moves R.rules B.store self.new.facts) }
+        ensures inferred { IfOk result (λ has_news. HasInferred (state_of W.sets W.moves R.rules B.store self.old.facts) (state_of W.sets W.moves R.rules B.store self.new.facts) has_news (AreLinks a m)) }
+        ensures halt { IfErr result (λ h. IsHalt (state_of W.sets W.moves R.rules B.store self.new.facts) h) }
     {
         let end = self.facts.end();
         let mut has_news = false;

@@ -1,9 +1,10 @@
 //! How far a byte's value goes at once, and over all moments.
 
+ghost use Rattle.rept_timeline.specs.Paths.{timeline};
 ghost use Rattle.std.specs.Prelude.{◌≡◌, ◌+◌, ◌<◌, ◌≤◌, ℕ, length, false, true, IsSome, IfSome, IfOk, IfErr, ⊤};
 ghost use Rattle.rept_reason.specs.declared.fact.Cell.TheVariants.{Byte};
 ghost use Rattle.rept_report.specs.Timeline.{IsStrip};
-ghost use Rattle.rept_facts.specs.State.{state_of, reader};
+ghost use Rattle.rept_facts.specs.State.{state_of};
 ghost use Rattle.rept_facts.specs.Inferring.{Knows, IsTracked, Grows, HasInferred, IsHalt, AreWritings, IsEven, IsCarriedUpTo, IsCarriedAlong, AllCarried, AreLinks, IsCarriedIf, IsHitBy, IsLeapUp, IsLeapDown, IsEvenAround};
 ghost use Rattle.rept_propagate.specs.Likeness.{IsCurrent};
 
@@ -11,10 +12,9 @@ use super::Propagation;
 use super::carrying::border;
 use crate::step::WordStep;
 use rept_facts::{ByteLeap, LearnError};
-use rept_log::LastValues;
 use rept_reason::RowRules;
+use rept_report::NumberWindow;
 use rept_report::paths::Strip;
-use rept_report::{NumberWindow, Reaches};
 use rept_span::Transfer;
 use rept_versions::ByteFacts;
 
@@ -24,21 +24,14 @@ const FAR: u32 = 4096;
 /// How far back one looks where `FAR` was too far.
 const NEAR: u32 = 256;
 
-impl<
-    'a,
-    P: Reaches + Drop,
-    L: LastValues + Drop,
-    B: ByteFacts,
-    W: Transfer,
-    R: RowRules,
-> Propagation<'a, P, L, B, W, R> {
+impl<'a, B: ByteFacts, W: Transfer, R: RowRules> Propagation<'a, B, W, R> {
     /// A number up to which from another one on the same is known of a byte: the last before its
     /// value begins or at which it ends.
     pub(super) fn even_to(&self, a: u32, from: u32) -> u32
-        requires { from ≤ (P.timeline self.now.facts.paths).moments.end }
-        ensures even { IsEven a from result (state_of (reader P.timeline L.values) W.sets W.moves R.rules B.store self.now.facts) }
+        requires { from ≤ (timeline self.now.facts.paths).moments.end }
+        ensures even { IsEven a from result (state_of W.sets W.moves R.rules B.store self.now.facts) }
         ensures order { from ≤ result }
-        ensures inside { result ≤ (P.timeline self.now.facts.paths).moments.end }
+        ensures inside { result ≤ (timeline self.now.facts.paths).moments.end }
     {
         let end = self.facts.end();
         match self.facts.stretch(a, from) {
@@ -51,8 +44,8 @@ impl<
     /// another one or later.
     fn window_from(&self, a: u32, since: u32, number: u32) -> Option<NumberWindow>
         requires order { since ≤ number }
-        requires inside { number ≤ (P.timeline self.now.facts.paths).moments.end }
-        ensures window { IfSome result (λ known. IsEvenAround a number known (state_of (reader P.timeline L.values) W.sets W.moves R.rules B.store self.now.facts)) }
+        requires inside { number ≤ (timeline self.now.facts.paths).moments.end }
+        ensures window { IfSome result (λ known. IsEvenAround a number known (state_of W.sets W.moves R.rules B.store self.now.facts)) }
     {
         let end = self.facts.end();
         match self.facts.stretch(a, since) {
@@ -75,8 +68,8 @@ impl<
     /// Numbers around one at which the same is known of a byte: those before it are looked for a
     /// while back.
     fn even_around(&self, a: u32, number: u32) -> NumberWindow
-        requires inside { number ≤ (P.timeline self.now.facts.paths).moments.end }
-        ensures { IsEvenAround a number result (state_of (reader P.timeline L.values) W.sets W.moves R.rules B.store self.now.facts) }
+        requires inside { number ≤ (timeline self.now.facts.paths).moments.end }
+        ensures { IsEvenAround a number result (state_of W.sets W.moves R.rules B.store self.now.facts) }
     {
         if let Some(known) = self.window_from(a, number.saturating_sub(FAR), number) {
             return known;
@@ -95,11 +88,11 @@ impl<
     /// stopped at a row that may write this one, too.
     fn walled_to(&self, a: u32, from: u32, last: u32) -> u32
         requires order { from ≤ last }
-        requires inside { last ≤ (P.timeline self.now.facts.paths).moments.end }
-        requires even { IsEven a from last (state_of (reader P.timeline L.values) W.sets W.moves R.rules B.store self.now.facts) }
-        requires writings { AreWritings (state_of (reader P.timeline L.values) W.sets W.moves R.rules B.store self.now.facts) }
+        requires inside { last ≤ (timeline self.now.facts.paths).moments.end }
+        requires even { IsEven a from last (state_of W.sets W.moves R.rules B.store self.now.facts) }
+        requires writings { AreWritings (state_of W.sets W.moves R.rules B.store self.now.facts) }
         ensures order { from ≤ result }
-        ensures up { IsCarriedUpTo a from (state_of (reader P.timeline L.values) W.sets W.moves R.rules B.store self.now.facts) → IsCarriedUpTo a result (state_of (reader P.timeline L.values) W.sets W.moves R.rules B.store self.now.facts) }
+        ensures up { IsCarriedUpTo a from (state_of W.sets W.moves R.rules B.store self.now.facts) → IsCarriedUpTo a result (state_of W.sets W.moves R.rules B.store self.now.facts) }
     {
         let mut number = from;
         while number <= last {
@@ -116,9 +109,9 @@ impl<
     /// each number from there on and at those next to it, or a row that may write it may act
     /// between them.
     fn uneven_from(&self, a: u32, from: u32) -> u32
-        requires writings { AreWritings (state_of (reader P.timeline L.values) W.sets W.moves R.rules B.store self.now.facts) }
+        requires writings { AreWritings (state_of W.sets W.moves R.rules B.store self.now.facts) }
         ensures order { from ≤ result }
-        ensures up { IsCarriedUpTo a from (state_of (reader P.timeline L.values) W.sets W.moves R.rules B.store self.now.facts) → IsCarriedUpTo a result (state_of (reader P.timeline L.values) W.sets W.moves R.rules B.store self.now.facts) }
+        ensures up { IsCarriedUpTo a from (state_of W.sets W.moves R.rules B.store self.now.facts) → IsCarriedUpTo a result (state_of W.sets W.moves R.rules B.store self.now.facts) }
     {
         if from > self.facts.end() {
             return from;
@@ -132,13 +125,13 @@ impl<
     /// from there on the byte goes nowhere: the same is known in the window, or a row may act
     /// between.
     fn idle_past(&self, a: u32, m: u32, next: u32, known: NumberWindow, row: Option<u32>) -> u32
-        requires even { IsEvenAround a m known (state_of (reader P.timeline L.values) W.sets W.moves R.rules B.store self.now.facts) }
-        requires writings { AreWritings (state_of (reader P.timeline L.values) W.sets W.moves R.rules B.store self.now.facts) }
-        requires next { (P.timeline self.now.facts.paths).moments.next m next ≡ true }
-        requires there { IfSome row (λ i. IsSome ((P.timeline self.now.facts.paths).legs.row i)) }
-        requires hits { IfSome row (λ i. IsHitBy a i (state_of (reader P.timeline L.values) W.sets W.moves R.rules B.store self.now.facts)) }
+        requires even { IsEvenAround a m known (state_of W.sets W.moves R.rules B.store self.now.facts) }
+        requires writings { AreWritings (state_of W.sets W.moves R.rules B.store self.now.facts) }
+        requires next { (timeline self.now.facts.paths).moments.next m next ≡ true }
+        requires there { IfSome row (λ i. IsSome ((timeline self.now.facts.paths).legs.row i)) }
+        requires hits { IfSome row (λ i. IsHitBy a i (state_of W.sets W.moves R.rules B.store self.now.facts)) }
         ensures order { next ≤ result }
-        ensures idle { (v : ℕ) → next ≤ v → v < result → IsCarriedIf (record { address = a; from = m; to = v }) (state_of (reader P.timeline L.values) W.sets W.moves R.rules B.store self.now.facts) }
+        ensures idle { (v : ℕ) → next ≤ v → v < result → IsCarriedIf (record { address = a; from = m; to = v }) (state_of W.sets W.moves R.rules B.store self.now.facts) }
     {
         if known.from <= next && next < known.to {
             return known.to;
@@ -154,10 +147,10 @@ impl<
     /// numbers the same is known of it, to none that is next to it: a row of the list that may
     /// write it, if one is named, may act before those outside.
     fn is_idle(&self, a: u32, m: u32, known: NumberWindow, index: Option<usize>) -> bool
-        requires even { IsEvenAround a m known (state_of (reader P.timeline L.values) W.sets W.moves R.rules B.store self.now.facts) }
-        requires inside { m ≤ (P.timeline self.now.facts.paths).moments.end }
-        requires writings { AreWritings (state_of (reader P.timeline L.values) W.sets W.moves R.rules B.store self.now.facts) }
-        ensures { result ≡ true → AreLinks a m (state_of (reader P.timeline L.values) W.sets W.moves R.rules B.store self.now.facts) }
+        requires even { IsEvenAround a m known (state_of W.sets W.moves R.rules B.store self.now.facts) }
+        requires inside { m ≤ (timeline self.now.facts.paths).moments.end }
+        requires writings { AreWritings (state_of W.sets W.moves R.rules B.store self.now.facts) }
+        ensures { result ≡ true → AreLinks a m (state_of W.sets W.moves R.rules B.store self.now.facts) }
     {
         let end = self.facts.end();
         let row = self.listed_hit(a, index);
@@ -180,10 +173,10 @@ impl<
     /// end.
     fn shut_to(&self, a: u32, from: u32, known: NumberWindow) -> u32
         requires since { known.from ≤ from }
-        requires even { (number : ℕ) × IsEvenAround a number known (state_of (reader P.timeline L.values) W.sets W.moves R.rules B.store self.now.facts) }
-        requires writings { AreWritings (state_of (reader P.timeline L.values) W.sets W.moves R.rules B.store self.now.facts) }
+        requires even { (number : ℕ) × IsEvenAround a number known (state_of W.sets W.moves R.rules B.store self.now.facts) }
+        requires writings { AreWritings (state_of W.sets W.moves R.rules B.store self.now.facts) }
         ensures order { from ≤ result }
-        ensures up { IsCarriedUpTo a from (state_of (reader P.timeline L.values) W.sets W.moves R.rules B.store self.now.facts) → IsCarriedUpTo a result (state_of (reader P.timeline L.values) W.sets W.moves R.rules B.store self.now.facts) }
+        ensures up { IsCarriedUpTo a from (state_of W.sets W.moves R.rules B.store self.now.facts) → IsCarriedUpTo a result (state_of W.sets W.moves R.rules B.store self.now.facts) }
     {
         let hit = Some(self.facts.listed_before(known.to - 1));
         let mut number = from;
@@ -199,7 +192,7 @@ impl<
 
     /// Whether a byte is known anywhere, so that it is tracked.
     pub(super) fn has_value(&self, a: u32) -> bool
-        ensures { result ≡ true → IsTracked a (state_of (reader P.timeline L.values) W.sets W.moves R.rules B.store self.now.facts) }
+        ensures { result ≡ true → IsTracked a (state_of W.sets W.moves R.rules B.store self.now.facts) }
     {
         self.facts.held();
         self.facts.stretch(a, 0).is_some()
@@ -213,9 +206,9 @@ impl<
     /// How far up a byte goes from the numbers between two, if its value is known at them.
     fn reach_up(&self, a: u32, first: u32, last: u32) -> u32
         requires order { first ≤ last }
-        requires inside { last ≤ (P.timeline self.now.facts.paths).moments.end }
-        requires writings { AreWritings (state_of (reader P.timeline L.values) W.sets W.moves R.rules B.store self.now.facts) }
-        ensures { IsLeapUp (record { address = a; first = first; last = last; to = result }) (state_of (reader P.timeline L.values) W.sets W.moves R.rules B.store self.now.facts) }
+        requires inside { last ≤ (timeline self.now.facts.paths).moments.end }
+        requires writings { AreWritings (state_of W.sets W.moves R.rules B.store self.now.facts) }
+        ensures { IsLeapUp (record { address = a; first = first; last = last; to = result }) (state_of W.sets W.moves R.rules B.store self.now.facts) }
     {
         let from = self.facts.free_since(last, a).max(first);
         let until = self.facts.free_until(last, a);
@@ -229,9 +222,9 @@ impl<
     /// How far down it goes.
     fn reach_down(&self, a: u32, first: u32, last: u32) -> u32
         requires order { first ≤ last }
-        requires inside { last ≤ (P.timeline self.now.facts.paths).moments.end }
-        requires writings { AreWritings (state_of (reader P.timeline L.values) W.sets W.moves R.rules B.store self.now.facts) }
-        ensures { IsLeapDown (record { address = a; first = first; last = last; to = result }) (state_of (reader P.timeline L.values) W.sets W.moves R.rules B.store self.now.facts) }
+        requires inside { last ≤ (timeline self.now.facts.paths).moments.end }
+        requires writings { AreWritings (state_of W.sets W.moves R.rules B.store self.now.facts) }
+        ensures { IsLeapDown (record { address = a; first = first; last = last; to = result }) (state_of W.sets W.moves R.rules B.store self.now.facts) }
     {
         let since = self.facts.free_since(first, a);
         let until = self.facts.free_until(first, a).min(last + 1);
@@ -248,12 +241,12 @@ impl<
     /// The value of a byte at the numbers between two, at those after them to which it goes.
     fn spread_up(&mut self, leap: ByteLeap, value: u8) -> Result<bool, LearnError>
         requires order { leap.first ≤ leap.last }
-        requires known { (q : ℕ) → leap.first ≤ q → q ≤ leap.last → Knows q (Byte leap.address) value (state_of (reader P.timeline L.values) W.sets W.moves R.rules B.store self.old.facts) }
-        requires led { IsLeapUp leap (state_of (reader P.timeline L.values) W.sets W.moves R.rules B.store self.old.facts) }
+        requires known { (q : ℕ) → leap.first ≤ q → q ≤ leap.last → Knows q (Byte leap.address) value (state_of W.sets W.moves R.rules B.store self.old.facts) }
+        requires led { IsLeapUp leap (state_of W.sets W.moves R.rules B.store self.old.facts) }
         requires open { self.old.facts.complete ≡ false }
-        ensures grows { Grows (state_of (reader P.timeline L.values) W.sets W.moves R.rules B.store self.old.facts) (state_of (reader P.timeline L.values) W.sets W.moves R.rules B.store self.new.facts) }
-        ensures inferred { IfOk result (λ learnt. HasInferred (state_of (reader P.timeline L.values) W.sets W.moves R.rules B.store self.old.facts) (state_of (reader P.timeline L.values) W.sets W.moves R.rules B.store self.new.facts) learnt (λ _. ⊤)) }
-        ensures halt { IfErr result (λ h. IsHalt (state_of (reader P.timeline L.values) W.sets W.moves R.rules B.store self.new.facts) h) }
+        ensures grows { Grows (state_of W.sets W.moves R.rules B.store self.old.facts) (state_of W.sets W.moves R.rules B.store self.new.facts) }
+        ensures inferred { IfOk result (λ learnt. HasInferred (state_of W.sets W.moves R.rules B.store self.old.facts) (state_of W.sets W.moves R.rules B.store self.new.facts) learnt (λ _. ⊤)) }
+        ensures halt { IfErr result (λ h. IsHalt (state_of W.sets W.moves R.rules B.store self.new.facts) h) }
     {
         self.spread_led(leap.address, leap.last, leap.to, value)
     }
@@ -261,13 +254,13 @@ impl<
     /// At those before them.
     fn spread_down(&mut self, leap: ByteLeap, value: u8) -> Result<bool, LearnError>
         requires order { leap.first ≤ leap.last }
-        requires inside { leap.last ≤ (P.timeline self.old.facts.paths).moments.end }
-        requires known { (q : ℕ) → leap.first ≤ q → q ≤ leap.last → Knows q (Byte leap.address) value (state_of (reader P.timeline L.values) W.sets W.moves R.rules B.store self.old.facts) }
-        requires led { IsLeapDown leap (state_of (reader P.timeline L.values) W.sets W.moves R.rules B.store self.old.facts) }
+        requires inside { leap.last ≤ (timeline self.old.facts.paths).moments.end }
+        requires known { (q : ℕ) → leap.first ≤ q → q ≤ leap.last → Knows q (Byte leap.address) value (state_of W.sets W.moves R.rules B.store self.old.facts) }
+        requires led { IsLeapDown leap (state_of W.sets W.moves R.rules B.store self.old.facts) }
         requires open { self.old.facts.complete ≡ false }
-        ensures grows { Grows (state_of (reader P.timeline L.values) W.sets W.moves R.rules B.store self.old.facts) (state_of (reader P.timeline L.values) W.sets W.moves R.rules B.store self.new.facts) }
-        ensures inferred { IfOk result (λ learnt. HasInferred (state_of (reader P.timeline L.values) W.sets W.moves R.rules B.store self.old.facts) (state_of (reader P.timeline L.values) W.sets W.moves R.rules B.store self.new.facts) learnt (λ _. ⊤)) }
-        ensures halt { IfErr result (λ h. IsHalt (state_of (reader P.timeline L.values) W.sets W.moves R.rules B.store self.new.facts) h) }
+        ensures grows { Grows (state_of W.sets W.moves R.rules B.store self.old.facts) (state_of W.sets W.moves R.rules B.store self.new.facts) }
+        ensures inferred { IfOk result (λ learnt. HasInferred (state_of W.sets W.moves R.rules B.store self.old.facts) (state_of W.sets W.moves R.rules B.store self.new.facts) learnt (λ _. ⊤)) }
+        ensures halt { IfErr result (λ h. IsHalt (state_of W.sets W.moves R.rules B.store self.new.facts) h) }
     {
         self.spread_led(leap.address, leap.first, leap.to, value)
     }
@@ -275,13 +268,13 @@ impl<
     /// The value of a byte around a number, up as far as it goes at once. Answers whether it was
     /// new, and the last number of it.
     fn leap_up(&mut self, a: u32, number: u32) -> Result<(bool, u32), LearnError>
-        requires inside { number ≤ (P.timeline self.old.facts.paths).moments.end }
-        requires writings { AreWritings (state_of (reader P.timeline L.values) W.sets W.moves R.rules B.store self.old.facts) }
+        requires inside { number ≤ (timeline self.old.facts.paths).moments.end }
+        requires writings { AreWritings (state_of W.sets W.moves R.rules B.store self.old.facts) }
         requires open { self.old.facts.complete ≡ false }
-        ensures grows { Grows (state_of (reader P.timeline L.values) W.sets W.moves R.rules B.store self.old.facts) (state_of (reader P.timeline L.values) W.sets W.moves R.rules B.store self.new.facts) }
-        ensures inferred { IfOk result (λ ended. HasInferred (state_of (reader P.timeline L.values) W.sets W.moves R.rules B.store self.old.facts) (state_of (reader P.timeline L.values) W.sets W.moves R.rules B.store self.new.facts) ended.0 (λ _. ⊤)) }
-        ensures halt { IfErr result (λ h. IsHalt (state_of (reader P.timeline L.values) W.sets W.moves R.rules B.store self.new.facts) h) }
-        ensures up { IfOk result (λ ended. (number ≤ ended.1) × (ended.1 ≤ (P.timeline self.old.facts.paths).moments.end)) }
+        ensures grows { Grows (state_of W.sets W.moves R.rules B.store self.old.facts) (state_of W.sets W.moves R.rules B.store self.new.facts) }
+        ensures inferred { IfOk result (λ ended. HasInferred (state_of W.sets W.moves R.rules B.store self.old.facts) (state_of W.sets W.moves R.rules B.store self.new.facts) ended.0 (λ _. ⊤)) }
+        ensures halt { IfErr result (λ h. IsHalt (state_of W.sets W.moves R.rules B.store self.new.facts) h) }
+        ensures up { IfOk result (λ ended. (number ≤ ended.1) × (ended.1 ≤ (timeline self.old.facts.paths).moments.end)) }
     {
         let Some(stretch) = self.facts.stretch(a, number) else {
             return Ok((false, number));
@@ -307,12 +300,12 @@ impl<
     /// Carries the value of a byte around a number down as far as it goes at once. Answers whether
     /// it was new, and the first number to which it went.
     pub(super) fn leap_down(&mut self, a: u32, number: u32) -> Result<(bool, u32), LearnError>
-        requires inside { number ≤ (P.timeline self.old.facts.paths).moments.end }
-        requires writings { AreWritings (state_of (reader P.timeline L.values) W.sets W.moves R.rules B.store self.old.facts) }
+        requires inside { number ≤ (timeline self.old.facts.paths).moments.end }
+        requires writings { AreWritings (state_of W.sets W.moves R.rules B.store self.old.facts) }
         requires open { self.old.facts.complete ≡ false }
-        ensures grows { Grows (state_of (reader P.timeline L.values) W.sets W.moves R.rules B.store self.old.facts) (state_of (reader P.timeline L.values) W.sets W.moves R.rules B.store self.new.facts) }
-        ensures inferred { IfOk result (λ ended. HasInferred (state_of (reader P.timeline L.values) W.sets W.moves R.rules B.store self.old.facts) (state_of (reader P.timeline L.values) W.sets W.moves R.rules B.store self.new.facts) ended.0 (λ _. ⊤)) }
-        ensures halt { IfErr result (λ h. IsHalt (state_of (reader P.timeline L.values) W.sets W.moves R.rules B.store self.new.facts) h) }
+        ensures grows { Grows (state_of W.sets W.moves R.rules B.store self.old.facts) (state_of W.sets W.moves R.rules B.store self.new.facts) }
+        ensures inferred { IfOk result (λ ended. HasInferred (state_of W.sets W.moves R.rules B.store self.old.facts) (state_of W.sets W.moves R.rules B.store self.new.facts) ended.0 (λ _. ⊤)) }
+        ensures halt { IfErr result (λ h. IsHalt (state_of W.sets W.moves R.rules B.store self.new.facts) h) }
         ensures down { IfOk result (λ ended. ended.1 ≤ number) }
     {
         let Some(stretch) = self.facts.stretch(a, number) else {
@@ -339,12 +332,12 @@ impl<
     /// The value of a byte in a strip, and down from it. Answers whether it was new, and the first
     /// number of it.
     fn carry_under(&mut self, a: u32, strip: Strip) -> Result<(bool, u32), LearnError>
-        requires strip { IsStrip (P.timeline self.old.facts.paths) strip.first strip }
-        requires writings { AreWritings (state_of (reader P.timeline L.values) W.sets W.moves R.rules B.store self.old.facts) }
+        requires strip { IsStrip (timeline self.old.facts.paths) strip.first strip }
+        requires writings { AreWritings (state_of W.sets W.moves R.rules B.store self.old.facts) }
         requires open { self.old.facts.complete ≡ false }
-        ensures grows { Grows (state_of (reader P.timeline L.values) W.sets W.moves R.rules B.store self.old.facts) (state_of (reader P.timeline L.values) W.sets W.moves R.rules B.store self.new.facts) }
-        ensures inferred { IfOk result (λ ended. HasInferred (state_of (reader P.timeline L.values) W.sets W.moves R.rules B.store self.old.facts) (state_of (reader P.timeline L.values) W.sets W.moves R.rules B.store self.new.facts) ended.0 (λ _. ⊤)) }
-        ensures halt { IfErr result (λ h. IsHalt (state_of (reader P.timeline L.values) W.sets W.moves R.rules B.store self.new.facts) h) }
+        ensures grows { Grows (state_of W.sets W.moves R.rules B.store self.old.facts) (state_of W.sets W.moves R.rules B.store self.new.facts) }
+        ensures inferred { IfOk result (λ ended. HasInferred (state_of W.sets W.moves R.rules B.store self.old.facts) (state_of W.sets W.moves R.rules B.store self.new.facts) ended.0 (λ _. ⊤)) }
+        ensures halt { IfErr result (λ h. IsHalt (state_of W.sets W.moves R.rules B.store self.new.facts) h) }
         ensures down { IfOk result (λ ended. ended.1 ≤ strip.first) }
     {
         let inside = self.carry_strip(a, strip)?;
@@ -354,13 +347,13 @@ impl<
 
     /// The value of a byte to a number from those of a window that are next to it, until it is new.
     fn carry_from(&mut self, a: u32, m: u32, known: NumberWindow) -> Result<bool, LearnError>
-        requires inside { m ≤ (P.timeline self.old.facts.paths).moments.end }
-        requires tracked { IsTracked a (state_of (reader P.timeline L.values) W.sets W.moves R.rules B.store self.old.facts) }
-        requires writings { AreWritings (state_of (reader P.timeline L.values) W.sets W.moves R.rules B.store self.old.facts) }
+        requires inside { m ≤ (timeline self.old.facts.paths).moments.end }
+        requires tracked { IsTracked a (state_of W.sets W.moves R.rules B.store self.old.facts) }
+        requires writings { AreWritings (state_of W.sets W.moves R.rules B.store self.old.facts) }
         requires open { self.old.facts.complete ≡ false }
-        ensures grows { Grows (state_of (reader P.timeline L.values) W.sets W.moves R.rules B.store self.old.facts) (state_of (reader P.timeline L.values) W.sets W.moves R.rules B.store self.new.facts) }
-        ensures inferred { IfOk result (λ learnt. HasInferred (state_of (reader P.timeline L.values) W.sets W.moves R.rules B.store self.old.facts) (state_of (reader P.timeline L.values) W.sets W.moves R.rules B.store self.new.facts) learnt (λ _. ⊤)) }
-        ensures halt { IfErr result (λ h. IsHalt (state_of (reader P.timeline L.values) W.sets W.moves R.rules B.store self.new.facts) h) }
+        ensures grows { Grows (state_of W.sets W.moves R.rules B.store self.old.facts) (state_of W.sets W.moves R.rules B.store self.new.facts) }
+        ensures inferred { IfOk result (λ learnt. HasInferred (state_of W.sets W.moves R.rules B.store self.old.facts) (state_of W.sets W.moves R.rules B.store self.new.facts) learnt (λ _. ⊤)) }
+        ensures halt { IfErr result (λ h. IsHalt (state_of W.sets W.moves R.rules B.store self.new.facts) h) }
     {
         let mut learnt = false;
         let mut least = known.from;
@@ -387,13 +380,13 @@ impl<
     /// Carries the value of a byte to a number from the window's number from which a byte came back
     /// last, if it is there. The other bytes of a word mostly come from there, too.
     fn carry_open(&mut self, a: u32, m: u32, known: NumberWindow) -> Result<bool, LearnError>
-        requires inside { m ≤ (P.timeline self.old.facts.paths).moments.end }
-        requires tracked { IsTracked a (state_of (reader P.timeline L.values) W.sets W.moves R.rules B.store self.old.facts) }
-        requires writings { AreWritings (state_of (reader P.timeline L.values) W.sets W.moves R.rules B.store self.old.facts) }
+        requires inside { m ≤ (timeline self.old.facts.paths).moments.end }
+        requires tracked { IsTracked a (state_of W.sets W.moves R.rules B.store self.old.facts) }
+        requires writings { AreWritings (state_of W.sets W.moves R.rules B.store self.old.facts) }
         requires open { self.old.facts.complete ≡ false }
-        ensures grows { Grows (state_of (reader P.timeline L.values) W.sets W.moves R.rules B.store self.old.facts) (state_of (reader P.timeline L.values) W.sets W.moves R.rules B.store self.new.facts) }
-        ensures inferred { IfOk result (λ learnt. HasInferred (state_of (reader P.timeline L.values) W.sets W.moves R.rules B.store self.old.facts) (state_of (reader P.timeline L.values) W.sets W.moves R.rules B.store self.new.facts) learnt (λ _. ⊤)) }
-        ensures halt { IfErr result (λ h. IsHalt (state_of (reader P.timeline L.values) W.sets W.moves R.rules B.store self.new.facts) h) }
+        ensures grows { Grows (state_of W.sets W.moves R.rules B.store self.old.facts) (state_of W.sets W.moves R.rules B.store self.new.facts) }
+        ensures inferred { IfOk result (λ learnt. HasInferred (state_of W.sets W.moves R.rules B.store self.old.facts) (state_of W.sets W.moves R.rules B.store self.new.facts) learnt (λ _. ⊤)) }
+        ensures halt { IfErr result (λ h. IsHalt (state_of W.sets W.moves R.rules B.store self.new.facts) h) }
     {
         let Some(open) = self.walls.open() else {
             return Ok(false);
@@ -415,13 +408,13 @@ impl<
     /// Carries the value of a byte to a number from the one from which a byte came back last, and
     /// where that told nothing new, from each of the window.
     fn carry_over(&mut self, a: u32, m: u32, known: NumberWindow) -> Result<bool, LearnError>
-        requires inside { m ≤ (P.timeline self.old.facts.paths).moments.end }
-        requires tracked { IsTracked a (state_of (reader P.timeline L.values) W.sets W.moves R.rules B.store self.old.facts) }
-        requires writings { AreWritings (state_of (reader P.timeline L.values) W.sets W.moves R.rules B.store self.old.facts) }
+        requires inside { m ≤ (timeline self.old.facts.paths).moments.end }
+        requires tracked { IsTracked a (state_of W.sets W.moves R.rules B.store self.old.facts) }
+        requires writings { AreWritings (state_of W.sets W.moves R.rules B.store self.old.facts) }
         requires open { self.old.facts.complete ≡ false }
-        ensures grows { Grows (state_of (reader P.timeline L.values) W.sets W.moves R.rules B.store self.old.facts) (state_of (reader P.timeline L.values) W.sets W.moves R.rules B.store self.new.facts) }
-        ensures inferred { IfOk result (λ learnt. HasInferred (state_of (reader P.timeline L.values) W.sets W.moves R.rules B.store self.old.facts) (state_of (reader P.timeline L.values) W.sets W.moves R.rules B.store self.new.facts) learnt (λ _. ⊤)) }
-        ensures halt { IfErr result (λ h. IsHalt (state_of (reader P.timeline L.values) W.sets W.moves R.rules B.store self.new.facts) h) }
+        ensures grows { Grows (state_of W.sets W.moves R.rules B.store self.old.facts) (state_of W.sets W.moves R.rules B.store self.new.facts) }
+        ensures inferred { IfOk result (λ learnt. HasInferred (state_of W.sets W.moves R.rules B.store self.old.facts) (state_of W.sets W.moves R.rules B.store self.new.facts) learnt (λ _. ⊤)) }
+        ensures halt { IfErr result (λ h. IsHalt (state_of W.sets W.moves R.rules B.store self.new.facts) h) }
     {
         let open = self.carry_open(a, m, known)?;
         if open {
@@ -441,13 +434,13 @@ impl<
         known: NumberWindow,
     ) -> Result<(bool, u32), LearnError>
         requires some { 0 < first }
-        requires inside { first ≤ (P.timeline self.old.facts.paths).moments.end }
-        requires tracked { IsTracked a (state_of (reader P.timeline L.values) W.sets W.moves R.rules B.store self.old.facts) }
-        requires writings { AreWritings (state_of (reader P.timeline L.values) W.sets W.moves R.rules B.store self.old.facts) }
+        requires inside { first ≤ (timeline self.old.facts.paths).moments.end }
+        requires tracked { IsTracked a (state_of W.sets W.moves R.rules B.store self.old.facts) }
+        requires writings { AreWritings (state_of W.sets W.moves R.rules B.store self.old.facts) }
         requires open { self.old.facts.complete ≡ false }
-        ensures grows { Grows (state_of (reader P.timeline L.values) W.sets W.moves R.rules B.store self.old.facts) (state_of (reader P.timeline L.values) W.sets W.moves R.rules B.store self.new.facts) }
-        ensures inferred { IfOk result (λ ended. HasInferred (state_of (reader P.timeline L.values) W.sets W.moves R.rules B.store self.old.facts) (state_of (reader P.timeline L.values) W.sets W.moves R.rules B.store self.new.facts) ended.0 (λ _. ⊤)) }
-        ensures halt { IfErr result (λ h. IsHalt (state_of (reader P.timeline L.values) W.sets W.moves R.rules B.store self.new.facts) h) }
+        ensures grows { Grows (state_of W.sets W.moves R.rules B.store self.old.facts) (state_of W.sets W.moves R.rules B.store self.new.facts) }
+        ensures inferred { IfOk result (λ ended. HasInferred (state_of W.sets W.moves R.rules B.store self.old.facts) (state_of W.sets W.moves R.rules B.store self.new.facts) ended.0 (λ _. ⊤)) }
+        ensures halt { IfErr result (λ h. IsHalt (state_of W.sets W.moves R.rules B.store self.new.facts) h) }
         ensures down { IfOk result (λ ended. ended.1 < first) }
     {
         let former = self.facts.strip(first - 1);
@@ -469,13 +462,13 @@ impl<
     /// through the strips before it that lead to one where it was new. That this is done at once
     /// saves rounds: no clause rests on it.
     pub(super) fn carry_back(&mut self, a: u32, number: u32) -> Result<bool, LearnError>
-        requires inside { number ≤ (P.timeline self.old.facts.paths).moments.end }
-        requires tracked { IsTracked a (state_of (reader P.timeline L.values) W.sets W.moves R.rules B.store self.old.facts) }
-        requires writings { AreWritings (state_of (reader P.timeline L.values) W.sets W.moves R.rules B.store self.old.facts) }
+        requires inside { number ≤ (timeline self.old.facts.paths).moments.end }
+        requires tracked { IsTracked a (state_of W.sets W.moves R.rules B.store self.old.facts) }
+        requires writings { AreWritings (state_of W.sets W.moves R.rules B.store self.old.facts) }
         requires open { self.old.facts.complete ≡ false }
-        ensures grows { Grows (state_of (reader P.timeline L.values) W.sets W.moves R.rules B.store self.old.facts) (state_of (reader P.timeline L.values) W.sets W.moves R.rules B.store self.new.facts) }
-        ensures inferred { IfOk result (λ learnt. HasInferred (state_of (reader P.timeline L.values) W.sets W.moves R.rules B.store self.old.facts) (state_of (reader P.timeline L.values) W.sets W.moves R.rules B.store self.new.facts) learnt (λ _. ⊤)) }
-        ensures halt { IfErr result (λ h. IsHalt (state_of (reader P.timeline L.values) W.sets W.moves R.rules B.store self.new.facts) h) }
+        ensures grows { Grows (state_of W.sets W.moves R.rules B.store self.old.facts) (state_of W.sets W.moves R.rules B.store self.new.facts) }
+        ensures inferred { IfOk result (λ learnt. HasInferred (state_of W.sets W.moves R.rules B.store self.old.facts) (state_of W.sets W.moves R.rules B.store self.new.facts) learnt (λ _. ⊤)) }
+        ensures halt { IfErr result (λ h. IsHalt (state_of W.sets W.moves R.rules B.store self.new.facts) h) }
     {
         if self.facts.known_byte(number, a).is_none() {
             return Ok(false);
@@ -500,13 +493,13 @@ impl<
 
     /// The value of a byte from a number to those that are next to it, where it is known there.
     pub(super) fn carry_links_on(&mut self, a: u32, m: u32) -> Result<bool, LearnError>
-        requires inside { m ≤ (P.timeline self.old.facts.paths).moments.end }
-        requires tracked { IsTracked a (state_of (reader P.timeline L.values) W.sets W.moves R.rules B.store self.old.facts) }
-        requires writings { AreWritings (state_of (reader P.timeline L.values) W.sets W.moves R.rules B.store self.old.facts) }
+        requires inside { m ≤ (timeline self.old.facts.paths).moments.end }
+        requires tracked { IsTracked a (state_of W.sets W.moves R.rules B.store self.old.facts) }
+        requires writings { AreWritings (state_of W.sets W.moves R.rules B.store self.old.facts) }
         requires open { self.old.facts.complete ≡ false }
-        ensures grows { Grows (state_of (reader P.timeline L.values) W.sets W.moves R.rules B.store self.old.facts) (state_of (reader P.timeline L.values) W.sets W.moves R.rules B.store self.new.facts) }
-        ensures inferred { IfOk result (λ learnt. HasInferred (state_of (reader P.timeline L.values) W.sets W.moves R.rules B.store self.old.facts) (state_of (reader P.timeline L.values) W.sets W.moves R.rules B.store self.new.facts) learnt (λ _. ⊤)) }
-        ensures halt { IfErr result (λ h. IsHalt (state_of (reader P.timeline L.values) W.sets W.moves R.rules B.store self.new.facts) h) }
+        ensures grows { Grows (state_of W.sets W.moves R.rules B.store self.old.facts) (state_of W.sets W.moves R.rules B.store self.new.facts) }
+        ensures inferred { IfOk result (λ learnt. HasInferred (state_of W.sets W.moves R.rules B.store self.old.facts) (state_of W.sets W.moves R.rules B.store self.new.facts) learnt (λ _. ⊤)) }
+        ensures halt { IfErr result (λ h. IsHalt (state_of W.sets W.moves R.rules B.store self.new.facts) h) }
     {
         if self.facts.known_byte(m, a).is_none() {
             return Ok(false);
@@ -517,14 +510,14 @@ impl<
     /// The value of a byte in the strip around a number, up from it, and on to the numbers next to
     /// it, where it is known there. Answers whether it was new, and its last number.
     pub(super) fn carry_later(&mut self, a: u32, first: u32) -> Result<(bool, u32), LearnError>
-        requires inside { first ≤ (P.timeline self.old.facts.paths).moments.end }
-        requires tracked { IsTracked a (state_of (reader P.timeline L.values) W.sets W.moves R.rules B.store self.old.facts) }
-        requires writings { AreWritings (state_of (reader P.timeline L.values) W.sets W.moves R.rules B.store self.old.facts) }
+        requires inside { first ≤ (timeline self.old.facts.paths).moments.end }
+        requires tracked { IsTracked a (state_of W.sets W.moves R.rules B.store self.old.facts) }
+        requires writings { AreWritings (state_of W.sets W.moves R.rules B.store self.old.facts) }
         requires open { self.old.facts.complete ≡ false }
-        ensures grows { Grows (state_of (reader P.timeline L.values) W.sets W.moves R.rules B.store self.old.facts) (state_of (reader P.timeline L.values) W.sets W.moves R.rules B.store self.new.facts) }
-        ensures inferred { IfOk result (λ ended. HasInferred (state_of (reader P.timeline L.values) W.sets W.moves R.rules B.store self.old.facts) (state_of (reader P.timeline L.values) W.sets W.moves R.rules B.store self.new.facts) ended.0 (λ _. ⊤)) }
-        ensures halt { IfErr result (λ h. IsHalt (state_of (reader P.timeline L.values) W.sets W.moves R.rules B.store self.new.facts) h) }
-        ensures up { IfOk result (λ ended. (first ≤ ended.1) × (ended.1 ≤ (P.timeline self.old.facts.paths).moments.end)) }
+        ensures grows { Grows (state_of W.sets W.moves R.rules B.store self.old.facts) (state_of W.sets W.moves R.rules B.store self.new.facts) }
+        ensures inferred { IfOk result (λ ended. HasInferred (state_of W.sets W.moves R.rules B.store self.old.facts) (state_of W.sets W.moves R.rules B.store self.new.facts) ended.0 (λ _. ⊤)) }
+        ensures halt { IfErr result (λ h. IsHalt (state_of W.sets W.moves R.rules B.store self.new.facts) h) }
+        ensures up { IfOk result (λ ended. (first ≤ ended.1) × (ended.1 ≤ (timeline self.old.facts.paths).moments.end)) }
     {
         let later = self.facts.strip(first);
         let inside = self.carry_strip(a, later)?;
@@ -537,13 +530,13 @@ impl<
     /// The value of a byte at the last number of a strip, on through those strips to which one
     /// leads where it was new.
     pub(super) fn carry_forth(&mut self, a: u32, number: u32) -> Result<bool, LearnError>
-        requires inside { number ≤ (P.timeline self.old.facts.paths).moments.end }
-        requires tracked { IsTracked a (state_of (reader P.timeline L.values) W.sets W.moves R.rules B.store self.old.facts) }
-        requires writings { AreWritings (state_of (reader P.timeline L.values) W.sets W.moves R.rules B.store self.old.facts) }
+        requires inside { number ≤ (timeline self.old.facts.paths).moments.end }
+        requires tracked { IsTracked a (state_of W.sets W.moves R.rules B.store self.old.facts) }
+        requires writings { AreWritings (state_of W.sets W.moves R.rules B.store self.old.facts) }
         requires open { self.old.facts.complete ≡ false }
-        ensures grows { Grows (state_of (reader P.timeline L.values) W.sets W.moves R.rules B.store self.old.facts) (state_of (reader P.timeline L.values) W.sets W.moves R.rules B.store self.new.facts) }
-        ensures inferred { IfOk result (λ learnt. HasInferred (state_of (reader P.timeline L.values) W.sets W.moves R.rules B.store self.old.facts) (state_of (reader P.timeline L.values) W.sets W.moves R.rules B.store self.new.facts) learnt (λ _. ⊤)) }
-        ensures halt { IfErr result (λ h. IsHalt (state_of (reader P.timeline L.values) W.sets W.moves R.rules B.store self.new.facts) h) }
+        ensures grows { Grows (state_of W.sets W.moves R.rules B.store self.old.facts) (state_of W.sets W.moves R.rules B.store self.new.facts) }
+        ensures inferred { IfOk result (λ learnt. HasInferred (state_of W.sets W.moves R.rules B.store self.old.facts) (state_of W.sets W.moves R.rules B.store self.new.facts) learnt (λ _. ⊤)) }
+        ensures halt { IfErr result (λ h. IsHalt (state_of W.sets W.moves R.rules B.store self.new.facts) h) }
     {
         let mut learnt = self.links_together(a, number)?;
         let mut last = number;
@@ -561,12 +554,12 @@ impl<
 
     /// The value of a byte up from a number, where it is known there and not at the one after it.
     pub(super) fn leap_end(&mut self, a: u32, number: u32) -> Result<bool, LearnError>
-        requires inside { number ≤ (P.timeline self.old.facts.paths).moments.end }
-        requires writings { AreWritings (state_of (reader P.timeline L.values) W.sets W.moves R.rules B.store self.old.facts) }
+        requires inside { number ≤ (timeline self.old.facts.paths).moments.end }
+        requires writings { AreWritings (state_of W.sets W.moves R.rules B.store self.old.facts) }
         requires open { self.old.facts.complete ≡ false }
-        ensures grows { Grows (state_of (reader P.timeline L.values) W.sets W.moves R.rules B.store self.old.facts) (state_of (reader P.timeline L.values) W.sets W.moves R.rules B.store self.new.facts) }
-        ensures inferred { IfOk result (λ learnt. HasInferred (state_of (reader P.timeline L.values) W.sets W.moves R.rules B.store self.old.facts) (state_of (reader P.timeline L.values) W.sets W.moves R.rules B.store self.new.facts) learnt (λ _. ⊤)) }
-        ensures halt { IfErr result (λ h. IsHalt (state_of (reader P.timeline L.values) W.sets W.moves R.rules B.store self.new.facts) h) }
+        ensures grows { Grows (state_of W.sets W.moves R.rules B.store self.old.facts) (state_of W.sets W.moves R.rules B.store self.new.facts) }
+        ensures inferred { IfOk result (λ learnt. HasInferred (state_of W.sets W.moves R.rules B.store self.old.facts) (state_of W.sets W.moves R.rules B.store self.new.facts) learnt (λ _. ⊤)) }
+        ensures halt { IfErr result (λ h. IsHalt (state_of W.sets W.moves R.rules B.store self.new.facts) h) }
     {
         if self.even_to(a, number) > number {
             return Ok(false);
@@ -577,12 +570,12 @@ impl<
 
     /// The value of a byte back from the beginning of each of its stretches.
     fn carry_edges(&mut self, a: u32) -> Result<bool, LearnError>
-        requires tracked { IsTracked a (state_of (reader P.timeline L.values) W.sets W.moves R.rules B.store self.old.facts) }
-        requires writings { AreWritings (state_of (reader P.timeline L.values) W.sets W.moves R.rules B.store self.old.facts) }
+        requires tracked { IsTracked a (state_of W.sets W.moves R.rules B.store self.old.facts) }
+        requires writings { AreWritings (state_of W.sets W.moves R.rules B.store self.old.facts) }
         requires open { self.old.facts.complete ≡ false }
-        ensures grows { Grows (state_of (reader P.timeline L.values) W.sets W.moves R.rules B.store self.old.facts) (state_of (reader P.timeline L.values) W.sets W.moves R.rules B.store self.new.facts) }
-        ensures inferred { IfOk result (λ learnt. HasInferred (state_of (reader P.timeline L.values) W.sets W.moves R.rules B.store self.old.facts) (state_of (reader P.timeline L.values) W.sets W.moves R.rules B.store self.new.facts) learnt (λ _. ⊤)) }
-        ensures halt { IfErr result (λ h. IsHalt (state_of (reader P.timeline L.values) W.sets W.moves R.rules B.store self.new.facts) h) }
+        ensures grows { Grows (state_of W.sets W.moves R.rules B.store self.old.facts) (state_of W.sets W.moves R.rules B.store self.new.facts) }
+        ensures inferred { IfOk result (λ learnt. HasInferred (state_of W.sets W.moves R.rules B.store self.old.facts) (state_of W.sets W.moves R.rules B.store self.new.facts) learnt (λ _. ⊤)) }
+        ensures halt { IfErr result (λ h. IsHalt (state_of W.sets W.moves R.rules B.store self.new.facts) h) }
     {
         let end = self.facts.end();
         let mut learnt = false;
@@ -603,12 +596,12 @@ impl<
     /// The value of a byte over all that may not write it: strip by strip, and from the last number
     /// of each to those next to it.
     fn carry_onward(&mut self, a: u32) -> Result<bool, LearnError>
-        requires tracked { IsTracked a (state_of (reader P.timeline L.values) W.sets W.moves R.rules B.store self.old.facts) }
-        requires writings { AreWritings (state_of (reader P.timeline L.values) W.sets W.moves R.rules B.store self.old.facts) }
+        requires tracked { IsTracked a (state_of W.sets W.moves R.rules B.store self.old.facts) }
+        requires writings { AreWritings (state_of W.sets W.moves R.rules B.store self.old.facts) }
         requires open { self.old.facts.complete ≡ false }
-        ensures grows { Grows (state_of (reader P.timeline L.values) W.sets W.moves R.rules B.store self.old.facts) (state_of (reader P.timeline L.values) W.sets W.moves R.rules B.store self.new.facts) }
-        ensures inferred { IfOk result (λ learnt. HasInferred (state_of (reader P.timeline L.values) W.sets W.moves R.rules B.store self.old.facts) (state_of (reader P.timeline L.values) W.sets W.moves R.rules B.store self.new.facts) learnt (IsCarriedAlong a)) }
-        ensures halt { IfErr result (λ h. IsHalt (state_of (reader P.timeline L.values) W.sets W.moves R.rules B.store self.new.facts) h) }
+        ensures grows { Grows (state_of W.sets W.moves R.rules B.store self.old.facts) (state_of W.sets W.moves R.rules B.store self.new.facts) }
+        ensures inferred { IfOk result (λ learnt. HasInferred (state_of W.sets W.moves R.rules B.store self.old.facts) (state_of W.sets W.moves R.rules B.store self.new.facts) learnt (IsCarriedAlong a)) }
+        ensures halt { IfErr result (λ h. IsHalt (state_of W.sets W.moves R.rules B.store self.new.facts) h) }
     {
         let end = self.facts.end();
         let mut learnt = false;
@@ -630,12 +623,12 @@ impl<
     /// Carries the value of a byte back from the beginning of each of its stretches, and then over
     /// all that may not write it.
     fn carry_address(&mut self, a: u32) -> Result<bool, LearnError>
-        requires tracked { IsTracked a (state_of (reader P.timeline L.values) W.sets W.moves R.rules B.store self.old.facts) }
-        requires writings { AreWritings (state_of (reader P.timeline L.values) W.sets W.moves R.rules B.store self.old.facts) }
+        requires tracked { IsTracked a (state_of W.sets W.moves R.rules B.store self.old.facts) }
+        requires writings { AreWritings (state_of W.sets W.moves R.rules B.store self.old.facts) }
         requires open { self.old.facts.complete ≡ false }
-        ensures grows { Grows (state_of (reader P.timeline L.values) W.sets W.moves R.rules B.store self.old.facts) (state_of (reader P.timeline L.values) W.sets W.moves R.rules B.store self.new.facts) }
-        ensures inferred { IfOk result (λ learnt. HasInferred (state_of (reader P.timeline L.values) W.sets W.moves R.rules B.store self.old.facts) (state_of (reader P.timeline L.values) W.sets W.moves R.rules B.store self.new.facts) learnt (λ _. ⊤)) }
-        ensures halt { IfErr result (λ h. IsHalt (state_of (reader P.timeline L.values) W.sets W.moves R.rules B.store self.new.facts) h) }
+        ensures grows { Grows (state_of W.sets W.moves R.rules B.store self.old.facts) (state_of W.sets W.moves R.rules B.store self.new.facts) }
+        ensures inferred { IfOk result (λ learnt. HasInferred (state_of W.sets W.moves R.rules B.store self.old.facts) (state_of W.sets W.moves R.rules B.store self.new.facts) learnt (λ _. ⊤)) }
+        ensures halt { IfErr result (λ h. IsHalt (state_of W.sets W.moves R.rules B.store self.new.facts) h) }
     {
         let back = self.carry_edges(a)?;
         let onward = self.carry_onward(a)?;
@@ -645,12 +638,12 @@ impl<
     /// The value of a tracked byte, where something was learnt of it lately, and it isn't like the
     /// first one of its word, which it follows.
     fn carry_told(&mut self, k: usize) -> Result<bool, LearnError>
-        requires within { k < length (state_of (reader P.timeline L.values) W.sets W.moves R.rules B.store self.old.facts).known.store.tracked }
-        requires writings { AreWritings (state_of (reader P.timeline L.values) W.sets W.moves R.rules B.store self.old.facts) }
+        requires within { k < length (state_of W.sets W.moves R.rules B.store self.old.facts).known.store.tracked }
+        requires writings { AreWritings (state_of W.sets W.moves R.rules B.store self.old.facts) }
         requires open { self.old.facts.complete ≡ false }
-        ensures grows { Grows (state_of (reader P.timeline L.values) W.sets W.moves R.rules B.store self.old.facts) (state_of (reader P.timeline L.values) W.sets W.moves R.rules B.store self.new.facts) }
-        ensures inferred { IfOk result (λ learnt. HasInferred (state_of (reader P.timeline L.values) W.sets W.moves R.rules B.store self.old.facts) (state_of (reader P.timeline L.values) W.sets W.moves R.rules B.store self.new.facts) learnt (λ _. ⊤)) }
-        ensures halt { IfErr result (λ h. IsHalt (state_of (reader P.timeline L.values) W.sets W.moves R.rules B.store self.new.facts) h) }
+        ensures grows { Grows (state_of W.sets W.moves R.rules B.store self.old.facts) (state_of W.sets W.moves R.rules B.store self.new.facts) }
+        ensures inferred { IfOk result (λ learnt. HasInferred (state_of W.sets W.moves R.rules B.store self.old.facts) (state_of W.sets W.moves R.rules B.store self.new.facts) learnt (λ _. ⊤)) }
+        ensures halt { IfErr result (λ h. IsHalt (state_of W.sets W.moves R.rules B.store self.new.facts) h) }
     {
         let a = self.facts.address(k);
         if !self.recent.has(a) || self.is_like_first(a) {
@@ -661,11 +654,11 @@ impl<
 
     /// The values of the tracked bytes of which something was learnt lately.
     pub fn carry_all_told(&mut self) -> Result<bool, LearnError>
-        requires writings { AreWritings (state_of (reader P.timeline L.values) W.sets W.moves R.rules B.store self.old.facts) }
+        requires writings { AreWritings (state_of W.sets W.moves R.rules B.store self.old.facts) }
         requires open { self.old.facts.complete ≡ false }
-        ensures grows { Grows (state_of (reader P.timeline L.values) W.sets W.moves R.rules B.store self.old.facts) (state_of (reader P.timeline L.values) W.sets W.moves R.rules B.store self.new.facts) }
-        ensures inferred { IfOk result (λ learnt. HasInferred (state_of (reader P.timeline L.values) W.sets W.moves R.rules B.store self.old.facts) (state_of (reader P.timeline L.values) W.sets W.moves R.rules B.store self.new.facts) learnt (λ _. ⊤)) }
-        ensures halt { IfErr result (λ h. IsHalt (state_of (reader P.timeline L.values) W.sets W.moves R.rules B.store self.new.facts) h) }
+        ensures grows { Grows (state_of W.sets W.moves R.rules B.store self.old.facts) (state_of W.sets W.moves R.rules B.store self.new.facts) }
+        ensures inferred { IfOk result (λ learnt. HasInferred (state_of W.sets W.moves R.rules B.store self.old.facts) (state_of W.sets W.moves R.rules B.store self.new.facts) learnt (λ _. ⊤)) }
+        ensures halt { IfErr result (λ h. IsHalt (state_of W.sets W.moves R.rules B.store self.new.facts) h) }
     {
         let count = self.facts.tracked_count();
         let mut learnt = false;
@@ -687,12 +680,12 @@ impl<
     /// The values of all tracked bytes. One that is like the last that was gone over is carried as
     /// that one is.
     pub fn carry_tracked(&mut self) -> Result<bool, LearnError>
-        requires writings { AreWritings (state_of (reader P.timeline L.values) W.sets W.moves R.rules B.store self.old.facts) }
-        requires current { IsCurrent (state_of (reader P.timeline L.values) W.sets W.moves R.rules B.store self.old.facts) }
+        requires writings { AreWritings (state_of W.sets W.moves R.rules B.store self.old.facts) }
+        requires current { IsCurrent (state_of W.sets W.moves R.rules B.store self.old.facts) }
         requires open { self.old.facts.complete ≡ false }
-        ensures grows { Grows (state_of (reader P.timeline L.values) W.sets W.moves R.rules B.store self.old.facts) (state_of (reader P.timeline L.values) W.sets W.moves R.rules B.store self.new.facts) }
-        ensures inferred { IfOk result (λ learnt. HasInferred (state_of (reader P.timeline L.values) W.sets W.moves R.rules B.store self.old.facts) (state_of (reader P.timeline L.values) W.sets W.moves R.rules B.store self.new.facts) learnt (AllCarried)) }
-        ensures halt { IfErr result (λ h. IsHalt (state_of (reader P.timeline L.values) W.sets W.moves R.rules B.store self.new.facts) h) }
+        ensures grows { Grows (state_of W.sets W.moves R.rules B.store self.old.facts) (state_of W.sets W.moves R.rules B.store self.new.facts) }
+        ensures inferred { IfOk result (λ learnt. HasInferred (state_of W.sets W.moves R.rules B.store self.old.facts) (state_of W.sets W.moves R.rules B.store self.new.facts) learnt (AllCarried)) }
+        ensures halt { IfErr result (λ h. IsHalt (state_of W.sets W.moves R.rules B.store self.new.facts) h) }
     {
         let count = self.facts.tracked_count();
         let mut learnt = false;

@@ -1,16 +1,15 @@
 //! Bytes that go the same ways as another one: what is known of them follows from what is known of
 //! that one, and the rows that may write that one may write them.
 
+ghost use Rattle.rept_timeline.specs.Paths.{timeline};
 ghost use Rattle.std.specs.Prelude.{◌≡◌, ◌≤◌, true, IfSome};
-ghost use Rattle.rept_facts.specs.State.{state_of, reader};
+ghost use Rattle.rept_facts.specs.State.{state_of};
 ghost use Rattle.rept_facts.specs.Inferring.{AreWritings, IsEven};
 ghost use Rattle.rept_propagate.specs.Likeness.{IsToldBy, AreHitsShared, IsLikeByte, IsLikeAny};
 
 use super::Propagation;
 use crate::pairs::Pairs;
-use rept_log::LastValues;
 use rept_reason::RowRules;
-use rept_report::Reaches;
 use rept_span::Transfer;
 use rept_versions::ByteFacts;
 
@@ -21,21 +20,14 @@ const HITS: usize = 16;
 /// A word's bytes begin at a multiple of it.
 pub const WORD: u32 = 4;
 
-impl<
-    'a,
-    P: Reaches + Drop,
-    L: LastValues + Drop,
-    B: ByteFacts,
-    W: Transfer,
-    R: RowRules,
-> Propagation<'a, P, L, B, W, R> {
+impl<'a, B: ByteFacts, W: Transfer, R: RowRules> Propagation<'a, B, W, R> {
     /// What is known of a byte at a number, and a number up to which that is so.
     fn known_to(&self, a: u32, from: u32) -> (Option<u8>, u32)
-        requires inside { from ≤ (P.timeline self.now.facts.paths).moments.end }
+        requires inside { from ≤ (timeline self.now.facts.paths).moments.end }
         ensures value { result.0 ≡ (B.store self.now.facts.known.bytes).fact from a }
-        ensures even { IsEven a from result.1 (state_of (reader P.timeline L.values) W.sets W.moves R.rules B.store self.now.facts) }
+        ensures even { IsEven a from result.1 (state_of W.sets W.moves R.rules B.store self.now.facts) }
         ensures order { from ≤ result.1 }
-        ensures inside { result.1 ≤ (P.timeline self.now.facts.paths).moments.end }
+        ensures inside { result.1 ≤ (timeline self.now.facts.paths).moments.end }
     {
         let end = self.facts.end();
         match self.facts.stretch(a, from) {
@@ -48,7 +40,7 @@ impl<
     /// Whether what is known of a byte at any number tells what is known of another one there.
     /// Answers how many pieces there are in which the same is known of both, if it does.
     fn is_told_by(&self, a: u32, b: u32) -> Option<usize>
-        ensures { IfSome result (λ _. IsToldBy a b (state_of (reader P.timeline L.values) W.sets W.moves R.rules B.store self.now.facts)) }
+        ensures { IfSome result (λ _. IsToldBy a b (state_of W.sets W.moves R.rules B.store self.now.facts)) }
     {
         let end = self.facts.end();
         let mut pairs = Pairs::new();
@@ -69,8 +61,8 @@ impl<
     /// Whether each row of the list that may write a byte may write another one: of so many it is
     /// looked at.
     fn are_hits_shared(&self, a: u32, b: u32, most: usize) -> bool
-        requires writings { AreWritings (state_of (reader P.timeline L.values) W.sets W.moves R.rules B.store self.now.facts) }
-        ensures { result ≡ true → AreHitsShared a b (state_of (reader P.timeline L.values) W.sets W.moves R.rules B.store self.now.facts) }
+        requires writings { AreWritings (state_of W.sets W.moves R.rules B.store self.now.facts) }
+        ensures { result ≡ true → AreHitsShared a b (state_of W.sets W.moves R.rules B.store self.now.facts) }
     {
         let end = self.facts.writing_count();
         let mut k = 0;
@@ -89,8 +81,8 @@ impl<
 
     /// Whether it is seen that a byte is like another one.
     fn is_like(&self, a: u32, b: u32) -> bool
-        requires writings { AreWritings (state_of (reader P.timeline L.values) W.sets W.moves R.rules B.store self.now.facts) }
-        ensures { result ≡ true → IsLikeByte a b (state_of (reader P.timeline L.values) W.sets W.moves R.rules B.store self.now.facts) }
+        requires writings { AreWritings (state_of W.sets W.moves R.rules B.store self.now.facts) }
+        ensures { result ≡ true → IsLikeByte a b (state_of W.sets W.moves R.rules B.store self.now.facts) }
     {
         match self.is_told_by(a, b) {
             None => false,
@@ -100,15 +92,15 @@ impl<
 
     /// Whether it is seen that a byte is like the first one of its word, and isn't that one.
     pub(super) fn is_like_first(&self, a: u32) -> bool
-        requires writings { AreWritings (state_of (reader P.timeline L.values) W.sets W.moves R.rules B.store self.now.facts) }
+        requires writings { AreWritings (state_of W.sets W.moves R.rules B.store self.now.facts) }
     {
         a % WORD != 0 && self.is_like(a - a % WORD, a)
     }
 
     /// Whether it is seen that a byte is like another one, if one is named.
     pub(super) fn is_like_any(&self, leader: Option<u32>, b: u32) -> bool
-        requires writings { AreWritings (state_of (reader P.timeline L.values) W.sets W.moves R.rules B.store self.now.facts) }
-        ensures { result ≡ true → IsLikeAny leader b (state_of (reader P.timeline L.values) W.sets W.moves R.rules B.store self.now.facts) }
+        requires writings { AreWritings (state_of W.sets W.moves R.rules B.store self.now.facts) }
+        ensures { result ≡ true → IsLikeAny leader b (state_of W.sets W.moves R.rules B.store self.now.facts) }
     {
         match leader {
             None => false,

@@ -1,29 +1,21 @@
 //! Which rows keep bytes from being carried.
 
+ghost use Rattle.rept_timeline.specs.Paths.{timeline};
 ghost use Rattle.std.specs.Prelude.{◌≡◌, ℕ, ◌+◌, ◌<◌, true, false, Some, IsSome, IfSome};
-ghost use Rattle.rept_facts.specs.State.{state_of, reader};
+ghost use Rattle.rept_facts.specs.State.{state_of};
 ghost use Rattle.rept_facts.specs.Inferring.{AreWritings, AreBlocked, IsBlocker, IsBridged, IsBlocked, IsHitBy};
 
 use super::Propagation;
-use rept_log::LastValues;
 use rept_reason::{RowRules, When};
-use rept_report::Reaches;
 use rept_span::Transfer;
 use rept_versions::ByteFacts;
 
-impl<
-    'a,
-    P: Reaches + Drop,
-    L: LastValues + Drop,
-    B: ByteFacts,
-    W: Transfer,
-    R: RowRules,
-> Propagation<'a, P, L, B, W, R> {
+impl<'a, B: ByteFacts, W: Transfer, R: RowRules> Propagation<'a, B, W, R> {
     /// Whether a number is before a row and another one after it, and the row can't write: then no
     /// row may act between the two.
     fn is_unwritten(&self, m: u32, w: u32) -> bool
-        requires next { (P.timeline self.now.facts.paths).moments.next m w ≡ true }
-        ensures { result ≡ true → (i : ℕ) → i < (P.timeline self.now.facts.paths).legs.count → (P.timeline self.now.facts.paths).moments.may_act i m w ≡ false }
+        requires next { (timeline self.now.facts.paths).moments.next m w ≡ true }
+        ensures { result ≡ true → (i : ℕ) → i < (timeline self.now.facts.paths).legs.count → (timeline self.now.facts.paths).moments.may_act i m w ≡ false }
     {
         let Some(row) = self.facts.row_at(m) else {
             return false;
@@ -40,9 +32,9 @@ impl<
     /// The index of the first row of the list that may write a byte and may act between a number
     /// and one that is next to it, if there is one.
     pub(super) fn blocker(&self, a: u32, m: u32, w: u32) -> Option<usize>
-        requires writings { AreWritings (state_of (reader P.timeline L.values) W.sets W.moves R.rules B.store self.now.facts) }
-        requires next { (P.timeline self.now.facts.paths).moments.next m w ≡ true }
-        ensures { IsBlocker (record { address = a; from = m; to = w }) (state_of (reader P.timeline L.values) W.sets W.moves R.rules B.store self.now.facts) result }
+        requires writings { AreWritings (state_of W.sets W.moves R.rules B.store self.now.facts) }
+        requires next { (timeline self.now.facts.paths).moments.next m w ≡ true }
+        ensures { IsBlocker (record { address = a; from = m; to = w }) (state_of W.sets W.moves R.rules B.store self.now.facts) result }
     {
         if self.is_unwritten(m, w) {
             return None;
@@ -63,10 +55,10 @@ impl<
     /// Whether a byte is carried from a number to one that is next to it: whether nothing that
     /// isn't told may act between, and no row of the list that may write it.
     pub(super) fn is_carried(&self, a: u32, m: u32, w: u32) -> bool
-        requires writings { AreWritings (state_of (reader P.timeline L.values) W.sets W.moves R.rules B.store self.now.facts) }
-        requires next { (P.timeline self.now.facts.paths).moments.next m w ≡ true }
-        ensures yes { result ≡ true → IsBridged (record { address = a; from = m; to = w }) (state_of (reader P.timeline L.values) W.sets W.moves R.rules B.store self.now.facts) }
-        ensures no { result ≡ false → IsBlocked (record { address = a; from = m; to = w }) (state_of (reader P.timeline L.values) W.sets W.moves R.rules B.store self.now.facts) }
+        requires writings { AreWritings (state_of W.sets W.moves R.rules B.store self.now.facts) }
+        requires next { (timeline self.now.facts.paths).moments.next m w ≡ true }
+        ensures yes { result ≡ true → IsBridged (record { address = a; from = m; to = w }) (state_of W.sets W.moves R.rules B.store self.now.facts) }
+        ensures no { result ≡ false → IsBlocked (record { address = a; from = m; to = w }) (state_of W.sets W.moves R.rules B.store self.now.facts) }
     {
         if self.facts.is_untraced_between(m, w) {
             return false;
@@ -76,9 +68,9 @@ impl<
 
     /// The row at an index of the list, if one is named and is there, and may write a byte.
     pub(super) fn listed_hit(&self, a: u32, index: Option<usize>) -> Option<u32>
-        requires writings { AreWritings (state_of (reader P.timeline L.values) W.sets W.moves R.rules B.store self.now.facts) }
-        ensures there { IfSome result (λ row. IsSome ((P.timeline self.now.facts.paths).legs.row row)) }
-        ensures hits { IfSome result (λ row. IsHitBy a row (state_of (reader P.timeline L.values) W.sets W.moves R.rules B.store self.now.facts)) }
+        requires writings { AreWritings (state_of W.sets W.moves R.rules B.store self.now.facts) }
+        ensures there { IfSome result (λ row. IsSome ((timeline self.now.facts.paths).legs.row row)) }
+        ensures hits { IfSome result (λ row. IsHitBy a row (state_of W.sets W.moves R.rules B.store self.now.facts)) }
     {
         let Some(k) = index else {
             return None;
@@ -98,9 +90,9 @@ impl<
     /// Whether the row at an index of the list, if one is named, may write a byte and may act
     /// between a number and one that is next to it.
     pub(super) fn blocks(&self, a: u32, m: u32, w: u32, index: Option<usize>) -> bool
-        requires writings { AreWritings (state_of (reader P.timeline L.values) W.sets W.moves R.rules B.store self.now.facts) }
-        requires next { (P.timeline self.now.facts.paths).moments.next m w ≡ true }
-        ensures { result ≡ true → IsBlocked (record { address = a; from = m; to = w }) (state_of (reader P.timeline L.values) W.sets W.moves R.rules B.store self.now.facts) }
+        requires writings { AreWritings (state_of W.sets W.moves R.rules B.store self.now.facts) }
+        requires next { (timeline self.now.facts.paths).moments.next m w ≡ true }
+        ensures { result ≡ true → IsBlocked (record { address = a; from = m; to = w }) (state_of W.sets W.moves R.rules B.store self.now.facts) }
     {
         match self.listed_hit(a, index) {
             None => false,
@@ -111,8 +103,8 @@ impl<
     /// Whether it is sure that the row at an index of the list, if one is named, may write a byte
     /// and may act between a number and each one that is next to it.
     pub(super) fn is_blocked(&self, a: u32, m: u32, index: Option<usize>) -> bool
-        requires writings { AreWritings (state_of (reader P.timeline L.values) W.sets W.moves R.rules B.store self.now.facts) }
-        ensures { result ≡ true → AreBlocked a m (state_of (reader P.timeline L.values) W.sets W.moves R.rules B.store self.now.facts) }
+        requires writings { AreWritings (state_of W.sets W.moves R.rules B.store self.now.facts) }
+        ensures { result ≡ true → AreBlocked a m (state_of W.sets W.moves R.rules B.store self.now.facts) }
     {
         match self.listed_hit(a, index) {
             None => false,
@@ -123,7 +115,7 @@ impl<
     /// The index of a row of the list that may stop a byte at a number: the one at which a byte
     /// stopped there, or else the one at which any stopped last. No clause rests on which it is.
     pub(super) fn wall(&self, a: u32, m: u32) -> Option<usize>
-        requires writings { AreWritings (state_of (reader P.timeline L.values) W.sets W.moves R.rules B.store self.now.facts) }
+        requires writings { AreWritings (state_of W.sets W.moves R.rules B.store self.now.facts) }
     {
         let index = self.walls.at(m);
         if self.is_blocked(a, m, index) {
@@ -140,8 +132,8 @@ impl<
     /// Whether a row at which a byte stopped before may write this one and may act between a number
     /// and each one that is next to it.
     pub(super) fn is_walled(&self, a: u32, m: u32) -> bool
-        requires writings { AreWritings (state_of (reader P.timeline L.values) W.sets W.moves R.rules B.store self.now.facts) }
-        ensures { result ≡ true → AreBlocked a m (state_of (reader P.timeline L.values) W.sets W.moves R.rules B.store self.now.facts) }
+        requires writings { AreWritings (state_of W.sets W.moves R.rules B.store self.now.facts) }
+        ensures { result ≡ true → AreBlocked a m (state_of W.sets W.moves R.rules B.store self.now.facts) }
     {
         if self.is_blocked(a, m, self.walls.at(m)) {
             return true;
@@ -178,10 +170,10 @@ impl<
     /// Whether a byte is carried from a number to the one after it, which is next to it; where a
     /// row of the list keeps it from that, that is kept.
     pub(super) fn is_carried_on(&mut self, a: u32, m: u32) -> bool
-        requires writings { AreWritings (state_of (reader P.timeline L.values) W.sets W.moves R.rules B.store self.old.facts) }
-        requires next { (P.timeline self.old.facts.paths).moments.next m (m + 1) ≡ true }
-        ensures yes { result ≡ true → IsBridged (record { address = a; from = m; to = m + 1 }) (state_of (reader P.timeline L.values) W.sets W.moves R.rules B.store self.old.facts) }
-        ensures no { result ≡ false → IsBlocked (record { address = a; from = m; to = m + 1 }) (state_of (reader P.timeline L.values) W.sets W.moves R.rules B.store self.old.facts) }
+        requires writings { AreWritings (state_of W.sets W.moves R.rules B.store self.old.facts) }
+        requires next { (timeline self.old.facts.paths).moments.next m (m + 1) ≡ true }
+        ensures yes { result ≡ true → IsBridged (record { address = a; from = m; to = m + 1 }) (state_of W.sets W.moves R.rules B.store self.old.facts) }
+        ensures no { result ≡ false → IsBlocked (record { address = a; from = m; to = m + 1 }) (state_of W.sets W.moves R.rules B.store self.old.facts) }
         ensures same { self.new.facts ≡ self.old.facts }
     {
         let _end = self.facts.end();
@@ -197,9 +189,9 @@ impl<
     /// which is next to it: the row that the number is before may write it, or one at which a byte
     /// stopped before.
     pub(super) fn is_stopped(&self, a: u32, m: u32) -> bool
-        requires writings { AreWritings (state_of (reader P.timeline L.values) W.sets W.moves R.rules B.store self.now.facts) }
-        requires next { (P.timeline self.now.facts.paths).moments.next m (m + 1) ≡ true }
-        ensures { result ≡ true → IsBlocked (record { address = a; from = m; to = m + 1 }) (state_of (reader P.timeline L.values) W.sets W.moves R.rules B.store self.now.facts) }
+        requires writings { AreWritings (state_of W.sets W.moves R.rules B.store self.now.facts) }
+        requires next { (timeline self.now.facts.paths).moments.next m (m + 1) ≡ true }
+        ensures { result ≡ true → IsBlocked (record { address = a; from = m; to = m + 1 }) (state_of W.sets W.moves R.rules B.store self.now.facts) }
     {
         let _end = self.facts.end();
         let own = self.facts.listed_before(m);
@@ -212,11 +204,11 @@ impl<
     /// Whether a row, if one is named, which may write a byte, may act between a number and one
     /// that is next to it.
     fn is_crossed(&self, a: u32, m: u32, w: u32, row: Option<u32>) -> bool
-        requires writings { AreWritings (state_of (reader P.timeline L.values) W.sets W.moves R.rules B.store self.now.facts) }
-        requires next { (P.timeline self.now.facts.paths).moments.next m w ≡ true }
-        requires there { IfSome row (λ i. IsSome ((P.timeline self.now.facts.paths).legs.row i)) }
-        requires hits { IfSome row (λ i. IsHitBy a i (state_of (reader P.timeline L.values) W.sets W.moves R.rules B.store self.now.facts)) }
-        ensures { result ≡ true → IsBlocked (record { address = a; from = m; to = w }) (state_of (reader P.timeline L.values) W.sets W.moves R.rules B.store self.now.facts) }
+        requires writings { AreWritings (state_of W.sets W.moves R.rules B.store self.now.facts) }
+        requires next { (timeline self.now.facts.paths).moments.next m w ≡ true }
+        requires there { IfSome row (λ i. IsSome ((timeline self.now.facts.paths).legs.row i)) }
+        requires hits { IfSome row (λ i. IsHitBy a i (state_of W.sets W.moves R.rules B.store self.now.facts)) }
+        ensures { result ≡ true → IsBlocked (record { address = a; from = m; to = w }) (state_of W.sets W.moves R.rules B.store self.now.facts) }
     {
         match row {
             None => false,
@@ -227,11 +219,11 @@ impl<
     /// Whether it is sure that a byte isn't carried between the two: such a row does, or writers
     /// that aren't told.
     pub(super) fn is_shut(&self, a: u32, m: u32, w: u32, row: Option<u32>) -> bool
-        requires writings { AreWritings (state_of (reader P.timeline L.values) W.sets W.moves R.rules B.store self.now.facts) }
-        requires next { (P.timeline self.now.facts.paths).moments.next m w ≡ true }
-        requires there { IfSome row (λ i. IsSome ((P.timeline self.now.facts.paths).legs.row i)) }
-        requires hits { IfSome row (λ i. IsHitBy a i (state_of (reader P.timeline L.values) W.sets W.moves R.rules B.store self.now.facts)) }
-        ensures { result ≡ true → IsBlocked (record { address = a; from = m; to = w }) (state_of (reader P.timeline L.values) W.sets W.moves R.rules B.store self.now.facts) }
+        requires writings { AreWritings (state_of W.sets W.moves R.rules B.store self.now.facts) }
+        requires next { (timeline self.now.facts.paths).moments.next m w ≡ true }
+        requires there { IfSome row (λ i. IsSome ((timeline self.now.facts.paths).legs.row i)) }
+        requires hits { IfSome row (λ i. IsHitBy a i (state_of W.sets W.moves R.rules B.store self.now.facts)) }
+        ensures { result ≡ true → IsBlocked (record { address = a; from = m; to = w }) (state_of W.sets W.moves R.rules B.store self.now.facts) }
     {
         if self.is_crossed(a, m, w, row) {
             return true;

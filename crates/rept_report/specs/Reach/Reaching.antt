@@ -1,7 +1,7 @@
 -- Between which moments a row may act, and from which others a moment comes. This project's own.
 use Rattle.std.specs.Prelude.{◌≡◌, ℕ, ◌+◌, ◌≤◌, ◌<◌, ◌⊎◌, true, false}
 use Rattle.rept_report.specs.Moments.{Moments}
-use Rattle.rept_report.specs.declared.reach.reaches.NumberWindow.{NumberWindow}
+use Rattle.rept_report.specs.declared.paths.NumberWindow.{NumberWindow}
 
 -- where the row may act between a number and one that is next to it, the number is before the end
 -- of the window, and the next one isn't before its beginning

@@ -1,20 +1,19 @@
 //! What an analysis answers.
 
+ghost use Rattle.rept_timeline.specs.Paths.{timeline};
 ghost use Rattle.std.specs.Prelude.{◌≡◌, ◌≤◌, true};
 ghost use Rattle.rept_steps.specs.Course.{IsSoundCourse};
 ghost use Rattle.rept_steps.specs.Runs.{course_of};
 
 use rept_amo::Atomic;
-use rept_analysis::{Analysis, ThreadEnd};
+use rept_analysis::Analysis;
 use rept_dump::Dump;
-use rept_extents::RunRows;
-use rept_facts::Stop;
+use rept_facts::{CrashInput, Stop};
 use rept_isa::Reg;
 use rept_partial::{Partial, Range};
 use rept_reason::{Cell, Fact, Reason, RowRules};
-use rept_report::{Paths, Reaches};
 use rept_steps::Run;
-use rept_timeline::{RunPaths, is_small};
+use rept_timeline::{RunPaths, ThreadEnds, is_small};
 use rept_versions::ByteFacts;
 use std::alloc::{AllocError, Global};
 use test_kit::Numbers;
@@ -39,29 +38,31 @@ pub fn over_dump<B: ByteFacts>(
     if !is_small(run) {
         return String::from_str(alloc, "too many steps");
     }
+    let threads = run.threads.all().len();
+    if threads == 0 || dump.threads() as usize != threads {
+        return String::from_str(alloc, "other threads");
+    }
     let paths = RunPaths::new(alloc, run)?;
-    let rows = RunRows::new(alloc, run, &paths)?;
-    over_rows::<RunRows<'_>, B>(alloc, rows, dump, asked)
+    let ends = ThreadEnds::new(alloc, run, dump)?;
+    let input = CrashInput {
+        paths: &paths,
+        last: &ends,
+        dump,
+        rules: Atomic::new(),
+    };
+    over_rows::<B>(alloc, input, asked)
 }
 
 /// What is answered over the rows and moments of a run, of which there are few enough.
-fn over_rows<P: Reaches + Drop, B: ByteFacts>(
+fn over_rows<B: ByteFacts>(
     alloc: Global,
-    rows: P,
-    dump: &Dump<'_>,
+    input: CrashInput<'_, Atomic>,
     asked: Asked<'_>,
 ) -> Result<String, AllocError> {
-    if rows.last_point() > 66_560 {
+    if input.paths.last_point() > 66_560 {
         return String::from_str(alloc, "too many points");
     }
-    let last = ThreadEnd::new(dump.status().regs);
-    let mut analysis: Analysis<P, ThreadEnd, B, Range, Atomic> = Analysis::prepare(
-        alloc,
-        rows,
-        last,
-        dump,
-        Atomic::new(),
-    )?;
+    let mut analysis: Analysis<B, Range, Atomic> = Analysis::prepare(alloc, input)?;
     let changed = asked.word != "first" && learn(alloc, &mut analysis, asked)?;
     let text = finally(alloc, &mut analysis, asked)?;
     if changed {
@@ -72,9 +73,9 @@ fn over_rows<P: Reaches + Drop, B: ByteFacts>(
 
 /// Learns all that follows, however often memory runs out, and answers whether an answer that was
 /// known changed.
-fn learn<P: Reaches + Drop, B: ByteFacts>(
+fn learn<B: ByteFacts>(
     alloc: Global,
-    analysis: &mut Analysis<P, ThreadEnd, B, Range, Atomic>,
+    analysis: &mut Analysis<B, Range, Atomic>,
     asked: Asked<'_>,
 ) -> Result<bool, AllocError> {
     let mut changed = false;
@@ -97,9 +98,9 @@ fn is_known(word: &str, answer: &str) -> bool {
 
 /// The answer in the end: whether `refine` finds no conflict and no want of memory, which conflict
 /// it finds, a reason, or what is answered before too.
-fn finally<P: Reaches + Drop, B: ByteFacts>(
+fn finally<B: ByteFacts>(
     alloc: Global,
-    analysis: &mut Analysis<P, ThreadEnd, B, Range, Atomic>,
+    analysis: &mut Analysis<B, Range, Atomic>,
     asked: Asked<'_>,
 ) -> Result<String, AllocError> {
     match asked.word {
@@ -118,9 +119,9 @@ fn finally<P: Reaches + Drop, B: ByteFacts>(
 }
 
 /// The reason of a fact: its rule, its premises, and the ranges that were looked at.
-fn why<P: Reaches + Drop, B: ByteFacts>(
+fn why<B: ByteFacts>(
     alloc: Global,
-    analysis: &mut Analysis<P, ThreadEnd, B, Range, Atomic>,
+    analysis: &mut Analysis<B, Range, Atomic>,
     cell: Option<Cell>,
     n: &Numbers,
 ) -> Result<String, AllocError> {
@@ -145,21 +146,18 @@ fn told(alloc: Global, reason: &Reason) -> Result<String, AllocError> {
 }
 
 /// Whether a number is that of a point and of a moment.
-fn is_there<P: Reaches + Drop, B: ByteFacts>(
-    analysis: &Analysis<P, ThreadEnd, B, Range, Atomic>,
-    point: u32,
-) -> bool
-    ensures point { result ≡ true → point ≤ (P.timeline analysis.now.propagation.facts.paths).legs.count }
-    ensures moment { result ≡ true → point ≤ (P.timeline analysis.now.propagation.facts.paths).moments.end }
+fn is_there<B: ByteFacts>(analysis: &Analysis<B, Range, Atomic>, point: u32) -> bool
+    ensures point { result ≡ true → point ≤ (timeline analysis.now.propagation.facts.paths).legs.count }
+    ensures moment { result ≡ true → point ≤ (timeline analysis.now.propagation.facts.paths).moments.end }
 {
     point <= analysis.paths().last_point() && point <= analysis.paths().end()
 }
 
 /// What is known of a register or a byte at a point, or which row wrote it last; or how much is
 /// known in all.
-fn answer<P: Reaches + Drop, B: ByteFacts>(
+fn answer<B: ByteFacts>(
     alloc: Global,
-    analysis: &Analysis<P, ThreadEnd, B, Range, Atomic>,
+    analysis: &Analysis<B, Range, Atomic>,
     asked: Asked<'_>,
 ) -> Result<String, AllocError> {
     let (point, address) = (asked.n.word(0), asked.n.word(1));
@@ -174,9 +172,9 @@ fn answer<P: Reaches + Drop, B: ByteFacts>(
     }
 }
 
-fn register<P: Reaches + Drop, B: ByteFacts>(
+fn register<B: ByteFacts>(
     alloc: Global,
-    analysis: &Analysis<P, ThreadEnd, B, Range, Atomic>,
+    analysis: &Analysis<B, Range, Atomic>,
     asked: Asked<'_>,
 ) -> Result<String, AllocError> {
     let point = asked.n.word(0);

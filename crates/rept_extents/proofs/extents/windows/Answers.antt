@@ -1,8 +1,8 @@
 use Rattle.std.proofs.Common.{◌≡◌, ℕ, List, [], ◌∷◌, ◌++◌, length, sym, ap, subst, arith, length-append}
-use Rattle.rept_report.specs.declared.reach.reaches.NumberWindow.{NumberWindow}
+use Rattle.rept_report.specs.declared.paths.NumberWindow.{NumberWindow}
 use Rattle.rept_moments.specs.Numbers.{numbers_of}
 use Rattle.rept_moments.specs.Several.{seen_of}
-use Rattle.rept_timeline.specs.Times.{as_timeline}
+use Rattle.rept_extents.specs.Timelines.{as_timeline}
 use Rattle.rept_extents.specs.Times.{AreBegins}
 use Rattle.rept_extents.specs.Extents.{AreExtents}
 use Rattle.rept_extents.proofs.Acting.{extents_more}

@@ -1,6 +1,6 @@
 use Rattle.std.proofs.Common.{◌≡◌, length}
 use Rattle.rept_moments.specs.Several.{seen_of}
-use Rattle.rept_timeline.specs.Times.{as_timeline}
+use Rattle.rept_extents.specs.Timelines.{as_timeline}
 use Rattle.rept_extents.specs.Extents.{AreExtents}
 use Rattle.rept_extents.proofs.extents.windows.Given as goal
 

@@ -1,3 +1,4 @@
+use Rattle.rept_timeline.specs.Paths.{timeline}
 use Rattle.std.proofs.Common.{Result, IsOk, refl, subst, sym}
 use Rattle.rept_dump.specs.Dump.{exe_of, core_of}
 use Rattle.rept_report.specs.Closure.{ClosureHas, IsConsistent}
@@ -9,7 +10,7 @@ use Rattle.rept_facts.specs.State.{IsLined}
 use Rattle.rept_found.specs.Trip.Executed.{HasNoHistory}
 use Rattle.rept_found.specs.Trip.Trip.{given_on, setting_on}
 use Rattle.rept_found.specs.Crash.{means}
-use Rattle.rept_found.specs.View.{CrashView, ending_in, read_in, scene_in, trip_in, IsFoundIn, IsOfRun}
+use Rattle.rept_found.specs.View.{CrashView, ending_in, scene_in, trip_in, IsFoundIn, IsOfRun}
 use Rattle.rept_found.proofs.Settings.{conflict_of, found_in, setting_is, still_of}
 use Rattle.rept_found.proofs.Stops.{stop_at}
 use Rattle.rept_found.proofs.Trips.{no_history}
@@ -47,12 +48,12 @@ returns-in-Err-clause-impossible g c = λ kind e.
 
 pub returns-in-Err-clause-whole : goal.returns-in-Err-clause-whole
 returns-in-Err-clause-whole g c = λ lined e.
-    c.refined.ensures.joins refl (subst (λ (v : CrashView g.row.W.Denot g.row.R.Denot). IsLined (read_in.timeline v.analysis.paths)) (sym c.prepared.view_is) lined) (stop_at c.in-Err.stop OutOfMemory c.refined.result c.in-Err.is e)
+    c.refined.ensures.joins refl (subst (λ (v : CrashView g.row.W.Denot g.row.R.Denot). IsLined (timeline v.analysis.paths)) (sym c.prepared.view_is) lined) (stop_at c.in-Err.stop OutOfMemory c.refined.result c.in-Err.is e)
 
 pub returns-in-Err-clause-exact : goal.returns-in-Err-clause-exact
 returns-in-Err-clause-exact g c = λ lined consistent.
     let m = means g.W.Partial.sets g.W.Transfer.moves g.R.RowRules.rules in
     let here : CrashView g.row.W.Denot g.row.R.Denot = record { analysis = c.prepared.inside.analysis.propagation.facts; ends = c.prepared.inside.ends.now; program = exe_of c.prepared.inside.dump.now; core = core_of c.prepared.inside.dump.now } in
     subst (λ (r : Result _ Stop). IsOk r) c.in-Err.is
-    (c.refined.ensures.exact refl (subst (λ (v : CrashView g.row.W.Denot g.row.R.Denot). IsLined (read_in.timeline v.analysis.paths)) (sym c.prepared.view_is) lined)
+    (c.refined.ensures.exact refl (subst (λ (v : CrashView g.row.W.Denot g.row.R.Denot). IsLined (timeline v.analysis.paths)) (sym c.prepared.view_is) lined)
     (subst (λ (S : Setting g.row.W.Denot). IsConsistent S) (sym (setting_is m here c.prepared.invariant.0)) (subst (λ (v : CrashView g.row.W.Denot g.row.R.Denot). IsConsistent (setting_on (trip_in m v))) (sym c.prepared.view_is) consistent)))

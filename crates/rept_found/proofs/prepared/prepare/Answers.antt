@@ -2,13 +2,10 @@ use Rattle.std.proofs.Common.{◌≡◌, ◌<◌, ◌≤◌, Some, ap, subst, sy
 use Rattle.rept_dump.specs.Dump.{exe_of, core_of}
 use Rattle.rept_moments.specs.Courses.{seen_in}
 use Rattle.rept_moments.specs.Seen.{SeenMoments}
-use Rattle.rept_timeline.specs.declared.run_paths.RunPaths.{RunPaths}
 use Rattle.rept_found.specs.Crash.{means}
 use Rattle.rept_found.specs.View.{CrashView}
-use Rattle.rept_extents.specs.declared.run_rows.RunRows.{RunRows}
-use Rattle.rept_found.specs.declared.ends.RunEnds.{RunEnds}
-use Rattle.rept_found.specs.Ends.{Ends, last_values_in}
-use Rattle.rept_found.proofs.Settings.{given_is, points_are, scene_is, seen_same, trip_is, values_long}
+use Rattle.rept_found.proofs.Settings.{given_is, points_are, scene_is, seen_same, trip_is}
+use Rattle.rept_timeline.proofs.Lasting.{values_long}
 use Rattle.rept_found.proofs.prepared.prepare.Goals as goal
 
 pub prepare-requires-clause-few : goal.prepare-requires-clause-few
@@ -16,28 +13,25 @@ prepare-requires-clause-few g c =
     let all = points_are c.args.ends.now.course c.account.ensures.some in
     let few = c.account.ensures.few in
     let here : (seen_in c.args.paths.now.ways).legs.count ≤ 66560 = subst (λ (x : SeenMoments). x.legs.count ≤ 66560) (sym (seen_same c.args.ends.now.course c.args.paths.now.ways c.requires.course)) (omega arith) in
-    subst (λ (x : RunPaths). (seen_in x.ways).legs.count ≤ 66560) (sym c.in-Ok.ensures) here
-
-pub prepare-requires-clause-registers : goal.prepare-requires-clause-registers
-prepare-requires-clause-registers g c = λ p r v. subst (λ (x : Ends). last_values_in x p r ≡ Some v → r < 32) (sym c.new-last.ensures) (values_long c.args.ends.now c.account.ensures.ends c.account.ensures.some p r v)
+    here
 
 pub invariant_of-result : goal.invariant_of-result
 invariant_of-result g c =
-    let its = c.in-Ok-prepare.ensures in
-    let paths = ap (λ (x : RunRows). x.paths.now) its.path.0 ∙ c.in-Ok.ensures in
-    let ends = ap (λ (x : RunEnds). x.ends.now) its.path.1 ∙ c.new-last.ensures in (
+    let its = c.in-Ok.ensures in
+    let paths = its.path.0 in
+    let ends = its.path.1 in (
       record {
         some = c.account.ensures.some;
         sound = c.requires.sound;
-        given = given_is c.in-Ok-prepare.analysis.propagation.facts c.args.paths.now c.args.ends.now (exe_of c.args.dump.now) (core_of c.args.dump.now) paths ends its.memory c.requires.course;
+        given = given_is c.in-Ok.analysis.propagation.facts c.args.paths.now c.args.ends.now (exe_of c.args.dump.now) (core_of c.args.dump.now) paths ends its.memory c.requires.course;
       },
       c.requires.course,
     )
 
-pub returns-in-Ok-prepare : goal.returns-in-Ok-prepare
-returns-in-Ok-prepare g c =
+pub returns-in-Ok : goal.returns-in-Ok
+returns-in-Ok g c =
     let m = means g.W.Partial.sets g.W.Transfer.moves g.R.RowRules.rules in
-    let new : CrashView g.row.W.Denot g.row.R.Denot = record { analysis = c.in-Ok-prepare.analysis.propagation.facts; ends = c.args.ends.now; program = exe_of c.args.dump.now; core = core_of c.args.dump.now } in
+    let new : CrashView g.row.W.Denot g.row.R.Denot = record { analysis = c.in-Ok.analysis.propagation.facts; ends = c.args.ends.now; program = exe_of c.args.dump.now; core = core_of c.args.dump.now } in
     record {
       prepared = λ notes noted same. record {
         trip = trip_is m new notes c.requires.program c.account.ensures.ends.whole noted same;

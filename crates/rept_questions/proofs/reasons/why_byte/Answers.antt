@@ -4,8 +4,8 @@ use Rattle.rept_findings.specs.Shown.{session_told}
 use Rattle.rept_questions.specs.Texts.{IsExplained, byte_row}
 use Rattle.rept_questions.proofs.reasons.why_byte.Goals as goal
 
-pub returns-in-Some-clause-text : goal.returns-in-Some-clause-text
-returns-in-Some-clause-text g c = λ skipped.
+pub returns-in-Some : goal.returns-in-Some
+returns-in-Some g c = λ skipped.
     let s = g.F.Findings.shown c.args.findings.now in
     let t = session_told s skipped (g.F.Findings.reasons c.args.findings.now) in
     let a = c.args.address in

@@ -1,5 +1,5 @@
 use Rattle.std.proofs.Common.{arith}
-use Rattle.rept_timeline.specs.Times.{time_of}
+use Rattle.rept_extents.specs.Timelines.{time_of}
 use Rattle.rept_timeline.proofs.Earliest.{row_to_none}
 use Rattle.rept_timeline.proofs.arriving.row_to.Goals as goal
 

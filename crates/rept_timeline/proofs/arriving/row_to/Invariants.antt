@@ -1,6 +1,6 @@
 use Rattle.std.proofs.Common.{◌≤◌, ◌<◌, ◌-◌, ℕ}
 use Rattle.rept_report.specs.Timeline.{IsRowTo}
-use Rattle.rept_timeline.specs.Times.{time_of}
+use Rattle.rept_extents.specs.Timelines.{time_of}
 use Rattle.rept_timeline.proofs.arriving.row_to.Given as goal
 
 abbrev pub invariant-loop-row : goal.invariant-loop-row

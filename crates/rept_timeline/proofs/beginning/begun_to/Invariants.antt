@@ -1,7 +1,7 @@
 use Rattle.std.proofs.Common.{◌≤◌, ◌+◌, ℕ}
 use Rattle.rept_moments.specs.Several.{seen_of}
 use Rattle.rept_report.specs.Timeline.{IsBegun}
-use Rattle.rept_timeline.specs.Times.{as_timeline}
+use Rattle.rept_extents.specs.Timelines.{as_timeline}
 use Rattle.rept_timeline.proofs.beginning.begun_to.Given as goal
 
 abbrev pub invariant-loop-row : goal.invariant-loop-row

@@ -2,7 +2,7 @@ use Rattle.std.proofs.Common.{◌≡◌, ◌+◌, ◌-◌, ◌/◌, ℕ, true, f
 use Rattle.std.specs.Option.{IsSome}
 use Rattle.rept_order.specs.Legs.{leg_row}
 use Rattle.rept_moments.specs.Several.{seen_of}
-use Rattle.rept_timeline.specs.Times.{as_timeline}
+use Rattle.rept_extents.specs.Timelines.{as_timeline}
 use Rattle.rept_timeline.proofs.Lists.{later_open}
 use Rattle.rept_timeline.proofs.opening.first_open.Goals as goal
 

@@ -1,5 +1,5 @@
 use Rattle.rept_moments.specs.Several.{seen_of}
-use Rattle.rept_timeline.specs.Times.{as_timeline}
+use Rattle.rept_extents.specs.Timelines.{as_timeline}
 use Rattle.rept_timeline.proofs.Stripping.{strip_same_more}
 use Rattle.rept_timeline.proofs.strips.strip_after.Goals as goal
 

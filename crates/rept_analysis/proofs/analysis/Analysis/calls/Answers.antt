@@ -1,3 +1,4 @@
+use Rattle.rept_timeline.specs.Paths.{timeline}
 use Rattle.std.proofs.Common.{ℕ, Bool, sym, ◌∙◌, arith}
 use Rattle.rept_isa.specs.Operands.{is_call}
 use Rattle.rept_facts.specs.Counts.{row_is}
@@ -6,11 +7,11 @@ use Rattle.rept_analysis.proofs.analysis.Analysis.calls.Goals.{then-is_call_row,
 use Rattle.rept_analysis.proofs.analysis.Analysis.calls.Goals as goal
 
 pub loop-i-init : goal.loop-i-init
-loop-i-init g c = record { value = sym (count_none (λ (i : ℕ). row_is ((g.P.Paths.timeline c.args.self.now.propagation.facts.paths).legs.row i) is_call)); few = omega arith; count = c.count-count.ensures.value }
+loop-i-init g c = record { value = sym (count_none (λ (i : ℕ). row_is ((timeline c.args.self.now.propagation.facts.paths).legs.row i) is_call)); few = omega arith; count = c.count-count.ensures.value }
 
 pub loop-i-preserved : goal.loop-i-preserved
 loop-i-preserved g c =
-    let P : ℕ → Bool = λ (i : ℕ). row_is ((g.P.Paths.timeline c.args.self.now.propagation.facts.paths).legs.row i) is_call in
+    let P : ℕ → Bool = λ (i : ℕ). row_is ((timeline c.args.self.now.propagation.facts.paths).legs.row i) is_call in
     elim c.if-is_call_row.branch [
       | then-is_call_row w ↦
           let both = counted_yes P c.loop-i.i c.loop-i.sum c.if-is_call_row.sum (sym c.is_call_row.ensures ∙ w.if-is_call_row.true) c.loop-i.invariant.value c.loop-i.invariant.few w.sum-is in

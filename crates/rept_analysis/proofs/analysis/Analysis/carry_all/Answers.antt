@@ -1,7 +1,7 @@
 use Rattle.std.proofs.Common.{◌≢◌, ℕ, ◌+◌, ◌<◌, ◌≤◌, Some, ap, arith}
 use Rattle.rept_isa.specs.Operands.{written_by}
 use Rattle.rept_log.specs.Compared.{IsFirstDiffering}
-use Rattle.rept_facts.specs.State.{AnalysisState, state_of, reader}
+use Rattle.rept_facts.specs.State.{AnalysisState, state_of}
 use Rattle.rept_facts.specs.Inferring.{IsKeptAt, KeptBelow}
 use Rattle.rept_facts.proofs.Conclusion.{HasInferred_both, HasInferred_as, HasInferred_since, Grows_trans, one_more}
 use Rattle.rept_facts.proofs.Following.{kept_to, none_differs}
@@ -9,7 +9,7 @@ use Rattle.rept_analysis.proofs.analysis.Analysis.carry_all.Goals as goal
 
 pub returns-in_default-clause-inferred : goal.returns-in_default-clause-inferred
 returns-in_default-clause-inferred g c =
-    let now = state_of (reader g.P.Paths.timeline g.L.LastValues.values) g.W.Partial.sets g.W.Transfer.moves g.R.RowRules.rules g.B.ByteFacts.store c.loop-least.self.propagation.facts in
+    let now = state_of g.W.Partial.sets g.W.Transfer.moves g.R.RowRules.rules g.B.ByteFacts.store c.loop-least.self.propagation.facts in
     let row = c.args.row.now in
     let i = c.args.i in
     let least = c.loop-least.least in
@@ -20,7 +20,7 @@ returns-in_err-new-clause-grows g c = Grows_trans _ _ _ c.loop-least.invariant.g
 
 pub loop-least-preserved : goal.loop-least-preserved
 loop-least-preserved g c =
-    let st = state_of (reader g.P.Paths.timeline g.L.LastValues.values) g.W.Partial.sets g.W.Transfer.moves g.R.RowRules.rules g.B.ByteFacts.store in
+    let st = state_of g.W.Partial.sets g.W.Transfer.moves g.R.RowRules.rules g.B.ByteFacts.store in
     let now = st c.loop-least.self.propagation.facts in
     let row = c.args.row.now in
     let i = c.args.i in

@@ -1,11 +1,11 @@
 use Rattle.std.proofs.Common.{◌<◌, ◌-◌}
-use Rattle.rept_facts.specs.State.{state_of, reader}
+use Rattle.rept_facts.specs.State.{state_of}
 use Rattle.rept_facts.specs.Inferring.{Grows, HasInferred, KeptBelow}
 use Rattle.rept_analysis.proofs.analysis.Analysis.carry_all.Given as goal
 
 abbrev pub invariant-loop-least : goal.invariant-loop-least
 invariant-loop-least g l =
-    let st = state_of (reader g.P.Paths.timeline g.L.LastValues.values) g.W.Partial.sets g.W.Transfer.moves g.R.RowRules.rules g.B.ByteFacts.store in
+    let st = state_of g.W.Partial.sets g.W.Transfer.moves g.R.RowRules.rules g.B.ByteFacts.store in
     record {
       named : 0 < l.least;
       grows : Grows (st l.fn.self.propagation.facts) (st l.self.propagation.facts);

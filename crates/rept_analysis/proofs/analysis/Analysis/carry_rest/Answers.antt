@@ -1,5 +1,5 @@
 use Rattle.std.proofs.Common.{◌≡◌, false}
-use Rattle.rept_facts.specs.State.{AnalysisState, state_of, reader}
+use Rattle.rept_facts.specs.State.{AnalysisState, state_of}
 use Rattle.rept_facts.specs.Inferring.{LastBytesKnown}
 use Rattle.rept_facts.proofs.Conclusion.{HasInferred_if}
 use Rattle.rept_analysis.proofs.analysis.Analysis.carry_rest.Goals as goal

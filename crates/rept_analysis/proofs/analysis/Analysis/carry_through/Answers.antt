@@ -1,5 +1,5 @@
 use Rattle.std.proofs.Common.{◌||◌}
-use Rattle.rept_facts.specs.State.{AnalysisState, state_of, reader}
+use Rattle.rept_facts.specs.State.{AnalysisState, state_of}
 use Rattle.rept_facts.specs.Inferring.{AllCarried, LastBytesKnown}
 use Rattle.rept_facts.proofs.Conclusion.{HasInferred_both, Grows_trans}
 use Rattle.rept_analysis.proofs.analysis.Analysis.carry_through.Goals as goal
@@ -27,7 +27,7 @@ returns-clause-grows g c = Grows_trans _ _ _ (Grows_trans _ _ _ c.in_ok-carried.
 
 pub returns-clause-inferred : goal.returns-clause-inferred
 returns-clause-inferred g c =
-    let st = state_of (reader g.P.Paths.timeline g.L.LastValues.values) g.W.Partial.sets g.W.Transfer.moves g.R.RowRules.rules g.B.ByteFacts.store in
+    let st = state_of g.W.Partial.sets g.W.Transfer.moves g.R.RowRules.rules g.B.ByteFacts.store in
     let s = st c.args.self.now.propagation.facts in
     let t = st c.carry_tracked.new.self.facts in
     let u = st c.infer_through.new.self.propagation.facts in

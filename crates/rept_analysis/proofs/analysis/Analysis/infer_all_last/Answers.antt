@@ -1,6 +1,6 @@
 use Rattle.std.proofs.Common.{◌+◌, None, Some, sym, subst, arith}
 use Rattle.rept_report.specs.Timeline.{IsLastFrom}
-use Rattle.rept_facts.specs.State.{Subject, state_of, reader}
+use Rattle.rept_facts.specs.State.{Subject, state_of}
 use Rattle.rept_facts.specs.Inferring.{LastPointKnown, LastKnownBelow}
 use Rattle.rept_facts.proofs.Begun.{begun_by, begun_unless, lasts_grow}
 use Rattle.rept_facts.proofs.Conclusion.{HasInferred_both, HasInferred_as, HasInferred_same, Grows_itself, Grows_trans}
@@ -12,8 +12,8 @@ loop-point-init g c = record { grows = Grows_itself _; inferred = HasInferred_sa
 
 pub returns-in_default-clause-inferred : goal.returns-in_default-clause-inferred
 returns-in_default-clause-inferred g c =
-    let s = state_of (reader g.P.Paths.timeline g.L.LastValues.values) g.W.Partial.sets g.W.Transfer.moves g.R.RowRules.rules g.B.ByteFacts.store c.args.self.now.propagation.facts in
-    let t = state_of (reader g.P.Paths.timeline g.L.LastValues.values) g.W.Partial.sets g.W.Transfer.moves g.R.RowRules.rules g.B.ByteFacts.store c.loop-point.self.propagation.facts in
+    let s = state_of g.W.Partial.sets g.W.Transfer.moves g.R.RowRules.rules g.B.ByteFacts.store c.args.self.now.propagation.facts in
+    let t = state_of g.W.Partial.sets g.W.Transfer.moves g.R.RowRules.rules g.B.ByteFacts.store c.loop-point.self.propagation.facts in
     let none = last_none t.path.given.legs c.loop-point.least c.next_last.result c.in_default.not-Some c.next_last.ensures.last in
     HasInferred_as s t c.loop-point.learnt (LastsBelow c.loop-point.least) (LastKnownBelow 32) c.loop-point.invariant.inferred (λ h. lasts_all s c.loop-point.least (subst (λ (P : Subject g.row.W.Denot). IsLastFrom P.given.legs c.loop-point.least None) c.loop-point.invariant.grows.path none) h)
 
@@ -25,9 +25,9 @@ returns-in_err-new-clause-grows g c = Grows_trans _ _ _ c.loop-point.invariant.g
 
 pub loop-point-preserved : goal.loop-point-preserved
 loop-point-preserved g c =
-    let s = state_of (reader g.P.Paths.timeline g.L.LastValues.values) g.W.Partial.sets g.W.Transfer.moves g.R.RowRules.rules g.B.ByteFacts.store c.args.self.now.propagation.facts in
-    let t = state_of (reader g.P.Paths.timeline g.L.LastValues.values) g.W.Partial.sets g.W.Transfer.moves g.R.RowRules.rules g.B.ByteFacts.store c.loop-point.self.propagation.facts in
-    let u = state_of (reader g.P.Paths.timeline g.L.LastValues.values) g.W.Partial.sets g.W.Transfer.moves g.R.RowRules.rules g.B.ByteFacts.store c.infer_last_point.new.self.propagation.facts in
+    let s = state_of g.W.Partial.sets g.W.Transfer.moves g.R.RowRules.rules g.B.ByteFacts.store c.args.self.now.propagation.facts in
+    let t = state_of g.W.Partial.sets g.W.Transfer.moves g.R.RowRules.rules g.B.ByteFacts.store c.loop-point.self.propagation.facts in
+    let u = state_of g.W.Partial.sets g.W.Transfer.moves g.R.RowRules.rules g.B.ByteFacts.store c.infer_last_point.new.self.propagation.facts in
     let i = c.loop-point.invariant in
     let here = rw c.in-Some.is at c.next_last.ensures.last in
     let next = subst (λ (P : Subject g.row.W.Denot). IsLastFrom P.given.legs c.loop-point.least (Some c.in-Some.point)) i.grows.path here in
@@ -40,13 +40,13 @@ loop-point-preserved g c =
 
 pub returns-in_default-clause-begun : goal.returns-in_default-clause-begun
 returns-in_default-clause-begun g c =
-    let s = (state_of (reader g.P.Paths.timeline g.L.LastValues.values) g.W.Partial.sets g.W.Transfer.moves g.R.RowRules.rules g.B.ByteFacts.store c.args.self.now.propagation.facts) in
-    let t = (state_of (reader g.P.Paths.timeline g.L.LastValues.values) g.W.Partial.sets g.W.Transfer.moves g.R.RowRules.rules g.B.ByteFacts.store c.loop-point.self.propagation.facts) in
+    let s = (state_of g.W.Partial.sets g.W.Transfer.moves g.R.RowRules.rules g.B.ByteFacts.store c.args.self.now.propagation.facts) in
+    let t = (state_of g.W.Partial.sets g.W.Transfer.moves g.R.RowRules.rules g.B.ByteFacts.store c.loop-point.self.propagation.facts) in
     let none = last_none t.path.given.legs c.loop-point.least c.next_last.result c.in_default.not-Some c.next_last.ensures.last in
     begun_by s t c.loop-point.invariant.grows c.held.ensures (lasts_all t c.loop-point.least none c.loop-point.invariant.known) c.loop-point.invariant.ends
 
 pub returns-in_err-new-clause-begun : goal.returns-in_err-new-clause-begun
 returns-in_err-new-clause-begun g c =
-    let s = (state_of (reader g.P.Paths.timeline g.L.LastValues.values) g.W.Partial.sets g.W.Transfer.moves g.R.RowRules.rules g.B.ByteFacts.store c.args.self.now.propagation.facts) in
-    let u = (state_of (reader g.P.Paths.timeline g.L.LastValues.values) g.W.Partial.sets g.W.Transfer.moves g.R.RowRules.rules g.B.ByteFacts.store c.infer_last_point.new.self.propagation.facts) in
+    let s = (state_of g.W.Partial.sets g.W.Transfer.moves g.R.RowRules.rules g.B.ByteFacts.store c.args.self.now.propagation.facts) in
+    let u = (state_of g.W.Partial.sets g.W.Transfer.moves g.R.RowRules.rules g.B.ByteFacts.store c.infer_last_point.new.self.propagation.facts) in
     begun_unless s u (Grows_trans _ _ _ c.loop-point.invariant.grows c.infer_last_point.ensures.grows) (λ h. c.in_err-new.ensures.calm (c.loop-point.invariant.ends h))

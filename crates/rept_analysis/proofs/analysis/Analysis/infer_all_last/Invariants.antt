@@ -1,5 +1,5 @@
 use Rattle.std.proofs.Common.{◌+◌, ◌-◌}
-use Rattle.rept_facts.specs.State.{state_of, reader}
+use Rattle.rept_facts.specs.State.{state_of}
 use Rattle.rept_facts.specs.Begun.{HasEndsAlone}
 use Rattle.rept_facts.specs.Inferring.{Grows, HasInferred}
 use Rattle.rept_facts.proofs.Following.{LastsBelow}
@@ -7,7 +7,7 @@ use Rattle.rept_analysis.proofs.analysis.Analysis.infer_all_last.Given as goal
 
 abbrev pub invariant-loop-point : goal.invariant-loop-point
 invariant-loop-point g l =
-    let st = state_of (reader g.P.Paths.timeline g.L.LastValues.values) g.W.Partial.sets g.W.Transfer.moves g.R.RowRules.rules g.B.ByteFacts.store in
+    let st = state_of g.W.Partial.sets g.W.Transfer.moves g.R.RowRules.rules g.B.ByteFacts.store in
     record {
       grows : Grows (st l.fn.self.propagation.facts) (st l.self.propagation.facts);
       inferred : HasInferred (st l.fn.self.propagation.facts) (st l.self.propagation.facts) l.learnt (LastsBelow l.least);
@@ -16,4 +16,4 @@ invariant-loop-point g l =
     }
 
 abbrev pub decreases-loop-point : goal.decreases-loop-point
-decreases-loop-point g l = (state_of (reader g.P.Paths.timeline g.L.LastValues.values) g.W.Partial.sets g.W.Transfer.moves g.R.RowRules.rules g.B.ByteFacts.store l.fn.self.propagation.facts).path.given.legs.count + 1 - l.least
+decreases-loop-point g l = (state_of g.W.Partial.sets g.W.Transfer.moves g.R.RowRules.rules g.B.ByteFacts.store l.fn.self.propagation.facts).path.given.legs.count + 1 - l.least

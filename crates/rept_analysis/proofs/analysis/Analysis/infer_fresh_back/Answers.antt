@@ -1,4 +1,4 @@
-use Rattle.rept_facts.specs.State.{AnalysisState, state_of, reader}
+use Rattle.rept_facts.specs.State.{AnalysisState, state_of}
 use Rattle.rept_facts.proofs.Conclusion.{HasInferred_both, Grows_trans}
 use Rattle.rept_analysis.proofs.analysis.Analysis.infer_fresh_back.Goals as goal
 
@@ -16,5 +16,5 @@ loop-end-preserved g c =
     let P : AnalysisState g.row.W.Denot → Type 0 = λ x. Unit {0} in
     record {
       grows = Grows_trans _ _ _ c.loop-end.invariant.grows c.in_ok-new.ensures.grows;
-      inferred = HasInferred_both (state_of (reader g.P.Paths.timeline g.L.LastValues.values) g.W.Partial.sets g.W.Transfer.moves g.R.RowRules.rules g.B.ByteFacts.store c.args.self.now.propagation.facts) (state_of (reader g.P.Paths.timeline g.L.LastValues.values) g.W.Partial.sets g.W.Transfer.moves g.R.RowRules.rules g.B.ByteFacts.store c.loop-end.self.propagation.facts) _ c.loop-end.learnt c.in_ok-new.new P P P c.loop-end.invariant.grows c.in_ok-new.ensures.grows c.loop-end.invariant.inferred c.in_ok-new.ensures.inferred (λ _ _. tt);
+      inferred = HasInferred_both (state_of g.W.Partial.sets g.W.Transfer.moves g.R.RowRules.rules g.B.ByteFacts.store c.args.self.now.propagation.facts) (state_of g.W.Partial.sets g.W.Transfer.moves g.R.RowRules.rules g.B.ByteFacts.store c.loop-end.self.propagation.facts) _ c.loop-end.learnt c.in_ok-new.new P P P c.loop-end.invariant.grows c.in_ok-new.ensures.grows c.loop-end.invariant.inferred c.in_ok-new.ensures.inferred (λ _ _. tt);
     }

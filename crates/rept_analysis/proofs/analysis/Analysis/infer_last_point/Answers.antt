@@ -1,5 +1,5 @@
 use Rattle.std.proofs.Common.{◌+◌, ◌≤◌, arith}
-use Rattle.rept_facts.specs.State.{state_of, reader}
+use Rattle.rept_facts.specs.State.{state_of}
 use Rattle.rept_facts.specs.Begun.{HasEndsAlone}
 use Rattle.rept_facts.specs.Inferring.{LastKnownAt, LastPointKnown}
 use Rattle.rept_facts.proofs.Begun.{any_err, last_point_grows}
@@ -24,13 +24,13 @@ pub loop-r-preserved : goal.loop-r-preserved
 loop-r-preserved g c =
     let here = rw c.register.ensures at c.in_ok-new.ensures.inferred in
     let there = rw c.register.ensures at c.in_ok-new.ensures.known in
-    let before = last_point_grows (state_of (reader g.P.Paths.timeline g.L.LastValues.values) g.W.Partial.sets g.W.Transfer.moves g.R.RowRules.rules g.B.ByteFacts.store c.loop-r.self.propagation.facts) (state_of (reader g.P.Paths.timeline g.L.LastValues.values) g.W.Partial.sets g.W.Transfer.moves g.R.RowRules.rules g.B.ByteFacts.store c.infer_last.new.self.propagation.facts) c.in_ok-new.ensures.grows c.loop-r.r c.args.point c.loop-r.invariant.known in
+    let before = last_point_grows (state_of g.W.Partial.sets g.W.Transfer.moves g.R.RowRules.rules g.B.ByteFacts.store c.loop-r.self.propagation.facts) (state_of g.W.Partial.sets g.W.Transfer.moves g.R.RowRules.rules g.B.ByteFacts.store c.infer_last.new.self.propagation.facts) c.in_ok-new.ensures.grows c.loop-r.r c.args.point c.loop-r.invariant.known in
     record {
       grows = Grows_trans _ _ _ c.loop-r.invariant.grows c.in_ok-new.ensures.grows;
       inferred = HasInferred_both _ _ _ c.loop-r.learnt c.in_ok-new.new (LastPointKnown c.loop-r.r c.args.point) (LastKnownAt c.args.point c.loop-r.r) (LastPointKnown (c.loop-r.r + 1) c.args.point)
           c.loop-r.invariant.grows c.in_ok-new.ensures.grows c.loop-r.invariant.inferred here
-          (λ below at_r r inside. one_more (λ s. LastKnownAt c.args.point s (state_of (reader g.P.Paths.timeline g.L.LastValues.values) g.W.Partial.sets g.W.Transfer.moves g.R.RowRules.rules g.B.ByteFacts.store c.args.self.now.propagation.facts)) c.loop-r.r below at_r r inside);
-      known = λ r inside. one_more (λ s. LastKnownAt c.args.point s (state_of (reader g.P.Paths.timeline g.L.LastValues.values) g.W.Partial.sets g.W.Transfer.moves g.R.RowRules.rules g.B.ByteFacts.store c.infer_last.new.self.propagation.facts)) c.loop-r.r before there r inside;
+          (λ below at_r r inside. one_more (λ s. LastKnownAt c.args.point s (state_of g.W.Partial.sets g.W.Transfer.moves g.R.RowRules.rules g.B.ByteFacts.store c.args.self.now.propagation.facts)) c.loop-r.r below at_r r inside);
+      known = λ r inside. one_more (λ s. LastKnownAt c.args.point s (state_of g.W.Partial.sets g.W.Transfer.moves g.R.RowRules.rules g.B.ByteFacts.store c.infer_last.new.self.propagation.facts)) c.loop-r.r before there r inside;
       ends = λ h. c.in_ok-new.ensures.ends (c.loop-r.invariant.ends h);
     }
 
@@ -48,4 +48,4 @@ pub returns-clause-ends : goal.returns-clause-ends
 returns-clause-ends g c = c.loop-r.invariant.ends
 
 pub returns-in_err-new-clause-calm : goal.returns-in_err-new-clause-calm
-returns-in_err-new-clause-calm g c = any_err c.from_residual.result (HasEndsAlone (state_of (reader g.P.Paths.timeline g.L.LastValues.values) g.W.Partial.sets g.W.Transfer.moves g.R.RowRules.rules g.B.ByteFacts.store c.args.self.now.propagation.facts) → ⊥) (λ h. c.in_err-new.ensures.calm (c.loop-r.invariant.ends h))
+returns-in_err-new-clause-calm g c = any_err c.from_residual.result (HasEndsAlone (state_of g.W.Partial.sets g.W.Transfer.moves g.R.RowRules.rules g.B.ByteFacts.store c.args.self.now.propagation.facts) → ⊥) (λ h. c.in_err-new.ensures.calm (c.loop-r.invariant.ends h))

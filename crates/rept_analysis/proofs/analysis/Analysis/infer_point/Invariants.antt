@@ -1,10 +1,10 @@
-use Rattle.rept_facts.specs.State.{state_of, reader}
+use Rattle.rept_facts.specs.State.{state_of}
 use Rattle.rept_facts.specs.Inferring.{Grows, HasInferred, PointSingles}
 use Rattle.rept_analysis.proofs.analysis.Analysis.infer_point.Given as goal
 
 abbrev pub invariant-loop-r : goal.invariant-loop-r
 invariant-loop-r g l =
-    let st = state_of (reader g.P.Paths.timeline g.L.LastValues.values) g.W.Partial.sets g.W.Transfer.moves g.R.RowRules.rules g.B.ByteFacts.store in
+    let st = state_of g.W.Partial.sets g.W.Transfer.moves g.R.RowRules.rules g.B.ByteFacts.store in
     record {
       grows : Grows (st l.fn.self.propagation.facts) (st l.self.propagation.facts);
       inferred : HasInferred (st l.fn.self.propagation.facts) (st l.self.propagation.facts) l.learnt (PointSingles l.r l.point);

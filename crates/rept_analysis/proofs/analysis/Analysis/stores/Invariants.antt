@@ -1,3 +1,4 @@
+use Rattle.rept_timeline.specs.Paths.{timeline}
 use Rattle.std.proofs.Common.{◌≡◌, ◌≤◌}
 use Rattle.rept_reason.specs.Facts.{told}
 use Rattle.rept_report.specs.Log.{oldest}
@@ -6,7 +7,7 @@ use Rattle.rept_analysis.proofs.analysis.Analysis.stores.Given as goal
 
 abbrev pub invariant-loop-i : goal.invariant-loop-i
 invariant-loop-i g l = record {
-  value : l.sum ≡ stores_below (g.P.Paths.timeline l.self.propagation.facts.paths).legs (told (oldest l.self.propagation.facts.shown l.self.propagation.facts.known.log)) l.known l.i;
+  value : l.sum ≡ stores_below (timeline l.self.propagation.facts.paths).legs (told (oldest l.self.propagation.facts.shown l.self.propagation.facts.known.log)) l.known l.i;
   few : l.sum ≤ l.i;
-  count : l.count ≡ (g.P.Paths.timeline l.self.propagation.facts.paths).legs.count;
+  count : l.count ≡ (timeline l.self.propagation.facts.paths).legs.count;
 }

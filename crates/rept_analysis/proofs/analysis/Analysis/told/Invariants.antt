@@ -1,3 +1,4 @@
+use Rattle.rept_timeline.specs.Paths.{timeline}
 use Rattle.std.proofs.Common.{◌≡◌, ◌≤◌, ◌*◌}
 use Rattle.rept_reason.specs.Facts.{told}
 use Rattle.rept_report.specs.Log.{oldest}
@@ -8,5 +9,5 @@ abbrev pub invariant-loop-point : goal.invariant-loop-point
 invariant-loop-point g l = record {
   value : l.sum ≡ known_below (told (oldest l.self.propagation.facts.shown l.self.propagation.facts.known.log)) l.point;
   few : l.sum ≤ 32 * l.point;
-  count : l.count ≡ (g.P.Paths.timeline l.self.propagation.facts.paths).legs.count;
+  count : l.count ≡ (timeline l.self.propagation.facts.paths).legs.count;
 }

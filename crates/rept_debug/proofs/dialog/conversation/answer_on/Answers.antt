@@ -35,11 +35,11 @@ dialog-smaller g c =
     let taken = arrives_next c.dialog.packets c.next.new.self (g.S.Source.port c.dialog.input) (g.S.Source.port c.next.new.source) c.in-Ok-next.arrival c.in-Ok-next.ensures in
     omega (arith, taken.1.took.within, takes_some c.dialog.packets c.next.new.self (move (g.S.Source.port c.dialog.input) (g.S.Source.port c.next.new.source)) c.in-Ok-next.arrival taken)
 
-pub returns-in-Err-clause-talk : goal.returns-in-Err-clause-talk
-returns-in-Err-clause-talk g c = λ input output h. (c.dialog.invariant.waits input output h).arrival
+pub returns-in-Err : goal.returns-in-Err
+returns-in-Err g c = λ input output h. (c.dialog.invariant.waits input output h).arrival
 
-pub returns-in-Err-write_all-clause-talk : goal.returns-in-Err-write_all-clause-talk
-returns-in-Err-write_all-clause-talk g c = λ input output h.
+pub returns-in-Err-write_all : goal.returns-in-Err-write_all
+returns-in-Err-write_all g c = λ input output h.
     let s = g.F.Findings.shown c.args.findings.now in
     let here = c.dialog.invariant in
     let parties : Parties = parties_over (session_told s c.args.setting.skipped (g.F.Findings.reasons c.args.findings.now)) c.args.setting in
@@ -50,8 +50,8 @@ returns-in-Err-write_all-clause-talk g c = λ input output h.
     let cause = c.in-Err-write_all.ensures.cause in
     broke (rules_of parties) (longer parties) input (g.S.Source.port c.dialog.input) output (g.K.Sink.port c.dialog.out) c.dialog.dialog c.dialog.packets c.dialog.arrival (here.waits input output h) (g.K.Sink.port c.write_all.new.sink) c.in-Ok.text c.take_turn.new.dialog turned wrote (record { rose = cause.failed; later = cause.later; once = cause.once })
 
-pub returns-then-dialog-clause-talk : goal.returns-then-dialog-clause-talk
-returns-then-dialog-clause-talk g c = λ input output h.
+pub returns-then-dialog : goal.returns-then-dialog
+returns-then-dialog g c = λ input output h.
     let s = g.F.Findings.shown c.args.findings.now in
     let here = c.dialog.invariant in
     let parties : Parties = parties_over (session_told s c.args.setting.skipped (g.F.Findings.reasons c.args.findings.now)) c.args.setting in
@@ -67,8 +67,8 @@ returns-then-dialog-clause-talk g c = λ input output h.
       left = c.if-dialog.true;
     }
 
-pub returns-in-Err-next-clause-talk : goal.returns-in-Err-next-clause-talk
-returns-in-Err-next-clause-talk g c = λ input output h.
+pub returns-in-Err-next : goal.returns-in-Err-next
+returns-in-Err-next g c = λ input output h.
     let s = g.F.Findings.shown c.args.findings.now in
     let here = c.dialog.invariant in
     let parties : Parties = parties_over (session_told s c.args.setting.skipped (g.F.Findings.reasons c.args.findings.now)) c.args.setting in

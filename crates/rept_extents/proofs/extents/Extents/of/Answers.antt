@@ -1,6 +1,6 @@
 use Rattle.std.proofs.Common.{subst}
 use Rattle.rept_moments.specs.declared.course.NumberedRun.{NumberedRun}
-use Rattle.rept_timeline.specs.Times.{time_of}
+use Rattle.rept_extents.specs.Timelines.{time_of}
 use Rattle.rept_extents.specs.Extents.{AreExtents}
 use Rattle.rept_extents.proofs.extents.Extents.of.Goals as goal
 

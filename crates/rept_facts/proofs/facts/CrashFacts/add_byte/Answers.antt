@@ -1,6 +1,6 @@
 use Rattle.std.proofs.Common.{true, sym, subst, ap, ◌∙◌}
 use Rattle.rept_reason.specs.declared.fact.Cell.TheVariants.{Byte}
-use Rattle.rept_facts.specs.State.{AnalysisState, state_of, reader}
+use Rattle.rept_facts.specs.State.{AnalysisState, state_of}
 use Rattle.rept_facts.specs.Inferring.{Knows}
 use Rattle.rept_facts.proofs.Conclusion.{Grows_same, HasInferred_new, clash_found, HasInferred_none}
 use Rattle.rept_facts.proofs.facts.CrashFacts.add_byte.Goals as goal
@@ -9,7 +9,7 @@ pub returns-in-Ok-New-clause-inferred : goal.returns-in-Ok-New-clause-inferred
 returns-in-Ok-New-clause-inferred g c =
     let told = rw c.in-Ok-New.field-0-is at c.in-Ok-New.ensures in
     let P : AnalysisState g.row.W.Denot → Type 0 = Knows c.args.point (Byte c.args.a) c.args.value in
-    HasInferred_new (state_of (reader g.P.Paths.timeline g.L.LastValues.values) g.W.Partial.sets g.W.Transfer.moves g.R.RowRules.rules g.B.ByteFacts.store c.args.self.now) (state_of (reader g.P.Paths.timeline g.L.LastValues.values) g.W.Partial.sets g.W.Transfer.moves g.R.RowRules.rules g.B.ByteFacts.store c.tell_byte.new.self) P told.news told.still
+    HasInferred_new (state_of g.W.Partial.sets g.W.Transfer.moves g.R.RowRules.rules g.B.ByteFacts.store c.args.self.now) (state_of g.W.Partial.sets g.W.Transfer.moves g.R.RowRules.rules g.B.ByteFacts.store c.tell_byte.new.self) P told.news told.still
 
 pub returns-in-Ok-Clash-clause-halt : goal.returns-in-Ok-Clash-clause-halt
 returns-in-Ok-Clash-clause-halt g c =
@@ -48,7 +48,7 @@ pub returns-in-Ok-Old-clause-inferred : goal.returns-in-Ok-Old-clause-inferred
 returns-in-Ok-Old-clause-inferred g c =
     let told = rw c.in-Ok-Old.field-0-is at c.in-Ok-Old.ensures in
     let P : AnalysisState g.row.W.Denot → Type 0 = Knows c.args.point (Byte c.args.a) c.args.value in
-    HasInferred_none (state_of (reader g.P.Paths.timeline g.L.LastValues.values) g.W.Partial.sets g.W.Transfer.moves g.R.RowRules.rules g.B.ByteFacts.store c.args.self.now) (state_of (reader g.P.Paths.timeline g.L.LastValues.values) g.W.Partial.sets g.W.Transfer.moves g.R.RowRules.rules g.B.ByteFacts.store c.tell_byte.new.self) P told.0 told.1
+    HasInferred_none (state_of g.W.Partial.sets g.W.Transfer.moves g.R.RowRules.rules g.B.ByteFacts.store c.args.self.now) (state_of g.W.Partial.sets g.W.Transfer.moves g.R.RowRules.rules g.B.ByteFacts.store c.tell_byte.new.self) P told.0 told.1
 
 pub returns-in-Ok-Old-clause-known : goal.returns-in-Ok-Old-clause-known
 returns-in-Ok-Old-clause-known g c =

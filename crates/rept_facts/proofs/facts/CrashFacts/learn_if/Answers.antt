@@ -1,6 +1,6 @@
 use Rattle.std.proofs.Common.{◌<◌, arith}
 use Rattle.rept_reason.specs.declared.fact.Cell.TheVariants.{Register}
-use Rattle.rept_facts.specs.State.{state_of, reader}
+use Rattle.rept_facts.specs.State.{state_of}
 use Rattle.rept_facts.specs.Inferring.{Knows, IsLearntAt}
 use Rattle.rept_facts.proofs.Conclusion.{HasInferred_if}
 use Rattle.rept_facts.proofs.Following.{learnt_at}
@@ -14,4 +14,4 @@ learn-requires-clause-follows g c =
 
 pub returns-in-Known-clause-inferred : goal.returns-in-Known-clause-inferred
 returns-in-Known-clause-inferred g c =
-    HasInferred_if _ _ c.learn.result (Knows c.args.point (Register c.args.r) c.in-Known.value) (IsLearntAt c.args.point c.args.r c.args.value) c.learn.ensures.inferred (λ h. learnt_at (state_of (reader g.P.Paths.timeline g.L.LastValues.values) g.W.Partial.sets g.W.Transfer.moves g.R.RowRules.rules g.B.ByteFacts.store c.args.self.now) c.args.point c.args.r c.in-Known.value c.args.value c.in-Known.is h)
+    HasInferred_if _ _ c.learn.result (Knows c.args.point (Register c.args.r) c.in-Known.value) (IsLearntAt c.args.point c.args.r c.args.value) c.learn.ensures.inferred (λ h. learnt_at (state_of g.W.Partial.sets g.W.Transfer.moves g.R.RowRules.rules g.B.ByteFacts.store c.args.self.now) c.args.point c.args.r c.in-Known.value c.args.value c.in-Known.is h)

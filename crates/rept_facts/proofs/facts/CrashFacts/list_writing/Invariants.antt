@@ -1,11 +1,11 @@
 use Rattle.std.proofs.Common.{◌≡◌, ◌≤◌, ◌+◌, length}
-use Rattle.rept_facts.specs.State.{state_of, with_writing, reader}
+use Rattle.rept_facts.specs.State.{state_of, with_writing}
 use Rattle.rept_facts.specs.Inferring.{AreWritingsBefore}
 use Rattle.rept_facts.proofs.facts.CrashFacts.list_writing.Given as goal
 
 abbrev pub invariant-loop-number : goal.invariant-loop-number
 invariant-loop-number g l =
-    let st = state_of (reader g.P.Paths.timeline g.L.LastValues.values) g.W.Partial.sets g.W.Transfer.moves g.R.RowRules.rules g.B.ByteFacts.store in
+    let st = state_of g.W.Partial.sets g.W.Transfer.moves g.R.RowRules.rules g.B.ByteFacts.store in
     record {
       same : st l.self ≡ with_writing (st l.fn.self) (st l.self).work.writing;
       room : length (st l.self).work.writing ≤ l.number;

@@ -5,4 +5,4 @@ use Rattle.rept_facts.proofs.facts.CrashFacts.next_meeting.Goals as goal
 
 pub returns-clause-next : goal.returns-clause-next
 returns-clause-next g c =
-    subst (λ (x : Whole g.row.P.Denot g.row.L.Denot g.row.B.Denot g.row.W.Denot g.row.R.Denot). IsNextMeeting x.work.writing c.args.k (record { from = c.args.m; to = c.args.w; address = c.args.a }) c.next_meeting.result) c.self.view_is c.next_meeting.ensures
+    subst (λ (x : Whole g.row.B.Denot g.row.W.Denot g.row.R.Denot). IsNextMeeting x.work.writing c.args.k (record { from = c.args.m; to = c.args.w; address = c.args.a }) c.next_meeting.result) c.self.view_is c.next_meeting.ensures

@@ -7,7 +7,7 @@ use Rattle.rept_facts.proofs.facts.CrashFacts.restart.Goals as goal
 
 pub invariant_of-self : goal.invariant_of-self
 invariant_of-self g c =
-    let open_ = subst (λ (x : Whole g.row.P.Denot g.row.L.Denot g.row.B.Denot g.row.W.Denot g.row.R.Denot). x.complete ≡ false) (sym c.self.view_is) c.requires.open in
+    let open_ = subst (λ (x : Whole g.row.B.Denot g.row.W.Denot g.row.R.Denot). x.complete ≡ false) (sym c.self.view_is) c.requires.open in
     kept_never _ c.self.invariant open_ c.clear.new.self c.clear.ensures.length c.clear.ensures.never
 
 pub returns-clause-continues : goal.returns-clause-continues

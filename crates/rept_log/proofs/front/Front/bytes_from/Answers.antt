@@ -8,4 +8,4 @@ returns g c =
     let past = c.loop-k-test.false in
     let most = c.loop-k.auto.k-end in
     let same : c.loop-k.k ≡ c.args.count = omega arith in
-    c.loop-k.invariant ∙ ap (λ (n : ℕ). bytes_from (seen_in (front_of g.W.Partial.sets g.W.Transfer.moves g.R.RowRules.rules (basis_of g.P.Paths.timeline g.L.LastValues.values c.args.self.now)) c.args.i) c.args.base n) same
+    c.loop-k.invariant ∙ ap (λ (n : ℕ). bytes_from (seen_in (front_of g.W.Partial.sets g.W.Transfer.moves g.R.RowRules.rules (basis_of c.args.self.now)) c.args.i) c.args.base n) same

@@ -1,3 +1,4 @@
+use Rattle.rept_timeline.specs.Paths.{timeline}
 use Rattle.std.proofs.Common.{sym, ◌∙◌}
 use Rattle.std.proofs.lemmas.Result.{IfOk-weaker}
 use Rattle.rept_log.specs.Fronts.{basis_of, front_of, AreNotInferredBefore}
@@ -6,6 +7,6 @@ use Rattle.rept_log.proofs.front.Front.of_inferred_byte.Goals as goal
 
 pub returns-clause-none : goal.returns-clause-none
 returns-clause-none g c =
-    let f = front_of g.W.Partial.sets g.W.Transfer.moves g.R.RowRules.rules (basis_of g.P.Paths.timeline g.L.LastValues.values c.args.self.now) in
-    let before = if_none (AreNotInferredBefore f (g.P.Paths.timeline c.args.self.now.paths).legs.count c.args.fact.now) c.in_ok-found.found (sym c.is_some.ensures ∙ c.if-is_some.false) c.in_ok-found.ensures.none in
+    let f = front_of g.W.Partial.sets g.W.Transfer.moves g.R.RowRules.rules (basis_of c.args.self.now) in
+    let before = if_none (AreNotInferredBefore f (timeline c.args.self.now.paths).legs.count c.args.fact.now) c.in_ok-found.found (sym c.is_some.ensures ∙ c.if-is_some.false) c.in_ok-found.ensures.none in
     IfOk-weaker c.inferred_after.result _ _ (λ found h. none_after _ _ found (λ after. not_inferred_byte f c.args.fact.now c.args.a c.requires c.count-count.ensures.laws.legs before after) h) c.inferred_after.ensures.none

@@ -9,7 +9,7 @@ use Rattle.rept_log.proofs.front.Front.row_bytes.Goals as goal
 
 pub returns-in-Some : goal.returns-in-Some
 returns-in-Some g c =
-    let s = seen_in (front_of g.W.Partial.sets g.W.Transfer.moves g.R.RowRules.rules (basis_of g.P.Paths.timeline g.L.LastValues.values c.args.self.now)) c.args.i in
+    let s = seen_in (front_of g.W.Partial.sets g.W.Transfer.moves g.R.RowRules.rules (basis_of c.args.self.now)) c.args.i in
     let fits : FitsSigned w32 c.offset_of.result = record { sfits = c.offset_of.type_inv } in
     let first : c.plus-first.result ≡ plus c.in-Some.base c.offset_of.result = rw (to_z-of_z w32 c.offset_of.result fits) at c.plus-first.ensures in
     let at = first ∙ ap (plus c.in-Some.base) c.offset_of.ensures in

@@ -1,5 +1,5 @@
 use Rattle.std.proofs.Common.{arith, ◌≡◌, ◌∙◌, ℕ, List, Option, Some, None, refl, sym}
-use Rattle.rept_facts.specs.State.{state_of, reader}
+use Rattle.rept_facts.specs.State.{state_of}
 use Rattle.rept_propagate.proofs.Likeness.{shared_more, shared_all}
 use Rattle.rept_writing.specs.declared.list.Writing.{Writing}
 use Rattle.rept_writing.specs.Hits.{IsNextHitBelow}
@@ -33,12 +33,12 @@ loop-preserved g c =
     let next = rw c.in-Some.is at c.next_hit.ensures.next in
     let low = next.0 in
     record {
-      shared = shared_more c.args.a c.args.b (state_of (reader g.P.Paths.timeline g.L.LastValues.values) g.W.Partial.sets g.W.Transfer.moves g.R.RowRules.rules g.B.ByteFacts.store c.args.self.now.facts) c.loop.k c.in-Some.hit c.entry.result c.loop.invariant.shared next.1 c.entry.ensures.found (sym c.may_hit.ensures ∙ c.if-not-may_hit.false);
+      shared = shared_more c.args.a c.args.b (state_of g.W.Partial.sets g.W.Transfer.moves g.R.RowRules.rules g.B.ByteFacts.store c.args.self.now.facts) c.loop.k c.in-Some.hit c.entry.result c.loop.invariant.shared next.1 c.entry.ensures.found (sym c.may_hit.ensures ∙ c.if-not-may_hit.false);
       within = omega (arith, low);
     }
 
 pub returns-in_default : goal.returns-in_default
-returns-in_default g c = λ _. shared_all c.args.a c.args.b (state_of (reader g.P.Paths.timeline g.L.LastValues.values) g.W.Partial.sets g.W.Transfer.moves g.R.RowRules.rules g.B.ByteFacts.store c.args.self.now.facts) c.loop.k c.writing_count-end.result c.writing_count-end.ensures c.loop.invariant.shared (no_hit c.args.self.now.facts.work.writing c.loop.k c.writing_count-end.result c.args.a c.next_hit.result c.in_default.not-Some c.next_hit.ensures.next)
+returns-in_default g c = λ _. shared_all c.args.a c.args.b (state_of g.W.Partial.sets g.W.Transfer.moves g.R.RowRules.rules g.B.ByteFacts.store c.args.self.now.facts) c.loop.k c.writing_count-end.result c.writing_count-end.ensures c.loop.invariant.shared (no_hit c.args.self.now.facts.work.writing c.loop.k c.writing_count-end.result c.args.a c.next_hit.result c.in_default.not-Some c.next_hit.ensures.next)
 
 pub returns-then-not-may_hit : goal.returns-then-not-may_hit
 returns-then-not-may_hit g c = λ e. absurd (false≢true e)

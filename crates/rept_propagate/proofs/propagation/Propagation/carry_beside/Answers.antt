@@ -1,6 +1,6 @@
 use Rattle.std.proofs.Common.{◌≡◌, ◌+◌, ◌||◌, ℕ, Some, inl, inr, arith, ◌∙◌}
 use Rattle.rept_report.specs.Spots.{passage}
-use Rattle.rept_facts.specs.State.{AnalysisState, state_of, reader}
+use Rattle.rept_facts.specs.State.{AnalysisState, state_of}
 use Rattle.rept_facts.specs.Inferring.{IsCarriedFrom, IsCarriedIf, IsCarriedBeside}
 use Rattle.rept_facts.proofs.Conclusion.{HasInferred_both, Grows_trans}
 use Rattle.rept_facts.proofs.Listing.{writings_after}
@@ -14,23 +14,23 @@ pub carry_segment-requires-clause-to : goal.carry_segment-requires-clause-to
 carry_segment-requires-clause-to g c = let within = c.piece-piece.ensures.within in let inside = c.requires.strip.inside in omega (arith, within, inside)
 
 pub carry_end-requires-clause-writings : goal.carry_end-requires-clause-writings
-carry_end-requires-clause-writings g c = writings_after (state_of (reader g.P.Paths.timeline g.L.LastValues.values) g.W.Partial.sets g.W.Transfer.moves g.R.RowRules.rules g.B.ByteFacts.store c.args.self.now.facts) (state_of (reader g.P.Paths.timeline g.L.LastValues.values) g.W.Partial.sets g.W.Transfer.moves g.R.RowRules.rules g.B.ByteFacts.store c.carry_segment.new.self.facts) c.in_ok-inside.ensures.grows c.requires.writings
+carry_end-requires-clause-writings g c = writings_after (state_of g.W.Partial.sets g.W.Transfer.moves g.R.RowRules.rules g.B.ByteFacts.store c.args.self.now.facts) (state_of g.W.Partial.sets g.W.Transfer.moves g.R.RowRules.rules g.B.ByteFacts.store c.carry_segment.new.self.facts) c.in_ok-inside.ensures.grows c.requires.writings
 
 pub carry_end-requires-clause-next : goal.carry_end-requires-clause-next
-carry_end-requires-clause-next g c = λ i is. next_after (state_of (reader g.P.Paths.timeline g.L.LastValues.values) g.W.Partial.sets g.W.Transfer.moves g.R.RowRules.rules g.B.ByteFacts.store c.args.self.now.facts) (state_of (reader g.P.Paths.timeline g.L.LastValues.values) g.W.Partial.sets g.W.Transfer.moves g.R.RowRules.rules g.B.ByteFacts.store c.carry_segment.new.self.facts) c.in_ok-inside.ensures.grows i (i + 1) (c.piece-piece.ensures.ends i (inl is))
+carry_end-requires-clause-next g c = λ i is. next_after (state_of g.W.Partial.sets g.W.Transfer.moves g.R.RowRules.rules g.B.ByteFacts.store c.args.self.now.facts) (state_of g.W.Partial.sets g.W.Transfer.moves g.R.RowRules.rules g.B.ByteFacts.store c.carry_segment.new.self.facts) c.in_ok-inside.ensures.grows i (i + 1) (c.piece-piece.ensures.ends i (inl is))
 
 pub carry_end-requires-2-clause-writings : goal.carry_end-requires-2-clause-writings
 carry_end-requires-2-clause-writings g c =
-    let s = (state_of (reader g.P.Paths.timeline g.L.LastValues.values) g.W.Partial.sets g.W.Transfer.moves g.R.RowRules.rules g.B.ByteFacts.store c.args.self.now.facts) in
-    let t = (state_of (reader g.P.Paths.timeline g.L.LastValues.values) g.W.Partial.sets g.W.Transfer.moves g.R.RowRules.rules g.B.ByteFacts.store c.carry_segment.new.self.facts) in
-    let u = (state_of (reader g.P.Paths.timeline g.L.LastValues.values) g.W.Partial.sets g.W.Transfer.moves g.R.RowRules.rules g.B.ByteFacts.store c.carry_end.new.self.facts) in
+    let s = (state_of g.W.Partial.sets g.W.Transfer.moves g.R.RowRules.rules g.B.ByteFacts.store c.args.self.now.facts) in
+    let t = (state_of g.W.Partial.sets g.W.Transfer.moves g.R.RowRules.rules g.B.ByteFacts.store c.carry_segment.new.self.facts) in
+    let u = (state_of g.W.Partial.sets g.W.Transfer.moves g.R.RowRules.rules g.B.ByteFacts.store c.carry_end.new.self.facts) in
     writings_after s u (Grows_trans s t u c.in_ok-inside.ensures.grows c.in_ok-before.ensures.grows) c.requires.writings
 
 pub carry_end-requires-2-clause-next : goal.carry_end-requires-2-clause-next
 carry_end-requires-2-clause-next g c =
-    let s = (state_of (reader g.P.Paths.timeline g.L.LastValues.values) g.W.Partial.sets g.W.Transfer.moves g.R.RowRules.rules g.B.ByteFacts.store c.args.self.now.facts) in
-    let t = (state_of (reader g.P.Paths.timeline g.L.LastValues.values) g.W.Partial.sets g.W.Transfer.moves g.R.RowRules.rules g.B.ByteFacts.store c.carry_segment.new.self.facts) in
-    let u = (state_of (reader g.P.Paths.timeline g.L.LastValues.values) g.W.Partial.sets g.W.Transfer.moves g.R.RowRules.rules g.B.ByteFacts.store c.carry_end.new.self.facts) in
+    let s = (state_of g.W.Partial.sets g.W.Transfer.moves g.R.RowRules.rules g.B.ByteFacts.store c.args.self.now.facts) in
+    let t = (state_of g.W.Partial.sets g.W.Transfer.moves g.R.RowRules.rules g.B.ByteFacts.store c.carry_segment.new.self.facts) in
+    let u = (state_of g.W.Partial.sets g.W.Transfer.moves g.R.RowRules.rules g.B.ByteFacts.store c.carry_end.new.self.facts) in
     λ i is. next_after s u (Grows_trans s t u c.in_ok-inside.ensures.grows c.in_ok-before.ensures.grows) i (i + 1) (c.piece-piece.ensures.ends i (inr is))
 
 pub returns-in_err-before-clause-grows : goal.returns-in_err-before-clause-grows
@@ -44,10 +44,10 @@ returns-clause-grows g c = Grows_trans _ _ _ (Grows_trans _ _ _ c.in_ok-inside.e
 
 pub returns-clause-inferred : goal.returns-clause-inferred
 returns-clause-inferred g c =
-    let s = (state_of (reader g.P.Paths.timeline g.L.LastValues.values) g.W.Partial.sets g.W.Transfer.moves g.R.RowRules.rules g.B.ByteFacts.store c.args.self.now.facts) in
-    let t = (state_of (reader g.P.Paths.timeline g.L.LastValues.values) g.W.Partial.sets g.W.Transfer.moves g.R.RowRules.rules g.B.ByteFacts.store c.carry_segment.new.self.facts) in
-    let u = (state_of (reader g.P.Paths.timeline g.L.LastValues.values) g.W.Partial.sets g.W.Transfer.moves g.R.RowRules.rules g.B.ByteFacts.store c.carry_end.new.self.facts) in
-    let v = (state_of (reader g.P.Paths.timeline g.L.LastValues.values) g.W.Partial.sets g.W.Transfer.moves g.R.RowRules.rules g.B.ByteFacts.store c.carry_end-2.new.self.facts) in
+    let s = (state_of g.W.Partial.sets g.W.Transfer.moves g.R.RowRules.rules g.B.ByteFacts.store c.args.self.now.facts) in
+    let t = (state_of g.W.Partial.sets g.W.Transfer.moves g.R.RowRules.rules g.B.ByteFacts.store c.carry_segment.new.self.facts) in
+    let u = (state_of g.W.Partial.sets g.W.Transfer.moves g.R.RowRules.rules g.B.ByteFacts.store c.carry_end.new.self.facts) in
+    let v = (state_of g.W.Partial.sets g.W.Transfer.moves g.R.RowRules.rules g.B.ByteFacts.store c.carry_end-2.new.self.facts) in
     let a = c.args.a in
     let piece = c.piece-piece.result in
     let P : AnalysisState g.row.W.Denot → Type 0 = λ x. (i : ℕ) → piece.before ≡ Some i → IsCarriedIf (passage a i (i + 1)) x in

@@ -1,6 +1,7 @@
+use Rattle.rept_timeline.specs.Paths.{lawful}
 use Rattle.std.proofs.Common.{◌+◌, Some, None, refl, false, arith}
 use Rattle.rept_versions.specs.Facts.{Nexts}
-use Rattle.rept_facts.specs.State.{AnalysisState, state_of, reader}
+use Rattle.rept_facts.specs.State.{AnalysisState, state_of}
 use Rattle.rept_facts.specs.Inferring.{IsCarriedBeside, IsCarriedBelow, IsCarriedIn}
 use Rattle.rept_facts.proofs.Conclusion.{HasInferred_as, HasInferred_both, HasInferred_first, HasInferred_same, Grows_itself, Grows_trans}
 use Rattle.rept_facts.proofs.Listing.{writings_after}
@@ -12,8 +13,8 @@ loop-from-init g c = record { grows = Grows_itself _; inferred = HasInferred_sam
 
 pub returns-in_default-clause-inferred : goal.returns-in_default-clause-inferred
 returns-in_default-clause-inferred g c =
-    let s = (state_of (reader g.P.Paths.timeline g.L.LastValues.values) g.W.Partial.sets g.W.Transfer.moves g.R.RowRules.rules g.B.ByteFacts.store c.args.self.now.facts) in
-    let t = (state_of (reader g.P.Paths.timeline g.L.LastValues.values) g.W.Partial.sets g.W.Transfer.moves g.R.RowRules.rules g.B.ByteFacts.store c.loop-from.self.facts) in
+    let s = (state_of g.W.Partial.sets g.W.Transfer.moves g.R.RowRules.rules g.B.ByteFacts.store c.args.self.now.facts) in
+    let t = (state_of g.W.Partial.sets g.W.Transfer.moves g.R.RowRules.rules g.B.ByteFacts.store c.loop-from.self.facts) in
     let a = c.args.a in
     let from = c.loop-from.from in
     let Q : AnalysisState g.row.W.Denot → Type 0 = λ x. Nexts x.known.store.fact a from None in
@@ -21,8 +22,8 @@ returns-in_default-clause-inferred g c =
 
 pub returns-then-point-strip-clause-inferred : goal.returns-then-point-strip-clause-inferred
 returns-then-point-strip-clause-inferred g c =
-    let s = (state_of (reader g.P.Paths.timeline g.L.LastValues.values) g.W.Partial.sets g.W.Transfer.moves g.R.RowRules.rules g.B.ByteFacts.store c.args.self.now.facts) in
-    let t = (state_of (reader g.P.Paths.timeline g.L.LastValues.values) g.W.Partial.sets g.W.Transfer.moves g.R.RowRules.rules g.B.ByteFacts.store c.loop-from.self.facts) in
+    let s = (state_of g.W.Partial.sets g.W.Transfer.moves g.R.RowRules.rules g.B.ByteFacts.store c.args.self.now.facts) in
+    let t = (state_of g.W.Partial.sets g.W.Transfer.moves g.R.RowRules.rules g.B.ByteFacts.store c.loop-from.self.facts) in
     let a = c.args.a in
     let from = c.loop-from.from in
     let Q : AnalysisState g.row.W.Denot → Type 0 = λ x. Nexts x.known.store.fact a from (Some c.in-Some.stretch) in
@@ -30,26 +31,26 @@ returns-then-point-strip-clause-inferred g c =
 
 pub carry_beside-requires-clause-strip : goal.carry_beside-requires-clause-strip
 carry_beside-requires-clause-strip g c =
-    let t = (state_of (reader g.P.Paths.timeline g.L.LastValues.values) g.W.Partial.sets g.W.Transfer.moves g.R.RowRules.rules g.B.ByteFacts.store c.loop-from.self.facts) in
+    let t = (state_of g.W.Partial.sets g.W.Transfer.moves g.R.RowRules.rules g.B.ByteFacts.store c.loop-from.self.facts) in
     let onward = edge_onward t c.args.a c.loop-from.from c.in-Some.stretch (rw c.in-Some.is at c.stretch.ensures) c.edge-point.result c.edge-point.ensures in
     let least = c.loop-from.invariant.least in
     let inside = c.if-point-strip.false in
-    strip_after (state_of (reader g.P.Paths.timeline g.L.LastValues.values) g.W.Partial.sets g.W.Transfer.moves g.R.RowRules.rules g.B.ByteFacts.store c.args.self.now.facts) t c.loop-from.invariant.grows c.edge-point.result c.args.strip (strip_at _ c.args.strip.first c.edge-point.result c.args.strip c.requires.strip (omega (arith, onward, least)) inside)
+    strip_after (state_of g.W.Partial.sets g.W.Transfer.moves g.R.RowRules.rules g.B.ByteFacts.store c.args.self.now.facts) t c.loop-from.invariant.grows c.edge-point.result c.args.strip (strip_at _ c.args.strip.first c.edge-point.result c.args.strip c.requires.strip (omega (arith, onward, least)) inside)
 
 pub carry_beside-requires-clause-calm : goal.carry_beside-requires-clause-calm
-carry_beside-requires-clause-calm g c = calm_after (state_of (reader g.P.Paths.timeline g.L.LastValues.values) g.W.Partial.sets g.W.Transfer.moves g.R.RowRules.rules g.B.ByteFacts.store c.args.self.now.facts) (state_of (reader g.P.Paths.timeline g.L.LastValues.values) g.W.Partial.sets g.W.Transfer.moves g.R.RowRules.rules g.B.ByteFacts.store c.loop-from.self.facts) (record { sets = g.met.W.Partial.lawful; moves = g.met.W.Transfer.covers; rules = g.met.R.RowRules.lawful; legs = (g.met.P.Paths.lawful _).legs; moments = (g.met.P.Paths.lawful _).moments }) c.held.ensures c.loop-from.invariant.grows c.args.a (omega arith) c.args.strip c.requires.calm
+carry_beside-requires-clause-calm g c = calm_after (state_of g.W.Partial.sets g.W.Transfer.moves g.R.RowRules.rules g.B.ByteFacts.store c.args.self.now.facts) (state_of g.W.Partial.sets g.W.Transfer.moves g.R.RowRules.rules g.B.ByteFacts.store c.loop-from.self.facts) (record { sets = g.met.W.Partial.lawful; moves = g.met.W.Transfer.covers; rules = g.met.R.RowRules.lawful; legs = (lawful c.args.self.now.facts.paths).legs; moments = (lawful c.args.self.now.facts.paths).moments }) c.held.ensures c.loop-from.invariant.grows c.args.a (omega arith) c.args.strip c.requires.calm
 
 pub carry_beside-requires-clause-writings : goal.carry_beside-requires-clause-writings
-carry_beside-requires-clause-writings g c = writings_after (state_of (reader g.P.Paths.timeline g.L.LastValues.values) g.W.Partial.sets g.W.Transfer.moves g.R.RowRules.rules g.B.ByteFacts.store c.args.self.now.facts) (state_of (reader g.P.Paths.timeline g.L.LastValues.values) g.W.Partial.sets g.W.Transfer.moves g.R.RowRules.rules g.B.ByteFacts.store c.loop-from.self.facts) c.loop-from.invariant.grows c.requires.writings
+carry_beside-requires-clause-writings g c = writings_after (state_of g.W.Partial.sets g.W.Transfer.moves g.R.RowRules.rules g.B.ByteFacts.store c.args.self.now.facts) (state_of g.W.Partial.sets g.W.Transfer.moves g.R.RowRules.rules g.B.ByteFacts.store c.loop-from.self.facts) c.loop-from.invariant.grows c.requires.writings
 
 pub returns-in_err-beside-clause-grows : goal.returns-in_err-beside-clause-grows
 returns-in_err-beside-clause-grows g c = Grows_trans _ _ _ c.loop-from.invariant.grows c.carry_beside.ensures.grows
 
 pub loop-from-preserved : goal.loop-from-preserved
 loop-from-preserved g c =
-    let s = (state_of (reader g.P.Paths.timeline g.L.LastValues.values) g.W.Partial.sets g.W.Transfer.moves g.R.RowRules.rules g.B.ByteFacts.store c.args.self.now.facts) in
-    let t = (state_of (reader g.P.Paths.timeline g.L.LastValues.values) g.W.Partial.sets g.W.Transfer.moves g.R.RowRules.rules g.B.ByteFacts.store c.loop-from.self.facts) in
-    let u = (state_of (reader g.P.Paths.timeline g.L.LastValues.values) g.W.Partial.sets g.W.Transfer.moves g.R.RowRules.rules g.B.ByteFacts.store c.carry_beside.new.self.facts) in
+    let s = (state_of g.W.Partial.sets g.W.Transfer.moves g.R.RowRules.rules g.B.ByteFacts.store c.args.self.now.facts) in
+    let t = (state_of g.W.Partial.sets g.W.Transfer.moves g.R.RowRules.rules g.B.ByteFacts.store c.loop-from.self.facts) in
+    let u = (state_of g.W.Partial.sets g.W.Transfer.moves g.R.RowRules.rules g.B.ByteFacts.store c.carry_beside.new.self.facts) in
     let a = c.args.a in
     let from = c.loop-from.from in
     let point = c.edge-point.result in
@@ -72,7 +73,7 @@ loop-from-preserved g c =
 
 pub returns-clause-inferred : goal.returns-clause-inferred
 returns-clause-inferred g c =
-    let s = (state_of (reader g.P.Paths.timeline g.L.LastValues.values) g.W.Partial.sets g.W.Transfer.moves g.R.RowRules.rules g.B.ByteFacts.store c.args.self.now.facts) in
-    let t = (state_of (reader g.P.Paths.timeline g.L.LastValues.values) g.W.Partial.sets g.W.Transfer.moves g.R.RowRules.rules g.B.ByteFacts.store c.loop-from.self.facts) in
+    let s = (state_of g.W.Partial.sets g.W.Transfer.moves g.R.RowRules.rules g.B.ByteFacts.store c.args.self.now.facts) in
+    let t = (state_of g.W.Partial.sets g.W.Transfer.moves g.R.RowRules.rules g.B.ByteFacts.store c.loop-from.self.facts) in
     let ended = c.loop-from-test.false in
     HasInferred_as s t c.loop-from.learnt (IsCarriedBelow c.args.a c.args.strip c.loop-from.from) (IsCarriedIn c.args.a c.args.strip) c.loop-from.invariant.inferred (λ p. in_all s c.args.a c.loop-from.from c.args.strip p (omega (arith, ended)))

@@ -1,6 +1,6 @@
 use Rattle.std.proofs.Common.{◌+◌, ◌-◌, arith, ◌∙◌}
 use Rattle.rept_report.specs.Spots.{passage}
-use Rattle.rept_facts.specs.State.{AnalysisState, state_of, reader}
+use Rattle.rept_facts.specs.State.{AnalysisState, state_of}
 use Rattle.rept_facts.specs.Inferring.{IsCarriedIf}
 use Rattle.rept_facts.proofs.Conclusion.{HasInferred_both, HasInferred_same, Grows_itself, Grows_trans}
 use Rattle.rept_propagate.proofs.Going.{next_after}
@@ -14,7 +14,7 @@ carry_step-requires-clause-next g c =
     let more = c.loop-m-test.true in
     let below = c.loop-m.invariant.below in
     let inside = c.requires.inside in
-    next_after (state_of (reader g.P.Paths.timeline g.L.LastValues.values) g.W.Partial.sets g.W.Transfer.moves g.R.RowRules.rules g.B.ByteFacts.store c.args.self.now.facts) (state_of (reader g.P.Paths.timeline g.L.LastValues.values) g.W.Partial.sets g.W.Transfer.moves g.R.RowRules.rules g.B.ByteFacts.store c.loop-m.self.facts) c.loop-m.invariant.grows (c.loop-m.m - 1) (c.loop-m.m - 1 + 1) ((c.requires.strip.joined (c.loop-m.m - 1) (omega (arith, more)) (omega (arith, more, below, inside))).next)
+    next_after (state_of g.W.Partial.sets g.W.Transfer.moves g.R.RowRules.rules g.B.ByteFacts.store c.args.self.now.facts) (state_of g.W.Partial.sets g.W.Transfer.moves g.R.RowRules.rules g.B.ByteFacts.store c.loop-m.self.facts) c.loop-m.invariant.grows (c.loop-m.m - 1) (c.loop-m.m - 1 + 1) ((c.requires.strip.joined (c.loop-m.m - 1) (omega (arith, more)) (omega (arith, more, below, inside))).next)
 
 pub carry_step-requires-clause-writings : goal.carry_step-requires-clause-writings
 carry_step-requires-clause-writings g c = c.loop-m.invariant.grows.writing c.requires.writings
@@ -27,13 +27,13 @@ loop-m-preserved g c =
     let more = c.loop-m-test.true in
     let below = c.loop-m.invariant.below in
     record {
-      grows = Grows_trans (state_of (reader g.P.Paths.timeline g.L.LastValues.values) g.W.Partial.sets g.W.Transfer.moves g.R.RowRules.rules g.B.ByteFacts.store c.args.self.now.facts) (state_of (reader g.P.Paths.timeline g.L.LastValues.values) g.W.Partial.sets g.W.Transfer.moves g.R.RowRules.rules g.B.ByteFacts.store c.loop-m.self.facts) (state_of (reader g.P.Paths.timeline g.L.LastValues.values) g.W.Partial.sets g.W.Transfer.moves g.R.RowRules.rules g.B.ByteFacts.store c.carry_step.new.self.facts) c.loop-m.invariant.grows c.in_ok-new.ensures.grows;
-      inferred = HasInferred_both (state_of (reader g.P.Paths.timeline g.L.LastValues.values) g.W.Partial.sets g.W.Transfer.moves g.R.RowRules.rules g.B.ByteFacts.store c.args.self.now.facts) (state_of (reader g.P.Paths.timeline g.L.LastValues.values) g.W.Partial.sets g.W.Transfer.moves g.R.RowRules.rules g.B.ByteFacts.store c.loop-m.self.facts) (state_of (reader g.P.Paths.timeline g.L.LastValues.values) g.W.Partial.sets g.W.Transfer.moves g.R.RowRules.rules g.B.ByteFacts.store c.carry_step.new.self.facts) c.loop-m.learnt c.in_ok-new.new (λ (x : AnalysisState g.row.W.Denot). Unit {0}) (IsCarriedIf (passage c.args.a (c.loop-m.m - 1) (c.loop-m.m - 1 + 1))) (λ (x : AnalysisState g.row.W.Denot). Unit {0}) c.loop-m.invariant.grows c.in_ok-new.ensures.grows c.loop-m.invariant.inferred c.in_ok-new.ensures.inferred (λ p q. tt);
+      grows = Grows_trans (state_of g.W.Partial.sets g.W.Transfer.moves g.R.RowRules.rules g.B.ByteFacts.store c.args.self.now.facts) (state_of g.W.Partial.sets g.W.Transfer.moves g.R.RowRules.rules g.B.ByteFacts.store c.loop-m.self.facts) (state_of g.W.Partial.sets g.W.Transfer.moves g.R.RowRules.rules g.B.ByteFacts.store c.carry_step.new.self.facts) c.loop-m.invariant.grows c.in_ok-new.ensures.grows;
+      inferred = HasInferred_both (state_of g.W.Partial.sets g.W.Transfer.moves g.R.RowRules.rules g.B.ByteFacts.store c.args.self.now.facts) (state_of g.W.Partial.sets g.W.Transfer.moves g.R.RowRules.rules g.B.ByteFacts.store c.loop-m.self.facts) (state_of g.W.Partial.sets g.W.Transfer.moves g.R.RowRules.rules g.B.ByteFacts.store c.carry_step.new.self.facts) c.loop-m.learnt c.in_ok-new.new (λ (x : AnalysisState g.row.W.Denot). Unit {0}) (IsCarriedIf (passage c.args.a (c.loop-m.m - 1) (c.loop-m.m - 1 + 1))) (λ (x : AnalysisState g.row.W.Denot). Unit {0}) c.loop-m.invariant.grows c.in_ok-new.ensures.grows c.loop-m.invariant.inferred c.in_ok-new.ensures.inferred (λ p q. tt);
       below = omega (arith, more, below);
     }
 
 pub returns-then-not-new-clause-inferred : goal.returns-then-not-new-clause-inferred
-returns-then-not-new-clause-inferred g c = HasInferred_both (state_of (reader g.P.Paths.timeline g.L.LastValues.values) g.W.Partial.sets g.W.Transfer.moves g.R.RowRules.rules g.B.ByteFacts.store c.args.self.now.facts) (state_of (reader g.P.Paths.timeline g.L.LastValues.values) g.W.Partial.sets g.W.Transfer.moves g.R.RowRules.rules g.B.ByteFacts.store c.loop-m.self.facts) (state_of (reader g.P.Paths.timeline g.L.LastValues.values) g.W.Partial.sets g.W.Transfer.moves g.R.RowRules.rules g.B.ByteFacts.store c.carry_step.new.self.facts) c.loop-m.learnt c.in_ok-new.new (λ (x : AnalysisState g.row.W.Denot). Unit {0}) (IsCarriedIf (passage c.args.a (c.loop-m.m - 1) (c.loop-m.m - 1 + 1))) (λ (x : AnalysisState g.row.W.Denot). Unit {0}) c.loop-m.invariant.grows c.in_ok-new.ensures.grows c.loop-m.invariant.inferred c.in_ok-new.ensures.inferred (λ p q. tt)
+returns-then-not-new-clause-inferred g c = HasInferred_both (state_of g.W.Partial.sets g.W.Transfer.moves g.R.RowRules.rules g.B.ByteFacts.store c.args.self.now.facts) (state_of g.W.Partial.sets g.W.Transfer.moves g.R.RowRules.rules g.B.ByteFacts.store c.loop-m.self.facts) (state_of g.W.Partial.sets g.W.Transfer.moves g.R.RowRules.rules g.B.ByteFacts.store c.carry_step.new.self.facts) c.loop-m.learnt c.in_ok-new.new (λ (x : AnalysisState g.row.W.Denot). Unit {0}) (IsCarriedIf (passage c.args.a (c.loop-m.m - 1) (c.loop-m.m - 1 + 1))) (λ (x : AnalysisState g.row.W.Denot). Unit {0}) c.loop-m.invariant.grows c.in_ok-new.ensures.grows c.loop-m.invariant.inferred c.in_ok-new.ensures.inferred (λ p q. tt)
 
 pub carry_step-requires-clause-open : goal.carry_step-requires-clause-open
 carry_step-requires-clause-open g c = c.loop-m.invariant.grows.complete ∙ c.requires.open

@@ -1,5 +1,5 @@
 use Rattle.std.proofs.Common.{◌||◌, ap, arith}
-use Rattle.rept_facts.specs.State.{Subject, AnalysisState, state_of, reader}
+use Rattle.rept_facts.specs.State.{Subject, AnalysisState, state_of}
 use Rattle.rept_facts.proofs.Conclusion.{HasInferred_both, HasInferred_same, Grows_itself, Grows_trans}
 use Rattle.rept_propagate.proofs.Going.{strip_at}
 use Rattle.rept_propagate.proofs.propagation.Propagation.carry_edges.Goals as goal
@@ -33,10 +33,10 @@ returns-in_err-back-clause-grows g c = Grows_trans _ _ _ (Grows_trans _ _ _ c.lo
 
 pub loop-from-preserved : goal.loop-from-preserved
 loop-from-preserved g c =
-    let to = Grows_trans (state_of (reader g.P.Paths.timeline g.L.LastValues.values) g.W.Partial.sets g.W.Transfer.moves g.R.RowRules.rules g.B.ByteFacts.store c.args.self.now.facts) (state_of (reader g.P.Paths.timeline g.L.LastValues.values) g.W.Partial.sets g.W.Transfer.moves g.R.RowRules.rules g.B.ByteFacts.store c.loop-from.self.facts) (state_of (reader g.P.Paths.timeline g.L.LastValues.values) g.W.Partial.sets g.W.Transfer.moves g.R.RowRules.rules g.B.ByteFacts.store c.strip_together.new.self.facts) c.loop-from.invariant.grows c.in_ok-inside.ensures.grows in
-    let inside = HasInferred_both (state_of (reader g.P.Paths.timeline g.L.LastValues.values) g.W.Partial.sets g.W.Transfer.moves g.R.RowRules.rules g.B.ByteFacts.store c.args.self.now.facts) (state_of (reader g.P.Paths.timeline g.L.LastValues.values) g.W.Partial.sets g.W.Transfer.moves g.R.RowRules.rules g.B.ByteFacts.store c.loop-from.self.facts) (state_of (reader g.P.Paths.timeline g.L.LastValues.values) g.W.Partial.sets g.W.Transfer.moves g.R.RowRules.rules g.B.ByteFacts.store c.strip_together.new.self.facts) c.loop-from.learnt c.in_ok-inside.inside (λ (x : AnalysisState g.row.W.Denot). Unit {0}) (λ (x : AnalysisState g.row.W.Denot). Unit {0}) (λ (x : AnalysisState g.row.W.Denot). Unit {0}) c.loop-from.invariant.grows c.in_ok-inside.ensures.grows c.loop-from.invariant.inferred c.in_ok-inside.ensures.inferred (λ p q. tt) in
+    let to = Grows_trans (state_of g.W.Partial.sets g.W.Transfer.moves g.R.RowRules.rules g.B.ByteFacts.store c.args.self.now.facts) (state_of g.W.Partial.sets g.W.Transfer.moves g.R.RowRules.rules g.B.ByteFacts.store c.loop-from.self.facts) (state_of g.W.Partial.sets g.W.Transfer.moves g.R.RowRules.rules g.B.ByteFacts.store c.strip_together.new.self.facts) c.loop-from.invariant.grows c.in_ok-inside.ensures.grows in
+    let inside = HasInferred_both (state_of g.W.Partial.sets g.W.Transfer.moves g.R.RowRules.rules g.B.ByteFacts.store c.args.self.now.facts) (state_of g.W.Partial.sets g.W.Transfer.moves g.R.RowRules.rules g.B.ByteFacts.store c.loop-from.self.facts) (state_of g.W.Partial.sets g.W.Transfer.moves g.R.RowRules.rules g.B.ByteFacts.store c.strip_together.new.self.facts) c.loop-from.learnt c.in_ok-inside.inside (λ (x : AnalysisState g.row.W.Denot). Unit {0}) (λ (x : AnalysisState g.row.W.Denot). Unit {0}) (λ (x : AnalysisState g.row.W.Denot). Unit {0}) c.loop-from.invariant.grows c.in_ok-inside.ensures.grows c.loop-from.invariant.inferred c.in_ok-inside.ensures.inferred (λ p q. tt) in
     record {
-      grows = Grows_trans (state_of (reader g.P.Paths.timeline g.L.LastValues.values) g.W.Partial.sets g.W.Transfer.moves g.R.RowRules.rules g.B.ByteFacts.store c.args.self.now.facts) (state_of (reader g.P.Paths.timeline g.L.LastValues.values) g.W.Partial.sets g.W.Transfer.moves g.R.RowRules.rules g.B.ByteFacts.store c.strip_together.new.self.facts) (state_of (reader g.P.Paths.timeline g.L.LastValues.values) g.W.Partial.sets g.W.Transfer.moves g.R.RowRules.rules g.B.ByteFacts.store c.carry_back.new.self.facts) to c.in_ok-back.ensures.grows;
-      inferred = HasInferred_both (state_of (reader g.P.Paths.timeline g.L.LastValues.values) g.W.Partial.sets g.W.Transfer.moves g.R.RowRules.rules g.B.ByteFacts.store c.args.self.now.facts) (state_of (reader g.P.Paths.timeline g.L.LastValues.values) g.W.Partial.sets g.W.Transfer.moves g.R.RowRules.rules g.B.ByteFacts.store c.strip_together.new.self.facts) (state_of (reader g.P.Paths.timeline g.L.LastValues.values) g.W.Partial.sets g.W.Transfer.moves g.R.RowRules.rules g.B.ByteFacts.store c.carry_back.new.self.facts) (c.loop-from.learnt || c.in_ok-inside.inside) c.in_ok-back.back (λ (x : AnalysisState g.row.W.Denot). Unit {0}) (λ (x : AnalysisState g.row.W.Denot). Unit {0}) (λ (x : AnalysisState g.row.W.Denot). Unit {0}) to c.in_ok-back.ensures.grows inside c.in_ok-back.ensures.inferred (λ p q. tt);
+      grows = Grows_trans (state_of g.W.Partial.sets g.W.Transfer.moves g.R.RowRules.rules g.B.ByteFacts.store c.args.self.now.facts) (state_of g.W.Partial.sets g.W.Transfer.moves g.R.RowRules.rules g.B.ByteFacts.store c.strip_together.new.self.facts) (state_of g.W.Partial.sets g.W.Transfer.moves g.R.RowRules.rules g.B.ByteFacts.store c.carry_back.new.self.facts) to c.in_ok-back.ensures.grows;
+      inferred = HasInferred_both (state_of g.W.Partial.sets g.W.Transfer.moves g.R.RowRules.rules g.B.ByteFacts.store c.args.self.now.facts) (state_of g.W.Partial.sets g.W.Transfer.moves g.R.RowRules.rules g.B.ByteFacts.store c.strip_together.new.self.facts) (state_of g.W.Partial.sets g.W.Transfer.moves g.R.RowRules.rules g.B.ByteFacts.store c.carry_back.new.self.facts) (c.loop-from.learnt || c.in_ok-inside.inside) c.in_ok-back.back (λ (x : AnalysisState g.row.W.Denot). Unit {0}) (λ (x : AnalysisState g.row.W.Denot). Unit {0}) (λ (x : AnalysisState g.row.W.Denot). Unit {0}) to c.in_ok-back.ensures.grows inside c.in_ok-back.ensures.inferred (λ p q. tt);
       end_is = c.loop-from.invariant.end_is;
     }

@@ -1,5 +1,5 @@
 use Rattle.std.proofs.Common.{ap, arith}
-use Rattle.rept_facts.specs.State.{Subject, AnalysisState, state_of, reader}
+use Rattle.rept_facts.specs.State.{Subject, AnalysisState, state_of}
 use Rattle.rept_facts.proofs.Conclusion.{HasInferred_both, Grows_trans}
 use Rattle.rept_propagate.proofs.propagation.Propagation.carry_forth.Goals as goal
 
@@ -35,8 +35,8 @@ loop-last-preserved g c =
     let end = ap (λ (P : Subject g.row.W.Denot). P.given.moments.end) c.loop-last.invariant.grows.path in
     let same = ap (λ (P : Subject g.row.W.Denot). P.given.moments.end) c.in_ok-later.ensures.grows.path in
     record {
-      grows = Grows_trans (state_of (reader g.P.Paths.timeline g.L.LastValues.values) g.W.Partial.sets g.W.Transfer.moves g.R.RowRules.rules g.B.ByteFacts.store c.args.self.now.facts) (state_of (reader g.P.Paths.timeline g.L.LastValues.values) g.W.Partial.sets g.W.Transfer.moves g.R.RowRules.rules g.B.ByteFacts.store c.loop-last.self.facts) (state_of (reader g.P.Paths.timeline g.L.LastValues.values) g.W.Partial.sets g.W.Transfer.moves g.R.RowRules.rules g.B.ByteFacts.store c.later_together.new.self.facts) c.loop-last.invariant.grows c.in_ok-later.ensures.grows;
-      inferred = HasInferred_both (state_of (reader g.P.Paths.timeline g.L.LastValues.values) g.W.Partial.sets g.W.Transfer.moves g.R.RowRules.rules g.B.ByteFacts.store c.args.self.now.facts) (state_of (reader g.P.Paths.timeline g.L.LastValues.values) g.W.Partial.sets g.W.Transfer.moves g.R.RowRules.rules g.B.ByteFacts.store c.loop-last.self.facts) (state_of (reader g.P.Paths.timeline g.L.LastValues.values) g.W.Partial.sets g.W.Transfer.moves g.R.RowRules.rules g.B.ByteFacts.store c.later_together.new.self.facts) c.loop-last.learnt c.in_ok-later.later.0 (λ (x : AnalysisState g.row.W.Denot). Unit {0}) (λ (x : AnalysisState g.row.W.Denot). Unit {0}) (λ (x : AnalysisState g.row.W.Denot). Unit {0}) c.loop-last.invariant.grows c.in_ok-later.ensures.grows c.loop-last.invariant.inferred c.in_ok-later.ensures.inferred (λ p q. tt);
+      grows = Grows_trans (state_of g.W.Partial.sets g.W.Transfer.moves g.R.RowRules.rules g.B.ByteFacts.store c.args.self.now.facts) (state_of g.W.Partial.sets g.W.Transfer.moves g.R.RowRules.rules g.B.ByteFacts.store c.loop-last.self.facts) (state_of g.W.Partial.sets g.W.Transfer.moves g.R.RowRules.rules g.B.ByteFacts.store c.later_together.new.self.facts) c.loop-last.invariant.grows c.in_ok-later.ensures.grows;
+      inferred = HasInferred_both (state_of g.W.Partial.sets g.W.Transfer.moves g.R.RowRules.rules g.B.ByteFacts.store c.args.self.now.facts) (state_of g.W.Partial.sets g.W.Transfer.moves g.R.RowRules.rules g.B.ByteFacts.store c.loop-last.self.facts) (state_of g.W.Partial.sets g.W.Transfer.moves g.R.RowRules.rules g.B.ByteFacts.store c.later_together.new.self.facts) c.loop-last.learnt c.in_ok-later.later.0 (λ (x : AnalysisState g.row.W.Denot). Unit {0}) (λ (x : AnalysisState g.row.W.Denot). Unit {0}) (λ (x : AnalysisState g.row.W.Denot). Unit {0}) c.loop-last.invariant.grows c.in_ok-later.ensures.grows c.loop-last.invariant.inferred c.in_ok-later.ensures.inferred (λ p q. tt);
       high = omega (arith, high, end, same);
       inside = omega (arith, up, end);
     }
@@ -50,8 +50,8 @@ loop-last-preserved-then-later g c =
     let end = ap (λ (P : Subject g.row.W.Denot). P.given.moments.end) c.loop-last.invariant.grows.path in
     let same = ap (λ (P : Subject g.row.W.Denot). P.given.moments.end) c.in_ok-later.ensures.grows.path in
     record {
-      grows = Grows_trans (state_of (reader g.P.Paths.timeline g.L.LastValues.values) g.W.Partial.sets g.W.Transfer.moves g.R.RowRules.rules g.B.ByteFacts.store c.args.self.now.facts) (state_of (reader g.P.Paths.timeline g.L.LastValues.values) g.W.Partial.sets g.W.Transfer.moves g.R.RowRules.rules g.B.ByteFacts.store c.loop-last.self.facts) (state_of (reader g.P.Paths.timeline g.L.LastValues.values) g.W.Partial.sets g.W.Transfer.moves g.R.RowRules.rules g.B.ByteFacts.store c.later_together.new.self.facts) c.loop-last.invariant.grows c.in_ok-later.ensures.grows;
-      inferred = HasInferred_both (state_of (reader g.P.Paths.timeline g.L.LastValues.values) g.W.Partial.sets g.W.Transfer.moves g.R.RowRules.rules g.B.ByteFacts.store c.args.self.now.facts) (state_of (reader g.P.Paths.timeline g.L.LastValues.values) g.W.Partial.sets g.W.Transfer.moves g.R.RowRules.rules g.B.ByteFacts.store c.loop-last.self.facts) (state_of (reader g.P.Paths.timeline g.L.LastValues.values) g.W.Partial.sets g.W.Transfer.moves g.R.RowRules.rules g.B.ByteFacts.store c.later_together.new.self.facts) c.loop-last.learnt c.in_ok-later.later.0 (λ (x : AnalysisState g.row.W.Denot). Unit {0}) (λ (x : AnalysisState g.row.W.Denot). Unit {0}) (λ (x : AnalysisState g.row.W.Denot). Unit {0}) c.loop-last.invariant.grows c.in_ok-later.ensures.grows c.loop-last.invariant.inferred c.in_ok-later.ensures.inferred (λ p q. tt);
+      grows = Grows_trans (state_of g.W.Partial.sets g.W.Transfer.moves g.R.RowRules.rules g.B.ByteFacts.store c.args.self.now.facts) (state_of g.W.Partial.sets g.W.Transfer.moves g.R.RowRules.rules g.B.ByteFacts.store c.loop-last.self.facts) (state_of g.W.Partial.sets g.W.Transfer.moves g.R.RowRules.rules g.B.ByteFacts.store c.later_together.new.self.facts) c.loop-last.invariant.grows c.in_ok-later.ensures.grows;
+      inferred = HasInferred_both (state_of g.W.Partial.sets g.W.Transfer.moves g.R.RowRules.rules g.B.ByteFacts.store c.args.self.now.facts) (state_of g.W.Partial.sets g.W.Transfer.moves g.R.RowRules.rules g.B.ByteFacts.store c.loop-last.self.facts) (state_of g.W.Partial.sets g.W.Transfer.moves g.R.RowRules.rules g.B.ByteFacts.store c.later_together.new.self.facts) c.loop-last.learnt c.in_ok-later.later.0 (λ (x : AnalysisState g.row.W.Denot). Unit {0}) (λ (x : AnalysisState g.row.W.Denot). Unit {0}) (λ (x : AnalysisState g.row.W.Denot). Unit {0}) c.loop-last.invariant.grows c.in_ok-later.ensures.grows c.loop-last.invariant.inferred c.in_ok-later.ensures.inferred (λ p q. tt);
       high = omega (arith, high, most, reached, end, same);
       inside = omega (arith, up, end);
     }

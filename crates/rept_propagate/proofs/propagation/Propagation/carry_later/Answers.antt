@@ -1,5 +1,5 @@
 use Rattle.std.proofs.Common.{◌||◌, arith, ◌∙◌, ◌≤◌, sym, subst}
-use Rattle.rept_facts.specs.State.{AnalysisState, state_of, reader, Subject}
+use Rattle.rept_facts.specs.State.{AnalysisState, state_of, Subject}
 use Rattle.rept_facts.specs.Inferring.{IsCarriedIn}
 use Rattle.rept_facts.proofs.Conclusion.{HasInferred_both, Grows_trans}
 use Rattle.rept_propagate.proofs.Going.{strip_at}
@@ -23,8 +23,8 @@ returns-clause-grows g c = Grows_trans _ _ _ (Grows_trans _ _ _ c.in_ok-inside.e
 
 pub returns-clause-inferred : goal.returns-clause-inferred
 returns-clause-inferred g c =
-    let inside = HasInferred_both (state_of (reader g.P.Paths.timeline g.L.LastValues.values) g.W.Partial.sets g.W.Transfer.moves g.R.RowRules.rules g.B.ByteFacts.store c.args.self.now.facts) (state_of (reader g.P.Paths.timeline g.L.LastValues.values) g.W.Partial.sets g.W.Transfer.moves g.R.RowRules.rules g.B.ByteFacts.store c.carry_strip.new.self.facts) (state_of (reader g.P.Paths.timeline g.L.LastValues.values) g.W.Partial.sets g.W.Transfer.moves g.R.RowRules.rules g.B.ByteFacts.store c.leap_up.new.self.facts) c.in_ok-inside.inside c.in_ok-up.up.0 (IsCarriedIn c.args.a c.strip-later.result) (λ (x : AnalysisState g.row.W.Denot). Unit {0}) (λ (x : AnalysisState g.row.W.Denot). Unit {0}) c.in_ok-inside.ensures.grows c.in_ok-up.ensures.grows c.in_ok-inside.ensures.inferred c.in_ok-up.ensures.inferred (λ p q. tt) in
-    HasInferred_both (state_of (reader g.P.Paths.timeline g.L.LastValues.values) g.W.Partial.sets g.W.Transfer.moves g.R.RowRules.rules g.B.ByteFacts.store c.args.self.now.facts) (state_of (reader g.P.Paths.timeline g.L.LastValues.values) g.W.Partial.sets g.W.Transfer.moves g.R.RowRules.rules g.B.ByteFacts.store c.leap_up.new.self.facts) (state_of (reader g.P.Paths.timeline g.L.LastValues.values) g.W.Partial.sets g.W.Transfer.moves g.R.RowRules.rules g.B.ByteFacts.store c.carry_links_on.new.self.facts) (c.in_ok-inside.inside || c.in_ok-up.up.0) c.in_ok-links.links (λ (x : AnalysisState g.row.W.Denot). Unit {0}) (λ (x : AnalysisState g.row.W.Denot). Unit {0}) (λ (x : AnalysisState g.row.W.Denot). Unit {0}) (Grows_trans (state_of (reader g.P.Paths.timeline g.L.LastValues.values) g.W.Partial.sets g.W.Transfer.moves g.R.RowRules.rules g.B.ByteFacts.store c.args.self.now.facts) (state_of (reader g.P.Paths.timeline g.L.LastValues.values) g.W.Partial.sets g.W.Transfer.moves g.R.RowRules.rules g.B.ByteFacts.store c.carry_strip.new.self.facts) (state_of (reader g.P.Paths.timeline g.L.LastValues.values) g.W.Partial.sets g.W.Transfer.moves g.R.RowRules.rules g.B.ByteFacts.store c.leap_up.new.self.facts) c.in_ok-inside.ensures.grows c.in_ok-up.ensures.grows) c.in_ok-links.ensures.grows inside c.in_ok-links.ensures.inferred (λ p q. tt)
+    let inside = HasInferred_both (state_of g.W.Partial.sets g.W.Transfer.moves g.R.RowRules.rules g.B.ByteFacts.store c.args.self.now.facts) (state_of g.W.Partial.sets g.W.Transfer.moves g.R.RowRules.rules g.B.ByteFacts.store c.carry_strip.new.self.facts) (state_of g.W.Partial.sets g.W.Transfer.moves g.R.RowRules.rules g.B.ByteFacts.store c.leap_up.new.self.facts) c.in_ok-inside.inside c.in_ok-up.up.0 (IsCarriedIn c.args.a c.strip-later.result) (λ (x : AnalysisState g.row.W.Denot). Unit {0}) (λ (x : AnalysisState g.row.W.Denot). Unit {0}) c.in_ok-inside.ensures.grows c.in_ok-up.ensures.grows c.in_ok-inside.ensures.inferred c.in_ok-up.ensures.inferred (λ p q. tt) in
+    HasInferred_both (state_of g.W.Partial.sets g.W.Transfer.moves g.R.RowRules.rules g.B.ByteFacts.store c.args.self.now.facts) (state_of g.W.Partial.sets g.W.Transfer.moves g.R.RowRules.rules g.B.ByteFacts.store c.leap_up.new.self.facts) (state_of g.W.Partial.sets g.W.Transfer.moves g.R.RowRules.rules g.B.ByteFacts.store c.carry_links_on.new.self.facts) (c.in_ok-inside.inside || c.in_ok-up.up.0) c.in_ok-links.links (λ (x : AnalysisState g.row.W.Denot). Unit {0}) (λ (x : AnalysisState g.row.W.Denot). Unit {0}) (λ (x : AnalysisState g.row.W.Denot). Unit {0}) (Grows_trans (state_of g.W.Partial.sets g.W.Transfer.moves g.R.RowRules.rules g.B.ByteFacts.store c.args.self.now.facts) (state_of g.W.Partial.sets g.W.Transfer.moves g.R.RowRules.rules g.B.ByteFacts.store c.carry_strip.new.self.facts) (state_of g.W.Partial.sets g.W.Transfer.moves g.R.RowRules.rules g.B.ByteFacts.store c.leap_up.new.self.facts) c.in_ok-inside.ensures.grows c.in_ok-up.ensures.grows) c.in_ok-links.ensures.grows inside c.in_ok-links.ensures.inferred (λ p q. tt)
 
 pub leap_up-requires-clause-inside : goal.leap_up-requires-clause-inside
 leap_up-requires-clause-inside g c = subst (λ (P : Subject g.row.W.Denot). c.strip-later.result.last ≤ P.given.moments.end) (sym (c.in_ok-inside.ensures.grows.path)) c.strip-later.ensures.inside

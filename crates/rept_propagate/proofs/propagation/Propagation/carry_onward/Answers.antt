@@ -1,5 +1,6 @@
+use Rattle.rept_timeline.specs.Paths.{lawful}
 use Rattle.std.proofs.Common.{◌+◌, ◌||◌, false, refl, ap, arith}
-use Rattle.rept_facts.specs.State.{Subject, AnalysisState, timeline_of, state_of, reader}
+use Rattle.rept_facts.specs.State.{Subject, AnalysisState, timeline_of, state_of}
 use Rattle.rept_report.specs.Timeline.{IsStrip}
 use Rattle.rept_facts.specs.Inferring.{IsCarriedIn, AreLinks, IsCarriedUpTo, IsCarriedAlong}
 use Rattle.rept_facts.proofs.Conclusion.{HasInferred_as, HasInferred_both, HasInferred_first, HasInferred_same, Grows_itself, Grows_trans}
@@ -68,12 +69,12 @@ returns-in_err-others-clause-grows g c = Grows_trans _ _ _ (Grows_trans _ _ _ (G
 
 pub loop-from-preserved : goal.loop-from-preserved
 loop-from-preserved g c =
-    let s = (state_of (reader g.P.Paths.timeline g.L.LastValues.values) g.W.Partial.sets g.W.Transfer.moves g.R.RowRules.rules g.B.ByteFacts.store c.args.self.now.facts) in
-    let t = (state_of (reader g.P.Paths.timeline g.L.LastValues.values) g.W.Partial.sets g.W.Transfer.moves g.R.RowRules.rules g.B.ByteFacts.store c.loop-from.self.facts) in
-    let u = (state_of (reader g.P.Paths.timeline g.L.LastValues.values) g.W.Partial.sets g.W.Transfer.moves g.R.RowRules.rules g.B.ByteFacts.store c.carry_strip.new.self.facts) in
-    let x = (state_of (reader g.P.Paths.timeline g.L.LastValues.values) g.W.Partial.sets g.W.Transfer.moves g.R.RowRules.rules g.B.ByteFacts.store c.leap_end.new.self.facts) in
-    let v = (state_of (reader g.P.Paths.timeline g.L.LastValues.values) g.W.Partial.sets g.W.Transfer.moves g.R.RowRules.rules g.B.ByteFacts.store c.carry_links.new.self.facts) in
-    let w = (state_of (reader g.P.Paths.timeline g.L.LastValues.values) g.W.Partial.sets g.W.Transfer.moves g.R.RowRules.rules g.B.ByteFacts.store c.follow_if.new.self.facts) in
+    let s = (state_of g.W.Partial.sets g.W.Transfer.moves g.R.RowRules.rules g.B.ByteFacts.store c.args.self.now.facts) in
+    let t = (state_of g.W.Partial.sets g.W.Transfer.moves g.R.RowRules.rules g.B.ByteFacts.store c.loop-from.self.facts) in
+    let u = (state_of g.W.Partial.sets g.W.Transfer.moves g.R.RowRules.rules g.B.ByteFacts.store c.carry_strip.new.self.facts) in
+    let x = (state_of g.W.Partial.sets g.W.Transfer.moves g.R.RowRules.rules g.B.ByteFacts.store c.leap_end.new.self.facts) in
+    let v = (state_of g.W.Partial.sets g.W.Transfer.moves g.R.RowRules.rules g.B.ByteFacts.store c.carry_links.new.self.facts) in
+    let w = (state_of g.W.Partial.sets g.W.Transfer.moves g.R.RowRules.rules g.B.ByteFacts.store c.follow_if.new.self.facts) in
     let a = c.args.a in
     let from = c.loop-from.from in
     let strip = c.strip-strip.result in
@@ -98,8 +99,8 @@ loop-from-preserved g c =
 
 pub returns-clause-inferred : goal.returns-clause-inferred
 returns-clause-inferred g c =
-    let s = (state_of (reader g.P.Paths.timeline g.L.LastValues.values) g.W.Partial.sets g.W.Transfer.moves g.R.RowRules.rules g.B.ByteFacts.store c.args.self.now.facts) in
-    let t = (state_of (reader g.P.Paths.timeline g.L.LastValues.values) g.W.Partial.sets g.W.Transfer.moves g.R.RowRules.rules g.B.ByteFacts.store c.loop-from.self.facts) in
+    let s = (state_of g.W.Partial.sets g.W.Transfer.moves g.R.RowRules.rules g.B.ByteFacts.store c.args.self.now.facts) in
+    let t = (state_of g.W.Partial.sets g.W.Transfer.moves g.R.RowRules.rules g.B.ByteFacts.store c.loop-from.self.facts) in
     let end = c.loop-from.invariant.end_is in
     let ended = c.loop-from-test.false in
-    HasInferred_as s t c.loop-from.learnt (IsCarriedUpTo c.args.a c.loop-from.from) (IsCarriedAlong c.args.a) c.loop-from.invariant.inferred (λ p. up_to_all s c.args.a c.loop-from.from (g.met.P.Paths.lawful c.args.self.now.facts.paths).moments.inside (omega (arith, end, ended)) p)
+    HasInferred_as s t c.loop-from.learnt (IsCarriedUpTo c.args.a c.loop-from.from) (IsCarriedAlong c.args.a) c.loop-from.invariant.inferred (λ p. up_to_all s c.args.a c.loop-from.from (lawful c.args.self.now.facts.paths).moments.inside (omega (arith, end, ended)) p)

@@ -1,5 +1,5 @@
 use Rattle.std.proofs.Common.{◌∙◌, ◌≤◌, Bool, IfOk, sym, subst}
-use Rattle.rept_facts.specs.State.{AnalysisState, Subject, state_of, reader}
+use Rattle.rept_facts.specs.State.{AnalysisState, Subject, state_of}
 use Rattle.rept_facts.specs.Inferring.{HasInferred}
 use Rattle.rept_facts.proofs.Conclusion.{Grows_trans}
 use Rattle.rept_propagate.proofs.propagation.Propagation.carry_over.Goals as goal
@@ -23,7 +23,7 @@ pub returns-then-open-clause-inferred : goal.returns-then-open-clause-inferred
 returns-then-open-clause-inferred g c = c.in_ok-open.ensures.inferred
 
 pub returns-clause-grows : goal.returns-clause-grows
-returns-clause-grows g c = Grows_trans (state_of (reader g.P.Paths.timeline g.L.LastValues.values) g.W.Partial.sets g.W.Transfer.moves g.R.RowRules.rules g.B.ByteFacts.store c.args.self.now.facts) (state_of (reader g.P.Paths.timeline g.L.LastValues.values) g.W.Partial.sets g.W.Transfer.moves g.R.RowRules.rules g.B.ByteFacts.store c.carry_open.new.self.facts) (state_of (reader g.P.Paths.timeline g.L.LastValues.values) g.W.Partial.sets g.W.Transfer.moves g.R.RowRules.rules g.B.ByteFacts.store c.carry_from.new.self.facts) c.in_ok-open.ensures.grows c.carry_from.ensures.grows
+returns-clause-grows g c = Grows_trans (state_of g.W.Partial.sets g.W.Transfer.moves g.R.RowRules.rules g.B.ByteFacts.store c.args.self.now.facts) (state_of g.W.Partial.sets g.W.Transfer.moves g.R.RowRules.rules g.B.ByteFacts.store c.carry_open.new.self.facts) (state_of g.W.Partial.sets g.W.Transfer.moves g.R.RowRules.rules g.B.ByteFacts.store c.carry_from.new.self.facts) c.in_ok-open.ensures.grows c.carry_from.ensures.grows
 
 pub returns-clause-inferred : goal.returns-clause-inferred
-returns-clause-inferred g c = subst (λ (x : AnalysisState g.row.W.Denot). IfOk c.carry_from.result (λ (learnt : Bool). HasInferred x (state_of (reader g.P.Paths.timeline g.L.LastValues.values) g.W.Partial.sets g.W.Transfer.moves g.R.RowRules.rules g.B.ByteFacts.store c.carry_from.new.self.facts) learnt (λ (x : AnalysisState g.row.W.Denot). Unit {0}))) (c.in_ok-open.ensures.inferred.unchanged c.if-open.false) c.carry_from.ensures.inferred
+returns-clause-inferred g c = subst (λ (x : AnalysisState g.row.W.Denot). IfOk c.carry_from.result (λ (learnt : Bool). HasInferred x (state_of g.W.Partial.sets g.W.Transfer.moves g.R.RowRules.rules g.B.ByteFacts.store c.carry_from.new.self.facts) learnt (λ (x : AnalysisState g.row.W.Denot). Unit {0}))) (c.in_ok-open.ensures.inferred.unchanged c.if-open.false) c.carry_from.ensures.inferred

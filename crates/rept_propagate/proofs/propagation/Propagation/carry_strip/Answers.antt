@@ -1,5 +1,5 @@
 use Rattle.std.proofs.Common.{refl, arith}
-use Rattle.rept_facts.specs.State.{state_of, reader}
+use Rattle.rept_facts.specs.State.{state_of}
 use Rattle.rept_facts.specs.Inferring.{IsCarriedIn}
 use Rattle.rept_facts.proofs.Conclusion.{HasInferred_same}
 use Rattle.rept_propagate.proofs.Going.{in_even}
@@ -13,7 +13,7 @@ even_to-requires g c =
     omega (arith, low, inside)
 
 pub returns-then-even_to-strip-clause-inferred : goal.returns-then-even_to-strip-clause-inferred
-returns-then-even_to-strip-clause-inferred g c = HasInferred_same (state_of (reader g.P.Paths.timeline g.L.LastValues.values) g.W.Partial.sets g.W.Transfer.moves g.R.RowRules.rules g.B.ByteFacts.store c.args.self.now.facts) (IsCarriedIn c.args.a c.args.strip) (in_even (state_of (reader g.P.Paths.timeline g.L.LastValues.values) g.W.Partial.sets g.W.Transfer.moves g.R.RowRules.rules g.B.ByteFacts.store c.args.self.now.facts) c.args.a c.args.strip.first c.even_to.result c.args.strip c.even_to.ensures.even refl c.if-even_to-strip.true)
+returns-then-even_to-strip-clause-inferred g c = HasInferred_same (state_of g.W.Partial.sets g.W.Transfer.moves g.R.RowRules.rules g.B.ByteFacts.store c.args.self.now.facts) (IsCarriedIn c.args.a c.args.strip) (in_even (state_of g.W.Partial.sets g.W.Transfer.moves g.R.RowRules.rules g.B.ByteFacts.store c.args.self.now.facts) c.args.a c.args.strip.first c.even_to.result c.args.strip c.even_to.ensures.even refl c.if-even_to-strip.true)
 
 pub is_calm-requires-clause-strip : goal.is_calm-requires-clause-strip
 is_calm-requires-clause-strip g c = (_, c.requires.strip)

@@ -1,5 +1,5 @@
 use Rattle.std.proofs.Common.{ℕ, sym, ap, subst}
-use Rattle.rept_facts.specs.State.{Subject, AnalysisState, state_of, reader}
+use Rattle.rept_facts.specs.State.{Subject, AnalysisState, state_of}
 use Rattle.rept_propagate.specs.Steps.{IsStepWithin}
 use Rattle.rept_facts.proofs.Conclusion.{HasInferred_both, Grows_trans}
 use Rattle.rept_propagate.proofs.propagation.Propagation.follow.Goals as goal
@@ -15,9 +15,9 @@ returns-in_err-new-clause-grows g c = Grows_trans _ _ _ c.loop-k.invariant.grows
 
 pub loop-k-preserved : goal.loop-k-preserved
 loop-k-preserved g c =
-    let s = state_of (reader g.P.Paths.timeline g.L.LastValues.values) g.W.Partial.sets g.W.Transfer.moves g.R.RowRules.rules g.B.ByteFacts.store c.args.self.now.facts in
-    let t = state_of (reader g.P.Paths.timeline g.L.LastValues.values) g.W.Partial.sets g.W.Transfer.moves g.R.RowRules.rules g.B.ByteFacts.store c.loop-k.self.facts in
-    let u = state_of (reader g.P.Paths.timeline g.L.LastValues.values) g.W.Partial.sets g.W.Transfer.moves g.R.RowRules.rules g.B.ByteFacts.store c.follow_with.new.self.facts in
+    let s = state_of g.W.Partial.sets g.W.Transfer.moves g.R.RowRules.rules g.B.ByteFacts.store c.args.self.now.facts in
+    let t = state_of g.W.Partial.sets g.W.Transfer.moves g.R.RowRules.rules g.B.ByteFacts.store c.loop-k.self.facts in
+    let u = state_of g.W.Partial.sets g.W.Transfer.moves g.R.RowRules.rules g.B.ByteFacts.store c.follow_with.new.self.facts in
     let P : AnalysisState g.row.W.Denot → Type 0 = λ x. Unit {0} in
     record {
       grows = Grows_trans s t u c.loop-k.invariant.grows c.in_ok-new.ensures.grows;

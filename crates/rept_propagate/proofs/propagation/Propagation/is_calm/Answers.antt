@@ -1,10 +1,10 @@
 use Rattle.std.proofs.Common.{arith}
-use Rattle.rept_facts.specs.State.{state_of, reader}
+use Rattle.rept_facts.specs.State.{state_of}
 use Rattle.rept_facts.proofs.Listing.{calm_none, calm_some}
 use Rattle.rept_propagate.proofs.propagation.Propagation.is_calm.Goals as goal
 
 pub returns-in-None : goal.returns-in-None
-returns-in-None g c = λ _. calm_none (state_of (reader g.P.Paths.timeline g.L.LastValues.values) g.W.Partial.sets g.W.Transfer.moves g.R.RowRules.rules g.B.ByteFacts.store c.args.self.now.facts) c.args.a c.args.strip c.in-None.is
+returns-in-None g c = λ _. calm_none (state_of g.W.Partial.sets g.W.Transfer.moves g.R.RowRules.rules g.B.ByteFacts.store c.args.self.now.facts) c.args.a c.args.strip c.in-None.is
 
 pub overflow_add-pause : goal.overflow_add-pause
 overflow_add-pause g c =

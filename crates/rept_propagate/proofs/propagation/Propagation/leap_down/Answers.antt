@@ -1,25 +1,25 @@
-use Rattle.rept_facts.specs.State.{AnalysisState, state_of, reader}
+use Rattle.rept_facts.specs.State.{AnalysisState, state_of}
 use Rattle.rept_facts.proofs.Conclusion.{HasInferred_same, Grows_itself}
 use Rattle.std.proofs.Common.{arith}
 use Rattle.rept_propagate.proofs.propagation.Propagation.leap_down.Goals as goal
 
 pub returns-in_default-clause-grows : goal.returns-in_default-clause-grows
-returns-in_default-clause-grows g c = Grows_itself (state_of (reader g.P.Paths.timeline g.L.LastValues.values) g.W.Partial.sets g.W.Transfer.moves g.R.RowRules.rules g.B.ByteFacts.store c.args.self.now.facts)
+returns-in_default-clause-grows g c = Grows_itself (state_of g.W.Partial.sets g.W.Transfer.moves g.R.RowRules.rules g.B.ByteFacts.store c.args.self.now.facts)
 
 pub returns-in_default-clause-inferred : goal.returns-in_default-clause-inferred
-returns-in_default-clause-inferred g c = HasInferred_same (state_of (reader g.P.Paths.timeline g.L.LastValues.values) g.W.Partial.sets g.W.Transfer.moves g.R.RowRules.rules g.B.ByteFacts.store c.args.self.now.facts) (λ (x : AnalysisState g.row.W.Denot). Unit {0}) tt
+returns-in_default-clause-inferred g c = HasInferred_same (state_of g.W.Partial.sets g.W.Transfer.moves g.R.RowRules.rules g.B.ByteFacts.store c.args.self.now.facts) (λ (x : AnalysisState g.row.W.Denot). Unit {0}) tt
 
 pub returns-then-stretch-number-clause-grows : goal.returns-then-stretch-number-clause-grows
-returns-then-stretch-number-clause-grows g c = Grows_itself (state_of (reader g.P.Paths.timeline g.L.LastValues.values) g.W.Partial.sets g.W.Transfer.moves g.R.RowRules.rules g.B.ByteFacts.store c.args.self.now.facts)
+returns-then-stretch-number-clause-grows g c = Grows_itself (state_of g.W.Partial.sets g.W.Transfer.moves g.R.RowRules.rules g.B.ByteFacts.store c.args.self.now.facts)
 
 pub returns-then-stretch-number-clause-inferred : goal.returns-then-stretch-number-clause-inferred
-returns-then-stretch-number-clause-inferred g c = HasInferred_same (state_of (reader g.P.Paths.timeline g.L.LastValues.values) g.W.Partial.sets g.W.Transfer.moves g.R.RowRules.rules g.B.ByteFacts.store c.args.self.now.facts) (λ (x : AnalysisState g.row.W.Denot). Unit {0}) tt
+returns-then-stretch-number-clause-inferred g c = HasInferred_same (state_of g.W.Partial.sets g.W.Transfer.moves g.R.RowRules.rules g.B.ByteFacts.store c.args.self.now.facts) (λ (x : AnalysisState g.row.W.Denot). Unit {0}) tt
 
 pub returns-then-to-stretch-clause-grows : goal.returns-then-to-stretch-clause-grows
-returns-then-to-stretch-clause-grows g c = Grows_itself (state_of (reader g.P.Paths.timeline g.L.LastValues.values) g.W.Partial.sets g.W.Transfer.moves g.R.RowRules.rules g.B.ByteFacts.store c.args.self.now.facts)
+returns-then-to-stretch-clause-grows g c = Grows_itself (state_of g.W.Partial.sets g.W.Transfer.moves g.R.RowRules.rules g.B.ByteFacts.store c.args.self.now.facts)
 
 pub returns-then-to-stretch-clause-inferred : goal.returns-then-to-stretch-clause-inferred
-returns-then-to-stretch-clause-inferred g c = HasInferred_same (state_of (reader g.P.Paths.timeline g.L.LastValues.values) g.W.Partial.sets g.W.Transfer.moves g.R.RowRules.rules g.B.ByteFacts.store c.args.self.now.facts) (λ (x : AnalysisState g.row.W.Denot). Unit {0}) tt
+returns-then-to-stretch-clause-inferred g c = HasInferred_same (state_of g.W.Partial.sets g.W.Transfer.moves g.R.RowRules.rules g.B.ByteFacts.store c.args.self.now.facts) (λ (x : AnalysisState g.row.W.Denot). Unit {0}) tt
 
 pub reach_down-to-requires-clause-order : goal.reach_down-to-requires-clause-order
 reach_down-to-requires-clause-order g c =

@@ -1,5 +1,6 @@
+use Rattle.rept_timeline.specs.Paths.{lawful}
 use Rattle.std.proofs.Common.{◌+◌, arith}
-use Rattle.rept_facts.specs.State.{state_of, reader}
+use Rattle.rept_facts.specs.State.{state_of}
 use Rattle.rept_propagate.proofs.Going.{like_free, like_order}
 use Rattle.rept_propagate.proofs.propagation.Propagation.like_to.Goals as goal
 
@@ -20,12 +21,12 @@ like_along-requires-clause-reaches g c = (rw c.in-Some.is at c.stretch.ensures).
 
 pub like_along-requires-clause-end : goal.like_along-requires-clause-end
 like_along-requires-clause-end g c =
-    let most = (g.met.P.Paths.lawful c.args.self.now.facts.paths).numbers in
+    let most = (lawful c.args.self.now.facts.paths).numbers in
     let end = c.end-end.ensures.value in
     omega (arith, most, end)
 
 pub overflow_add-end : goal.overflow_add-end
 overflow_add-end g c =
-    let most = (g.met.P.Paths.lawful c.args.self.now.facts.paths).numbers in
+    let most = (lawful c.args.self.now.facts.paths).numbers in
     let end = c.end-end.ensures.value in
     omega (arith, most, end)

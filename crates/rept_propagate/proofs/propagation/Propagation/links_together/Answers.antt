@@ -1,4 +1,4 @@
-use Rattle.rept_facts.specs.State.{AnalysisState, state_of, reader}
+use Rattle.rept_facts.specs.State.{AnalysisState, state_of}
 use Rattle.rept_facts.proofs.Conclusion.{HasInferred_both, Grows_trans}
 use Rattle.rept_propagate.proofs.propagation.Propagation.links_together.Goals as goal
 
@@ -10,8 +10,8 @@ returns-clause-grows g c = Grows_trans _ _ _ c.in_ok-links.ensures.grows c.in_ok
 
 pub returns-clause-inferred : goal.returns-clause-inferred
 returns-clause-inferred g c =
-    let s = state_of (reader g.P.Paths.timeline g.L.LastValues.values) g.W.Partial.sets g.W.Transfer.moves g.R.RowRules.rules g.B.ByteFacts.store c.args.self.now.facts in
-    let t = state_of (reader g.P.Paths.timeline g.L.LastValues.values) g.W.Partial.sets g.W.Transfer.moves g.R.RowRules.rules g.B.ByteFacts.store c.carry_links_on.new.self.facts in
-    let u = state_of (reader g.P.Paths.timeline g.L.LastValues.values) g.W.Partial.sets g.W.Transfer.moves g.R.RowRules.rules g.B.ByteFacts.store c.follow_if.new.self.facts in
+    let s = state_of g.W.Partial.sets g.W.Transfer.moves g.R.RowRules.rules g.B.ByteFacts.store c.args.self.now.facts in
+    let t = state_of g.W.Partial.sets g.W.Transfer.moves g.R.RowRules.rules g.B.ByteFacts.store c.carry_links_on.new.self.facts in
+    let u = state_of g.W.Partial.sets g.W.Transfer.moves g.R.RowRules.rules g.B.ByteFacts.store c.follow_if.new.self.facts in
     let P : AnalysisState g.row.W.Denot → Type 0 = λ x. Unit {0} in
     HasInferred_both s t u c.in_ok-links.links c.in_ok-others.others P P P c.in_ok-links.ensures.grows c.in_ok-others.ensures.grows c.in_ok-links.ensures.inferred c.in_ok-others.ensures.inferred (λ p q. tt)

@@ -1,7 +1,8 @@
+use Rattle.rept_timeline.specs.Paths.{lawful}
 use Rattle.std.proofs.Common.{◌∙◌, sym, arith}
 use Rattle.rept_reason.specs.declared.fact.Cell.TheVariants.{Byte}
 use Rattle.rept_report.specs.Spots.{passage}
-use Rattle.rept_facts.specs.State.{state_of, reader}
+use Rattle.rept_facts.specs.State.{state_of}
 use Rattle.rept_facts.specs.Inferring.{Knows, IsCarriedIf}
 use Rattle.rept_facts.proofs.Conclusion.{HasInferred_if, HasInferred_same}
 use Rattle.rept_facts.proofs.Spreading.{brought_back}
@@ -10,18 +11,18 @@ use Rattle.rept_propagate.proofs.propagation.Propagation.tell_back.Goals as goal
 
 pub returns-in_default-clause-inferred : goal.returns-in_default-clause-inferred
 returns-in_default-clause-inferred g c =
-    let s = (state_of (reader g.P.Paths.timeline g.L.LastValues.values) g.W.Partial.sets g.W.Transfer.moves g.R.RowRules.rules g.B.ByteFacts.store c.args.self.now.facts) in
+    let s = (state_of g.W.Partial.sets g.W.Transfer.moves g.R.RowRules.rules g.B.ByteFacts.store c.args.self.now.facts) in
     let x = passage c.args.a c.args.m c.args.w in
     HasInferred_same s (IsCarriedIf x) (free_if s x c.requires.unknown (sym c.known_byte.ensures ∙ none_found c.known_byte.result c.in_default.not-Some))
 
 pub tell_across-requires-clause-to : goal.tell_across-requires-clause-to
-tell_across-requires-clause-to g c = ((g.met.P.Paths.lawful c.args.self.now.facts.paths).moments.inside c.args.m c.args.w c.requires.bridged.next).0
+tell_across-requires-clause-to g c = ((lawful c.args.self.now.facts.paths).moments.inside c.args.m c.args.w c.requires.bridged.next).0
 
 pub tell_across-requires-clause-brought : goal.tell_across-requires-clause-brought
-tell_across-requires-clause-brought g c = brought_back (state_of (reader g.P.Paths.timeline g.L.LastValues.values) g.W.Partial.sets g.W.Transfer.moves g.R.RowRules.rules g.B.ByteFacts.store c.args.self.now.facts) (record { sets = g.met.W.Partial.lawful; moves = g.met.W.Transfer.covers; rules = g.met.R.RowRules.lawful; legs = (g.met.P.Paths.lawful _).legs; moments = (g.met.P.Paths.lawful _).moments }) c.held.ensures (passage c.args.a c.args.m c.args.w) c.in-Some.value (omega arith) c.requires.bridged (sym c.known_byte.ensures ∙ c.in-Some.is)
+tell_across-requires-clause-brought g c = brought_back (state_of g.W.Partial.sets g.W.Transfer.moves g.R.RowRules.rules g.B.ByteFacts.store c.args.self.now.facts) (record { sets = g.met.W.Partial.lawful; moves = g.met.W.Transfer.covers; rules = g.met.R.RowRules.lawful; legs = (lawful c.args.self.now.facts.paths).legs; moments = (lawful c.args.self.now.facts.paths).moments }) c.held.ensures (passage c.args.a c.args.m c.args.w) c.in-Some.value (omega arith) c.requires.bridged (sym c.known_byte.ensures ∙ c.in-Some.is)
 
 pub returns-clause-inferred : goal.returns-clause-inferred
 returns-clause-inferred g c =
-    let s = (state_of (reader g.P.Paths.timeline g.L.LastValues.values) g.W.Partial.sets g.W.Transfer.moves g.R.RowRules.rules g.B.ByteFacts.store c.args.self.now.facts) in
+    let s = (state_of g.W.Partial.sets g.W.Transfer.moves g.R.RowRules.rules g.B.ByteFacts.store c.args.self.now.facts) in
     let x = passage c.args.a c.args.m c.args.w in
     HasInferred_if s _ c.tell_across.result (Knows c.args.m (Byte c.args.a) c.in-Some.value) (IsCarriedIf x) c.tell_across.ensures.inferred (λ h. same_if s x c.in-Some.value h (sym c.known_byte.ensures ∙ c.in-Some.is))

@@ -1,11 +1,11 @@
 use Rattle.std.proofs.Common.{arith}
-use Rattle.rept_facts.specs.State.{state_of, reader}
+use Rattle.rept_facts.specs.State.{state_of}
 use Rattle.rept_propagate.proofs.Going.{up_to_walled}
 use Rattle.rept_propagate.proofs.propagation.Propagation.walled_to.Goals as goal
 
 pub loop-number-preserved : goal.loop-number-preserved
 loop-number-preserved g c =
-    let s = (state_of (reader g.P.Paths.timeline g.L.LastValues.values) g.W.Partial.sets g.W.Transfer.moves g.R.RowRules.rules g.B.ByteFacts.store c.args.self.now.facts) in
+    let s = (state_of g.W.Partial.sets g.W.Transfer.moves g.R.RowRules.rules g.B.ByteFacts.store c.args.self.now.facts) in
     let strip = c.strip-strip.result in
     let its = c.strip-strip.ensures in
     let order = c.loop-number.invariant.order in

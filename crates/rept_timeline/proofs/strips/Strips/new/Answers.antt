@@ -1,7 +1,7 @@
 use Rattle.std.proofs.Common.{◌≡◌, ◌+◌, ℕ, List, sym, subst, arith}
 use Rattle.rept_moments.specs.Several.{seen_of}
 use Rattle.rept_report.specs.declared.paths.Strip.{Strip}
-use Rattle.rept_timeline.specs.Times.{as_timeline}
+use Rattle.rept_extents.specs.Timelines.{as_timeline}
 use Rattle.rept_timeline.specs.Strips.{AreStripsBelow}
 use Rattle.rept_timeline.proofs.Stripping.{no_strips, strips_more}
 use Rattle.rept_timeline.proofs.strips.Strips.new.Goals as goal

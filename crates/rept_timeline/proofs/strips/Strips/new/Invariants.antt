@@ -1,6 +1,6 @@
 use Rattle.rept_moments.specs.Several.{seen_of}
 use Rattle.rept_report.specs.Timeline.{IsStrip}
-use Rattle.rept_timeline.specs.Times.{as_timeline}
+use Rattle.rept_extents.specs.Timelines.{as_timeline}
 use Rattle.rept_timeline.specs.Strips.{AreStripsBelow}
 use Rattle.rept_timeline.proofs.strips.Strips.new.Given as goal
 
