@@ -4,9 +4,11 @@ ghost use Rattle.std.specs.Prelude.{◌≡◌, false, IfOk, IfSome};
 ghost use Rattle.rept_ports.specs.Port.{move};
 ghost use Rattle.rept_findings.specs.Shown.{IsThreadPoint, session_told};
 ghost use Rattle.rept_session.specs.Texts.{refusal_line};
+ghost use Rattle.rept_session.specs.Serving.Kept.{IsKept};
 ghost use Rattle.rept_session.specs.Serving.Replies.{IsAnswer, RepliesToLine, said_of_line};
 ghost use Rattle.rept_session.specs.Serving.Serving.{Serves, IsServeCaused};
 
+use super::kept::{KeptAnswer, answer_again, keep};
 use crate::{Answer, BadCommand, answer_line, last_of, refusal_text};
 use rept_findings::{Findings, ThreadPoint};
 use rept_ports::{BoundedLines, Line, LineFault, Sink, Source, write_all};
@@ -72,19 +74,41 @@ fn long_line(alloc: Global, cursor: ThreadPoint) -> Result<Answer, OutOfMemory>
     })
 }
 
-/// Writes the answer to a line.
+/// The answer to a line: the one that is kept, where this line was asked at this cursor before.
+fn find_answer<F: Findings>(
+    alloc: Global,
+    findings: &F,
+    skipped: u32,
+    cursor: ThreadPoint,
+    line: Line<'_>,
+    kept: Option<KeptAnswer>,
+) -> Result<Answer, OutOfMemory>
+    requires cursor { IsThreadPoint (F.shown findings.now) cursor }
+    requires kept { IfSome kept (IsKept (session_told (F.shown findings.now) skipped (F.reasons findings.now))) }
+    ensures answer { IfOk result (λ answer. IsAnswer (session_told (F.shown findings.now) skipped (F.reasons findings.now)) cursor (said_of_line line.entry) answer) }
+{
+    match answer_again(kept, cursor, line) {
+        Some(answer) => Ok(answer),
+        None => answer_to(alloc, findings, skipped, cursor, line),
+    }
+}
+
+/// Writes the answer to a line, and keeps it.
 fn reply<F: Findings, K: Sink>(
     alloc: Global,
     findings: &F,
     skipped: u32,
     cursor: ThreadPoint,
     line: Line<'_>,
+    kept: &mut Option<KeptAnswer>,
     out: &mut K,
 ) -> Next
-    requires { IsThreadPoint (F.shown findings.now) cursor }
+    requires cursor { IsThreadPoint (F.shown findings.now) cursor }
+    requires kept { IfSome kept.old (IsKept (session_told (F.shown findings.now) skipped (F.reasons findings.now))) }
     ensures came { RepliesToLine (session_told (F.shown findings.now) skipped (F.reasons findings.now)) cursor (said_of_line line.entry) (move (K.port out.old) (K.port out.new)) result }
+    ensures kept { IfSome kept.new (IsKept (session_told (F.shown findings.now) skipped (F.reasons findings.now))) }
 {
-    let Ok(answer) = answer_to(alloc, findings, skipped, cursor, line) else {
+    let Ok(answer) = find_answer(alloc, findings, skipped, cursor, line, kept.take()) else {
         return Next::OutOfMemory;
     };
     if answer.quit {
@@ -92,7 +116,10 @@ fn reply<F: Findings, K: Sink>(
     }
     let next = answer.cursor;
     match write_all(out, answer.text.bytes()) {
-        Ok(()) => Next::Line(next),
+        Ok(()) => {
+            *kept = keep(alloc, cursor, line, answer);
+            Next::Line(next)
+        }
         Err(_) => Next::OutputFault,
     }
 }
@@ -112,10 +139,11 @@ pub fn serve<F: Findings, S: Source, K: Sink>(
     let _threads = findings.threads();
     let mut cursor = last_of(findings, 0);
     let mut lines = BoundedLines::new(input);
+    let mut kept = None;
     'session: loop {
         match lines.next_line() {
             Ok(None) => return Served::Ended,
-            Ok(Some(line)) => match reply(alloc, findings, skipped, cursor, line, out) {
+            Ok(Some(line)) => match reply(alloc, findings, skipped, cursor, line, &mut kept, out) {
                 Next::Line(next) => cursor = next,
                 Next::Quit => return Served::Ended,
                 Next::OutputFault => return Served::OutputFault,
