@@ -1,4 +1,6 @@
 //! What follows from a path and the dump in which it ends, learnt step by step.
+#![tactic(auto, using(rept_timeline::specs::Paths::lawful))]
+
 ghost use Rattle.rept_timeline.specs.Paths.{timeline};
 ghost use Rattle.std.specs.Prelude.{◌≡◌, ◌+◌, ◌*◌, ◌<◌, ◌≤◌, ℕ, length, true, false, IsOk, IfOk, OnOk, Some, None, Ok, Err};
 ghost use Rattle.rept_dump.specs.Dump.{exe_of, core_of};

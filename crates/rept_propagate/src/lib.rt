@@ -1,4 +1,4 @@
-//! Takes bytes from memory point to memory point, and learns what they are there.
+//! Takes bytes from moment to moment, and learns what they are there.
 #![tactic(auto)]
 
 mod link;

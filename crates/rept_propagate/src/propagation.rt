@@ -1,4 +1,4 @@
-//! Takes bytes from memory point to memory point, and learns what they are there.
+//! Takes bytes from moment to moment, and learns what they are there.
 
 ghost use Rattle.std.specs.Prelude.{◌≡◌, ◌+◌, ◌<◌, IfOk, Ok};
 
@@ -20,7 +20,7 @@ use rept_versions::ByteFacts;
 use std::alloc::{AllocError as OutOfMemory, Global};
 
 /// What is known of a run and the dump in which it ends, and how far bytes were taken from one
-/// memory point to another. Its clauses speak of `facts` alone: the two tables only save work.
+/// moment to another. Its clauses speak of `facts` alone: the two tables only save work.
 #[derive(Drop)]
 pub struct Propagation<'a, B: ByteFacts, W: Transfer, R: RowRules> {
     /// what is known

@@ -1,4 +1,5 @@
 //! What holds of an analysis as a whole.
+#![tactic(auto, using(rept_timeline::specs::Paths::lawful))]
 
 ghost use Rattle.rept_timeline.specs.Ends.{last_values_in};
 ghost use Rattle.rept_timeline.specs.Paths.{timeline};

@@ -1,4 +1,5 @@
 //! What a row lets one conclude.
+#![tactic(auto, using(rept_timeline::specs::Paths::lawful))]
 
 ghost use Rattle.rept_timeline.specs.Paths.{timeline};
 ghost use Rattle.std.specs.Prelude.{◌≡◌, ◌≤◌, false, IfOk, IfErr, ⊤, ◌≢◌, ◌+◌, ◌<◌, ◌↔◌, length, true, IsTrue, Some, None, Ok, Err, slice_get};

@@ -1,4 +1,5 @@
 //! Learning all that follows.
+#![tactic(auto, using(rept_timeline::specs::Paths::lawful))]
 
 ghost use Rattle.rept_timeline.specs.Paths.{timeline};
 ghost use Rattle.std.specs.Prelude.{◌≡◌, ◌<◌, ◌+◌, ◌*◌, ◌≤◌, length, true, false, IsOk, IfErr, Some, None, Ok, Err};

@@ -1,4 +1,5 @@
 //! All rules once: rows, last values and bytes, and sets of one value.
+#![tactic(auto, using(rept_timeline::specs::Paths::lawful))]
 
 ghost use Rattle.rept_timeline.specs.Ends.{last_values_in};
 ghost use Rattle.rept_timeline.specs.Paths.{timeline};

@@ -1,4 +1,5 @@
 //! Reasons of facts.
+#![tactic(auto, using(rept_timeline::specs::Paths::lawful))]
 
 ghost use Rattle.rept_timeline.specs.Paths.{timeline};
 ghost use Rattle.std.specs.Prelude.{◌<◌, ◌≤◌, ◌≡◌, ◌≢◌, ℕ, ◌+◌, ◌-◌, ◌↔◌, length, true, false, Some, IfOk, IfSome, IfNone, IsTrue};

@@ -1,4 +1,5 @@
 //! The carrying of bytes over rows that may not write them.
+#![tactic(auto, using(rept_timeline::specs::Paths::lawful))]
 
 ghost use Rattle.rept_timeline.specs.Paths.{timeline};
 ghost use Rattle.std.specs.Prelude.{◌≡◌, ◌+◌, ◌<◌, ◌≤◌, ◌^◌, ◌⊎◌, ℕ, if◌then◌else◌, length, true, false, Some, None, IsSome, IfSome, IfOk, IfErr, ⊤};

@@ -1,4 +1,5 @@
 //! How far a byte's value goes at once, and over all moments.
+#![tactic(auto, using(rept_timeline::specs::Paths::lawful))]
 
 ghost use Rattle.rept_timeline.specs.Paths.{timeline};
 ghost use Rattle.std.specs.Prelude.{◌≡◌, ◌+◌, ◌<◌, ◌≤◌, ℕ, length, false, true, IsSome, IfSome, IfOk, IfErr, ⊤};

@@ -1,5 +1,6 @@
 //! Bytes that go the same ways as another one: what is known of them follows from what is known of
 //! that one, and the rows that may write that one may write them.
+#![tactic(auto, using(rept_timeline::specs::Paths::lawful))]
 
 ghost use Rattle.rept_timeline.specs.Paths.{timeline};
 ghost use Rattle.std.specs.Prelude.{◌≡◌, ◌≤◌, true, IfSome};

@@ -1,4 +1,5 @@
 //! Which rows keep bytes from being carried.
+#![tactic(auto, using(rept_timeline::specs::Paths::lawful))]
 
 ghost use Rattle.rept_timeline.specs.Paths.{timeline};
 ghost use Rattle.std.specs.Prelude.{◌≡◌, ℕ, ◌+◌, ◌<◌, true, false, Some, IsSome, IfSome};

@@ -8,12 +8,12 @@ use Rattle.rept_found.proofs.Settings.{given_is, points_are, scene_is, seen_same
 use Rattle.rept_timeline.proofs.Lasting.{values_long}
 use Rattle.rept_found.proofs.prepared.prepare.Goals as goal
 
-pub prepare-requires-clause-few : goal.prepare-requires-clause-few
-prepare-requires-clause-few g c =
+pub prepare-requires : goal.prepare-requires
+prepare-requires g c =
     let all = points_are c.args.ends.now.course c.account.ensures.some in
     let few = c.account.ensures.few in
     let here : (seen_in c.args.paths.now.ways).legs.count ≤ 66560 = subst (λ (x : SeenMoments). x.legs.count ≤ 66560) (sym (seen_same c.args.ends.now.course c.args.paths.now.ways c.requires.course)) (omega arith) in
-    here
+    record { few = here }
 
 pub invariant_of-result : goal.invariant_of-result
 invariant_of-result g c =

@@ -36,47 +36,55 @@ dialog-smaller g c =
     omega (arith, taken.1.took.within, takes_some c.dialog.packets c.next.new.self (move (g.S.Source.port c.dialog.input) (g.S.Source.port c.next.new.source)) c.in-Ok-next.arrival taken)
 
 pub returns-in-Err : goal.returns-in-Err
-returns-in-Err g c = λ input output h. (c.dialog.invariant.waits input output h).arrival
+returns-in-Err g c = record {
+  talk = λ input output h. (c.dialog.invariant.waits input output h).arrival;
+}
 
 pub returns-in-Err-write_all : goal.returns-in-Err-write_all
-returns-in-Err-write_all g c = λ input output h.
-    let s = g.F.Findings.shown c.args.findings.now in
-    let here = c.dialog.invariant in
-    let parties : Parties = parties_over (session_told s c.args.setting.skipped (g.F.Findings.reasons c.args.findings.now)) c.args.setting in
-    let what = arrived c.dialog.arrival c.dialog.packets.carried in
-    let turned : IsTurn parties.told parties.setting c.dialog.dialog what c.in-Ok.text c.take_turn.new.dialog =
-    subst (λ (bytes : List ℕ). IsTurn parties.told parties.setting c.dialog.dialog (arrived c.dialog.arrival bytes) c.in-Ok.text c.take_turn.new.dialog) c.carried.ensures c.in-Ok.ensures.turn in
-    let wrote = subst (λ (bytes : List ℕ). AppendsPrefix (g.K.Sink.port c.dialog.out).bytes (g.K.Sink.port c.write_all.new.sink).bytes bytes) c.bytes.ensures c.in-Err-write_all.ensures.err in
-    let cause = c.in-Err-write_all.ensures.cause in
-    broke (rules_of parties) (longer parties) input (g.S.Source.port c.dialog.input) output (g.K.Sink.port c.dialog.out) c.dialog.dialog c.dialog.packets c.dialog.arrival (here.waits input output h) (g.K.Sink.port c.write_all.new.sink) c.in-Ok.text c.take_turn.new.dialog turned wrote (record { rose = cause.failed; later = cause.later; once = cause.once })
+returns-in-Err-write_all g c = record {
+  talk = λ input output h.
+      let s = g.F.Findings.shown c.args.findings.now in
+      let here = c.dialog.invariant in
+      let parties : Parties = parties_over (session_told s c.args.setting.skipped (g.F.Findings.reasons c.args.findings.now)) c.args.setting in
+      let what = arrived c.dialog.arrival c.dialog.packets.carried in
+      let turned : IsTurn parties.told parties.setting c.dialog.dialog what c.in-Ok.text c.take_turn.new.dialog =
+      subst (λ (bytes : List ℕ). IsTurn parties.told parties.setting c.dialog.dialog (arrived c.dialog.arrival bytes) c.in-Ok.text c.take_turn.new.dialog) c.carried.ensures c.in-Ok.ensures.turn in
+      let wrote = subst (λ (bytes : List ℕ). AppendsPrefix (g.K.Sink.port c.dialog.out).bytes (g.K.Sink.port c.write_all.new.sink).bytes bytes) c.bytes.ensures c.in-Err-write_all.ensures.err in
+      let cause = c.in-Err-write_all.ensures.cause in
+      broke (rules_of parties) (longer parties) input (g.S.Source.port c.dialog.input) output (g.K.Sink.port c.dialog.out) c.dialog.dialog c.dialog.packets c.dialog.arrival (here.waits input output h) (g.K.Sink.port c.write_all.new.sink) c.in-Ok.text c.take_turn.new.dialog turned wrote (record { rose = cause.failed; later = cause.later; once = cause.once });
+}
 
 pub returns-then-dialog : goal.returns-then-dialog
-returns-then-dialog g c = λ input output h.
-    let s = g.F.Findings.shown c.args.findings.now in
-    let here = c.dialog.invariant in
-    let parties : Parties = parties_over (session_told s c.args.setting.skipped (g.F.Findings.reasons c.args.findings.now)) c.args.setting in
-    let what = arrived c.dialog.arrival c.dialog.packets.carried in
-    let turned : IsTurn parties.told parties.setting c.dialog.dialog what c.in-Ok.text c.take_turn.new.dialog =
-    subst (λ (bytes : List ℕ). IsTurn parties.told parties.setting c.dialog.dialog (arrived c.dialog.arrival bytes) c.in-Ok.text c.take_turn.new.dialog) c.carried.ensures c.in-Ok.ensures.turn in
-    let wrote = subst (λ (bytes : List ℕ). Appends (g.K.Sink.port c.dialog.out).bytes (g.K.Sink.port c.write_all.new.sink).bytes bytes) c.bytes.ensures c.in-Ok-write_all.ensures.ok in
-    let w = here.waits input output h in
-    record {
-      read = w.arrival.read ++ w.arrival.got;
-      now = c.take_turn.new.dialog;
-      progress = on_turn (rules_of parties) (longer parties) input (g.S.Source.port c.dialog.input) output (g.K.Sink.port c.dialog.out) c.dialog.dialog c.dialog.packets c.dialog.arrival w (g.K.Sink.port c.write_all.new.sink) c.in-Ok.text c.take_turn.new.dialog turned wrote c.in-Ok-write_all.ensures.cause.calm;
-      left = c.if-dialog.true;
-    }
+returns-then-dialog g c = record {
+  talk = λ input output h.
+      let s = g.F.Findings.shown c.args.findings.now in
+      let here = c.dialog.invariant in
+      let parties : Parties = parties_over (session_told s c.args.setting.skipped (g.F.Findings.reasons c.args.findings.now)) c.args.setting in
+      let what = arrived c.dialog.arrival c.dialog.packets.carried in
+      let turned : IsTurn parties.told parties.setting c.dialog.dialog what c.in-Ok.text c.take_turn.new.dialog =
+      subst (λ (bytes : List ℕ). IsTurn parties.told parties.setting c.dialog.dialog (arrived c.dialog.arrival bytes) c.in-Ok.text c.take_turn.new.dialog) c.carried.ensures c.in-Ok.ensures.turn in
+      let wrote = subst (λ (bytes : List ℕ). Appends (g.K.Sink.port c.dialog.out).bytes (g.K.Sink.port c.write_all.new.sink).bytes bytes) c.bytes.ensures c.in-Ok-write_all.ensures.ok in
+      let w = here.waits input output h in
+      record {
+        read = w.arrival.read ++ w.arrival.got;
+        now = c.take_turn.new.dialog;
+        progress = on_turn (rules_of parties) (longer parties) input (g.S.Source.port c.dialog.input) output (g.K.Sink.port c.dialog.out) c.dialog.dialog c.dialog.packets c.dialog.arrival w (g.K.Sink.port c.write_all.new.sink) c.in-Ok.text c.take_turn.new.dialog turned wrote c.in-Ok-write_all.ensures.cause.calm;
+        left = c.if-dialog.true;
+      };
+}
 
 pub returns-in-Err-next : goal.returns-in-Err-next
-returns-in-Err-next g c = λ input output h.
-    let s = g.F.Findings.shown c.args.findings.now in
-    let here = c.dialog.invariant in
-    let parties : Parties = parties_over (session_told s c.args.setting.skipped (g.F.Findings.reasons c.args.findings.now)) c.args.setting in
-    let what = arrived c.dialog.arrival c.dialog.packets.carried in
-    let turned : IsTurn parties.told parties.setting c.dialog.dialog what c.in-Ok.text c.take_turn.new.dialog =
-    subst (λ (bytes : List ℕ). IsTurn parties.told parties.setting c.dialog.dialog (arrived c.dialog.arrival bytes) c.in-Ok.text c.take_turn.new.dialog) c.carried.ensures c.in-Ok.ensures.turn in
-    let wrote = subst (λ (bytes : List ℕ). Appends (g.K.Sink.port c.dialog.out).bytes (g.K.Sink.port c.write_all.new.sink).bytes bytes) c.bytes.ensures c.in-Ok-write_all.ensures.ok in
-    let w = here.waits input output h in
-    let so_far = on_turn (rules_of parties) (longer parties) input (g.S.Source.port c.dialog.input) output (g.K.Sink.port c.dialog.out) c.dialog.dialog c.dialog.packets c.dialog.arrival w (g.K.Sink.port c.write_all.new.sink) c.in-Ok.text c.take_turn.new.dialog turned wrote c.in-Ok-write_all.ensures.cause.calm in
-    let ended = opened c.dialog.packets c.next.new.self (g.S.Source.port c.dialog.input) (g.S.Source.port c.next.new.source) (Err c.in-Err-next.why) w.going c.in-Err-next.ensures in
-    ends (rules_of parties) input (g.S.Source.port c.dialog.input) (g.S.Source.port c.next.new.source) output (g.K.Sink.port c.write_all.new.sink) (w.arrival.read ++ w.arrival.got) c.take_turn.new.dialog so_far c.dialog.packets c.next.new.self w.counted c.in-Err-next.why ended
+returns-in-Err-next g c = record {
+  talk = λ input output h.
+      let s = g.F.Findings.shown c.args.findings.now in
+      let here = c.dialog.invariant in
+      let parties : Parties = parties_over (session_told s c.args.setting.skipped (g.F.Findings.reasons c.args.findings.now)) c.args.setting in
+      let what = arrived c.dialog.arrival c.dialog.packets.carried in
+      let turned : IsTurn parties.told parties.setting c.dialog.dialog what c.in-Ok.text c.take_turn.new.dialog =
+      subst (λ (bytes : List ℕ). IsTurn parties.told parties.setting c.dialog.dialog (arrived c.dialog.arrival bytes) c.in-Ok.text c.take_turn.new.dialog) c.carried.ensures c.in-Ok.ensures.turn in
+      let wrote = subst (λ (bytes : List ℕ). Appends (g.K.Sink.port c.dialog.out).bytes (g.K.Sink.port c.write_all.new.sink).bytes bytes) c.bytes.ensures c.in-Ok-write_all.ensures.ok in
+      let w = here.waits input output h in
+      let so_far = on_turn (rules_of parties) (longer parties) input (g.S.Source.port c.dialog.input) output (g.K.Sink.port c.dialog.out) c.dialog.dialog c.dialog.packets c.dialog.arrival w (g.K.Sink.port c.write_all.new.sink) c.in-Ok.text c.take_turn.new.dialog turned wrote c.in-Ok-write_all.ensures.cause.calm in
+      let ended = opened c.dialog.packets c.next.new.self (g.S.Source.port c.dialog.input) (g.S.Source.port c.next.new.source) (Err c.in-Err-next.why) w.going c.in-Err-next.ensures in
+      ends (rules_of parties) input (g.S.Source.port c.dialog.input) (g.S.Source.port c.next.new.source) output (g.K.Sink.port c.write_all.new.sink) (w.arrival.read ++ w.arrival.got) c.take_turn.new.dialog so_far c.dialog.packets c.next.new.self w.counted c.in-Err-next.why ended;
+}

@@ -1,10 +1,11 @@
-use Rattle.std.proofs.Common.{◌≡◌, ◌∙◌, ap, w32, FitsSigned, ℕ, Option, min}
+use Rattle.std.proofs.Common.{◌≡◌, ◌∙◌, ap, w32, FitsSigned, ℕ, min}
 use Rattle.std.proofs.lemmas.Int.{to_z-of_z}
 use Rattle.std.proofs.lemmas.Result.{IfOk-weaker}
 use Rattle.rept_isa.specs.Numbers.{plus}
-use Rattle.rept_reason.specs.View.Rules.{offset_of}
+use Rattle.rept_isa.specs.Operands.{first_read}
 use Rattle.rept_log.specs.Fronts.{basis_of, front_of, seen_in}
-use Rattle.rept_log.specs.RowBytes.{bytes_from, bytes_from_base}
+use Rattle.rept_log.specs.RowBytes.{base_seen, bytes_from, bytes_from_base}
+use Rattle.rept_log.proofs.RowReading.{bytes_by}
 use Rattle.rept_log.proofs.front.Front.row_bytes.Goals as goal
 
 pub returns-in-Some : goal.returns-in-Some
@@ -14,6 +15,8 @@ returns-in-Some g c =
     let first : c.plus-first.result ≡ plus c.in-Some.base c.offset_of.result = rw (to_z-of_z w32 c.offset_of.result fits) at c.plus-first.ensures in
     let at = first ∙ ap (plus c.in-Some.base) c.offset_of.ensures in
     let many = c.min-count.ensures ∙ ap (λ (n : ℕ). min n 4) c.places.ensures.value in
-    IfOk-weaker c.bytes_from.result _ _
-    (λ v h. h ∙ ap (λ (n : ℕ). bytes_from s n c.min-count.result) at ∙ ap (λ (n : ℕ). bytes_from s (plus c.in-Some.base (offset_of c.args.row.now.instr)) n) many ∙ ap (λ (b : Option ℕ). bytes_from_base g.R.RowRules.rules c.args.row.now s b) c.in-Some.ensures)
+    IfOk-weaker c.bytes_from.result
+    (λ v. v.items ≡ bytes_from s c.plus-first.result c.min-count.result)
+    (λ v. v.items ≡ bytes_from_base g.R.RowRules.rules c.args.row.now s (base_seen (first_read c.args.row.now.instr) s))
+    (λ v h. h ∙ bytes_by g.R.RowRules.rules c.args.row.now s c.in-Some.base c.plus-first.result c.min-count.result (base_seen (first_read c.args.row.now.instr) s) at many c.in-Some.ensures)
     c.bytes_from.ensures

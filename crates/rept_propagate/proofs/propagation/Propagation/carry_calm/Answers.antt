@@ -77,3 +77,10 @@ returns-clause-inferred g c =
     let t = (state_of g.W.Partial.sets g.W.Transfer.moves g.R.RowRules.rules g.B.ByteFacts.store c.loop-from.self.facts) in
     let ended = c.loop-from-test.false in
     HasInferred_as s t c.loop-from.learnt (IsCarriedBelow c.args.a c.args.strip c.loop-from.from) (IsCarriedIn c.args.a c.args.strip) c.loop-from.invariant.inferred (λ p. in_all s c.args.a c.loop-from.from c.args.strip p (omega (arith, ended)))
+
+pub overflow_add-from : goal.overflow_add-from
+overflow_add-from g c =
+    let near = c.in_ok-beside.ensures.onward.1 in
+    let inside = c.requires.strip.inside in
+    let few = (lawful c.args.self.now.facts.paths).numbers in
+    omega (arith, near, inside, few)
