@@ -1,3 +1,4 @@
 pub mod Account
 pub mod Measure
 pub mod Refining
+pub mod Since

@@ -61,6 +61,14 @@ module _ {W : Type 0} (a b : AnalysisState W) (g : Grows a b) where
   same_end : b.path.given.moments.end ≡ a.path.given.moments.end
   same_end = ap (λ (P : Subject W). P.given.moments.end) g.path
 
+  pub measure_le : measure b ≤ measure a
+  measure_le =
+      let r = all_registers in
+      let y = all_bytes in
+      let t = tracked_le (2 ^ 32) in
+      let fewer = g.fewer in
+      rw (g.count, same_end) (omega (arith, fewer, t, r, y))
+
   pub news_less : HasNews a b → measure b < measure a
   news_less (fact p c v early cell none here) =
       let less = cell_less p c v early cell none here in

@@ -26,6 +26,7 @@ mod answering;
 mod counting;
 mod inferring;
 mod refining;
+mod since;
 mod stopping;
 mod sweeping;
 mod why;

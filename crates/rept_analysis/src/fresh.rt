@@ -38,6 +38,8 @@ fn bit_of(number: u32) -> u64 {
 pub struct StepWorklist {
     marked: Vec<u64>,
     open: Vec<u64>,
+    /// beside which something was learnt by no row
+    late: Vec<u64>,
     words: u32,
     looks: Vec<Look>,
 }
@@ -48,10 +50,12 @@ impl StepWorklist {
         let words = end / 64 + 1;
         let marked = vec![in alloc; u64::MAX; words as usize]?;
         let open = vec![in alloc; u64::MAX; words as usize]?;
+        let late = vec![in alloc; 0; words as usize]?;
         let looks = vec![in alloc; NEVER; end as usize + 1]?;
         Ok(StepWorklist {
             marked,
             open,
+            late,
             words,
             looks,
         })
@@ -84,6 +88,22 @@ impl StepWorklist {
         }
     }
 
+    /// Keeps that something was learnt beside a row by no row.
+    pub fn mark_late(&mut self, number: u32) {
+        let k = number as usize / 64;
+        if k < self.late.len() {
+            self.late[k] = self.late[k] | bit_of(number);
+        }
+    }
+
+    /// Keeps that the row was looked at since.
+    fn unmark_late(&mut self, number: u32) {
+        let k = number as usize / 64;
+        if k < self.late.len() {
+            self.late[k] = self.late[k] & !bit_of(number);
+        }
+    }
+
     /// Keeps that it is not.
     fn unmark(&mut self, number: u32) {
         let k = number as usize / 64;
@@ -105,6 +125,16 @@ impl StepWorklist {
         let open = self.open.as_slice();
         if k < marked.len() && k < open.len() {
             marked[k] | open[k]
+        } else {
+            0
+        }
+    }
+
+    /// Those, and those beside which something was learnt by no row.
+    fn late_word(&self, k: u32) -> u64 {
+        let late = self.late.as_slice();
+        if (k as usize) < late.len() {
+            self.word(k) | late[k as usize]
         } else {
             0
         }
@@ -149,6 +179,35 @@ impl StepWorklist {
             return end.saturating_sub(rest.leading_zeros());
         }
         end.min(self.end_before(last / 64))
+    }
+
+    /// The number after the last one below one before which a row may tell something, or beside
+    /// which something was learnt by no row since the row was looked at; 0 where there is none.
+    pub fn late_end_below(&self, end: u32) -> u32
+        ensures { result ≤ end }
+    {
+        let last = end.saturating_sub(1);
+        let rest = self
+            .late_word(last / 64)
+            .wrapping_shl(63u32.wrapping_sub(last));
+        if rest != 0 {
+            return end.saturating_sub(rest.leading_zeros());
+        }
+        end.min(self.late_end_before(last / 64))
+    }
+
+    /// The end of those before a word.
+    fn late_end_before(&self, last: u32) -> u32 {
+        for k in (0..last).rev() {
+            let word = self.late_word(k);
+            if word != 0 {
+                return k
+                    .wrapping_add(1)
+                    .wrapping_mul(64)
+                    .wrapping_sub(word.leading_zeros());
+            }
+        }
+        0
     }
 
     /// The end of those before a word.
@@ -202,6 +261,7 @@ impl StepWorklist {
     /// whether that told something new: then it is to be looked at again.
     pub fn note(&mut self, number: u32, has_news: bool, time: u32) {
         self.note_time(number, time);
+        self.unmark_late(number);
         if has_news {
             self.mark(number);
         } else {

@@ -16,6 +16,7 @@ pub mod Reported
 pub mod Reserve
 pub mod Stopping
 pub mod Settled
+pub mod Since
 pub mod Spreading
 pub mod Explaining
 pub mod Fronts

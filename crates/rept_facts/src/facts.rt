@@ -30,6 +30,7 @@ mod guessing;
 mod learning;
 mod listing;
 mod looking;
+mod since;
 mod ways;
 mod writes;
 

@@ -442,7 +442,7 @@ impl<'a, B: ByteFacts, W: Transfer, R: RowRules> Analysis<'a, B, W, R> {
     }
 
     /// The number of the moment before row i, if there is one.
-    fn number_of(&self, i: u32) -> Option<u32> {
+    pub(super) fn number_of(&self, i: u32) -> Option<u32> {
         match self.propagation.facts.row(i) {
             None => None,
             Some(_) => Some(self.propagation.facts.moment_at(i, When::Before)),

@@ -4,6 +4,7 @@
 ghost use Rattle.rept_timeline.specs.Paths.{timeline};
 ghost use Rattle.std.specs.Prelude.{◌≡◌, ◌<◌, ◌+◌, ◌*◌, ◌≤◌, length, true, false, IsOk, IfErr, Some, None, Ok, Err};
 ghost use Rattle.rept_reason.specs.Facts.{told};
+ghost use Rattle.rept_span.specs.Filled.{AllReadBelow};
 ghost use Rattle.rept_report.specs.Conflicts.{IsQuiet};
 ghost use Rattle.rept_report.specs.declared.conflict.ConflictKind.{ConflictKind};
 ghost use Rattle.rept_facts.specs.Begun.{ends_told, KnowsEnds, HasEndsFirst, LearnsEndsFirst};
@@ -33,6 +34,7 @@ impl<'a, B: ByteFacts, W: Transfer, R: RowRules> Analysis<'a, B, W, R> {
         ensures exact { result ≡ true → AreExact (state_of W.sets W.moves R.rules B.store self.new.propagation.facts) }
         ensures quiet { result ≡ true → IsQuiet (setting_of W.sets W.moves R.rules self.old.propagation.facts) (told (oldest limit self.old.propagation.facts.known.log)) }
         ensures loud { result ≡ false → IsQuiet (setting_of W.sets W.moves R.rules self.old.propagation.facts) (told (oldest limit self.old.propagation.facts.known.log)) → ⊥ }
+        ensures reads { result ≡ true → AllReadBelow (timeline self.old.propagation.facts.paths).legs ((timeline self.old.propagation.facts.paths).legs.count + 1) }
     {
         let quiet = self.propagation.facts.is_quiet(limit);
         if !quiet {
@@ -66,6 +68,7 @@ impl<'a, B: ByteFacts, W: Transfer, R: RowRules> Analysis<'a, B, W, R> {
             if !learnt {
                 break;
             }
+            self.settle_since()?;
         }
         Ok(true)
     }

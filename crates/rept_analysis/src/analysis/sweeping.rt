@@ -221,7 +221,7 @@ impl<'a, B: ByteFacts, W: Transfer, R: RowRules> Analysis<'a, B, W, R> {
     }
 
     /// The sets of one value at a point.
-    fn infer_point(&mut self, point: u32) -> Result<bool, LearnError>
+    pub(super) fn infer_point(&mut self, point: u32) -> Result<bool, LearnError>
         requires point { point ≤ (timeline self.old.propagation.facts.paths).legs.count }
         requires fitted { IsFitted (state_of W.sets W.moves R.rules B.store self.old.propagation.facts) }
         requires open { self.old.propagation.facts.complete ≡ false }
@@ -341,9 +341,26 @@ impl<'a, B: ByteFacts, W: Transfer, R: RowRules> Analysis<'a, B, W, R> {
         self.carry_by_turns(PASSES)
     }
 
+    /// Last values, rows, carried bytes and last bytes, once, with the rows and bytes that may tell
+    /// something new. Bytes are carried before the dump tells its own, so that most of those are
+    /// known by then and take no place of their own.
+    pub(super) fn sweep_rows(&mut self) -> Result<bool, LearnError>
+        requires writings { AreWritings (state_of W.sets W.moves R.rules B.store self.old.propagation.facts) }
+        requires open { self.old.propagation.facts.complete ≡ false }
+        requires uncut { IsUncut (state_of W.sets W.moves R.rules B.store self.old.propagation.facts) }
+        ensures grows { Grows (state_of W.sets W.moves R.rules B.store self.old.propagation.facts) (state_of W.sets W.moves R.rules B.store self.new.propagation.facts) }
+        ensures inferred { IfOk result (λ learnt. HasInferred (state_of W.sets W.moves R.rules B.store self.old.propagation.facts) (state_of W.sets W.moves R.rules B.store self.new.propagation.facts) learnt (λ s. LastKnownBelow 32 s × LastBytesKnown s)) }
+        ensures begun { LearnsEndsFirst (state_of W.sets W.moves R.rules B.store self.old.propagation.facts) → HasEndsFirst (state_of W.sets W.moves R.rules B.store self.new.propagation.facts) }
+        ensures halt { IfErr result (λ h. IsHalt (state_of W.sets W.moves R.rules B.store self.new.propagation.facts) h) }
+    {
+        let last = self.infer_all_last()?;
+        let rows = self.infer_through()?;
+        let bytes = self.carry_rest(last | rows)?;
+        Ok(last | rows | bytes)
+    }
+
     /// All rules once, with the rows and bytes that may tell something new: last values, rows,
-    /// carried bytes, last bytes, and sets of one value. Bytes are carried before the dump tells
-    /// its own, so that most of those are known by then and take no place of their own.
+    /// carried bytes, last bytes, and sets of one value.
     fn sweep_fresh(&mut self) -> Result<bool, LearnError>
         requires writings { AreWritings (state_of W.sets W.moves R.rules B.store self.old.propagation.facts) }
         requires open { self.old.propagation.facts.complete ≡ false }
@@ -353,16 +370,14 @@ impl<'a, B: ByteFacts, W: Transfer, R: RowRules> Analysis<'a, B, W, R> {
         ensures begun { LearnsEndsFirst (state_of W.sets W.moves R.rules B.store self.old.propagation.facts) → HasEndsFirst (state_of W.sets W.moves R.rules B.store self.new.propagation.facts) }
         ensures halt { IfErr result (λ h. IsHalt (state_of W.sets W.moves R.rules B.store self.new.propagation.facts) h) }
     {
-        let last = self.infer_all_last()?;
-        let rows = self.infer_through()?;
-        let bytes = self.carry_rest(last | rows)?;
+        let rows = self.sweep_rows()?;
         let singles = self.infer_singles()?;
-        Ok(last | rows | bytes | singles)
+        Ok(rows | singles)
     }
 
     /// The values of all tracked bytes; where that told something new, rows and bytes by turns, so
     /// that the sets aren't filled for each.
-    fn carry_through(&mut self) -> Result<bool, LearnError>
+    pub(super) fn carry_through(&mut self) -> Result<bool, LearnError>
         requires writings { AreWritings (state_of W.sets W.moves R.rules B.store self.old.propagation.facts) }
         requires current { IsCurrent (state_of W.sets W.moves R.rules B.store self.old.propagation.facts) }
         requires open { self.old.propagation.facts.complete ≡ false }

@@ -1,12 +1,12 @@
 //! What the facts at places below a limit show: sets that are empty, and wrong turns.
 
 ghost use Rattle.rept_timeline.specs.Paths.{timeline};
-ghost use Rattle.std.specs.Prelude.{◌≡◌, ◌<◌, ◌≤◌, ◌^◌, ℕ, length, true, false, IfErr, OnOk, Some, None, Ok, Err};
+ghost use Rattle.std.specs.Prelude.{◌≡◌, ◌+◌, ◌<◌, ◌≤◌, ◌^◌, ℕ, length, true, false, IfErr, OnOk, Some, None, Ok, Err};
 ghost use Rattle.rept_dump.specs.Program.{contents};
 ghost use Rattle.rept_isa.specs.declared.row.StepRow.{StepRow};
 ghost use Rattle.rept_reason.specs.Facts.{told, operand};
 ghost use Rattle.rept_span.specs.Ranges.{IsEmptyFirst};
-ghost use Rattle.rept_span.specs.Filled.{IsFilled, NoneIsEmpty};
+ghost use Rattle.rept_span.specs.Filled.{AllReadBelow, IsFilled, NoneIsEmpty};
 ghost use Rattle.rept_report.specs.Setting.{way_of};
 ghost use Rattle.rept_report.specs.Conflicts.{IsQuiet, IsWrongTurn, Shows};
 ghost use Rattle.rept_report.specs.declared.conflict.ConflictKind.{ConflictKind};
@@ -84,7 +84,7 @@ impl<'a, B: ByteFacts, W: Transfer, R: RowRules> CrashFacts<'a, B, W, R> {
 
     /// Whether row i, if there is one, went another way than the facts at places below the limit
     /// say.
-    fn is_wrong(&self, limit: u32, i: u32) -> bool
+    pub(super) fn is_wrong(&self, limit: u32, i: u32) -> bool
         requires inside { i < (timeline self.now.paths).legs.count }
         ensures wrong { result ≡ true → IsWrongTurn (setting_of W.sets W.moves R.rules self.now) (told (oldest limit self.now.known.log)) i }
         ensures right { result ≡ false → IsWrongTurn (setting_of W.sets W.moves R.rules self.now) (told (oldest limit self.now.known.log)) i → ⊥ }
@@ -124,6 +124,7 @@ impl<'a, B: ByteFacts, W: Transfer, R: RowRules> CrashFacts<'a, B, W, R> {
         ensures filled { OnOk result (IsFilled (way_of (setting_of W.sets W.moves R.rules self.old)) self.new.spans (told (oldest limit self.old.known.log))) }
         ensures some { OnOk result (NoneIsEmpty (way_of (setting_of W.sets W.moves R.rules self.old)) (told (oldest limit self.old.known.log))) }
         ensures empty { IfErr result (λ e. IsEmptyFirst (way_of (setting_of W.sets W.moves R.rules self.old)) (told (oldest limit self.old.known.log)) e.point e.reg) }
+        ensures reads { OnOk result (AllReadBelow (timeline self.old.paths).legs ((timeline self.old.paths).legs.count + 1)) }
     {
         let trail = PathTrail { paths: self.paths };
         let view = Below {
@@ -145,6 +146,7 @@ impl<'a, B: ByteFacts, W: Transfer, R: RowRules> CrashFacts<'a, B, W, R> {
         ensures fitted { result ≡ None → IsFitted (state_of W.sets W.moves R.rules B.store self.new) }
         ensures quiet { result ≡ None → IsQuiet (setting_of W.sets W.moves R.rules self.old) (told (oldest limit self.old.known.log)) }
         ensures conflict { (kind : ConflictKind) → result ≡ Some kind → Shows (setting_of W.sets W.moves R.rules self.old) (told (oldest limit self.old.known.log)) kind }
+        ensures reads { result ≡ None → AllReadBelow (timeline self.old.paths).legs ((timeline self.old.paths).legs.count + 1) }
     {
         match self.fill(limit) {
             Err(empty) => {
@@ -166,6 +168,7 @@ impl<'a, B: ByteFacts, W: Transfer, R: RowRules> CrashFacts<'a, B, W, R> {
         ensures fitted { result ≡ true → IsFitted (state_of W.sets W.moves R.rules B.store self.new) }
         ensures quiet { result ≡ true → IsQuiet (setting_of W.sets W.moves R.rules self.old) (told (oldest limit self.old.known.log)) }
         ensures loud { result ≡ false → IsQuiet (setting_of W.sets W.moves R.rules self.old) (told (oldest limit self.old.known.log)) → ⊥ }
+        ensures reads { result ≡ true → AllReadBelow (timeline self.old.paths).legs ((timeline self.old.paths).legs.count + 1) }
     {
         match self.look(limit) {
             None => true,

@@ -1,4 +1,4 @@
-use Rattle.std.proofs.Common.{arith, ◌≡◌, ◌<◌, ℕ, length, inr, sym, ap, subst, ◌∙◌}
+use Rattle.std.proofs.Common.{arith, ◌≡◌, ◌+◌, ◌<◌, ℕ, length, inr, sym, ap, subst, ◌∙◌}
 use Rattle.rept_reason.specs.Facts.{told}
 use Rattle.rept_report.specs.Conflicts.{IsQuiet}
 use Rattle.rept_report.specs.Log.{oldest}
@@ -8,7 +8,9 @@ use Rattle.rept_facts.specs.Inferring.{IsSettled}
 use Rattle.rept_facts.specs.Begun.{HasEndsFirst}
 use Rattle.rept_facts.specs.Measure.{measure}
 use Rattle.rept_facts.proofs.Begun.{any_err, begins_like}
+use Rattle.rept_span.specs.Filled.{AllReadBelow}
 use Rattle.rept_analysis.proofs.Measure.{news_less}
+use Rattle.rept_analysis.proofs.Since.{goes_trans, same_goes, grows_goes, quiet_after, quiet_filled}
 use Rattle.rept_facts.proofs.Ending.{forth, back_to, measure_same, same_continues, grows_continues, Continues_itself, Continues_trans, quiet_part, quiet_whole, settled_by, spent_like, spent_after, uncut_like, known_like, known_after}
 use Rattle.rept_analysis.proofs.analysis.Analysis.settle.Goals as goal
 
@@ -26,16 +28,58 @@ returns-then-not-quiet-clause-loud g c =
 pub returns-in_err-learnt-clause-continues : goal.returns-in_err-learnt-clause-continues
 returns-in_err-learnt-clause-continues g c = Continues_trans _ (state_of g.W.Partial.sets g.W.Transfer.moves g.R.RowRules.rules g.B.ByteFacts.store c.loop-len.self.propagation.facts) _ c.loop-len.invariant.continues (Continues_trans _ (state_of g.W.Partial.sets g.W.Transfer.moves g.R.RowRules.rules g.B.ByteFacts.store c.ready-quiet.new.self.propagation.facts) _ (same_continues (state_of g.W.Partial.sets g.W.Transfer.moves g.R.RowRules.rules g.B.ByteFacts.store c.loop-len.self.propagation.facts) (state_of g.W.Partial.sets g.W.Transfer.moves g.R.RowRules.rules g.B.ByteFacts.store c.ready-quiet.new.self.propagation.facts) c.ready-quiet.ensures.same) (grows_continues (state_of g.W.Partial.sets g.W.Transfer.moves g.R.RowRules.rules g.B.ByteFacts.store c.ready-quiet.new.self.propagation.facts) (state_of g.W.Partial.sets g.W.Transfer.moves g.R.RowRules.rules g.B.ByteFacts.store c.sweep.new.self.propagation.facts) c.sweep.ensures.grows))
 
+pub settle_since-requires-clause-open : goal.settle_since-requires-clause-open
+settle_since-requires-clause-open g c = c.in_ok-learnt.ensures.grows.complete ∙ c.ready-quiet.ensures.same.complete ∙ c.loop-len.invariant.continues.complete ∙ c.requires.open
+
+pub settle_since-requires-clause-uncut : goal.settle_since-requires-clause-uncut
+settle_since-requires-clause-uncut g c = c.in_ok-learnt.ensures.inferred.uncut (uncut_like (state_of g.W.Partial.sets g.W.Transfer.moves g.R.RowRules.rules g.B.ByteFacts.store c.loop-len.self.propagation.facts) (state_of g.W.Partial.sets g.W.Transfer.moves g.R.RowRules.rules g.B.ByteFacts.store c.ready-quiet.new.self.propagation.facts) c.ready-quiet.ensures.same c.loop-len.invariant.uncut)
+
+pub settle_since-requires-clause-writings : goal.settle_since-requires-clause-writings
+settle_since-requires-clause-writings g c = c.in_ok-learnt.ensures.grows.writing (c.ready-quiet.ensures.writings c.if-not-quiet.false)
+
+pub settle_since-requires-clause-quiet : goal.settle_since-requires-clause-quiet
+settle_since-requires-clause-quiet g c = quiet_after (state_of g.W.Partial.sets g.W.Transfer.moves g.R.RowRules.rules g.B.ByteFacts.store c.ready-quiet.new.self.propagation.facts) (state_of g.W.Partial.sets g.W.Transfer.moves g.R.RowRules.rules g.B.ByteFacts.store c.sweep.new.self.propagation.facts) c.in_ok-learnt.ensures.grows (quiet_filled (state_of g.W.Partial.sets g.W.Transfer.moves g.R.RowRules.rules g.B.ByteFacts.store c.loop-len.self.propagation.facts) (state_of g.W.Partial.sets g.W.Transfer.moves g.R.RowRules.rules g.B.ByteFacts.store c.ready-quiet.new.self.propagation.facts) c.len-len.result c.ready-quiet.ensures.same c.ready-quiet.ensures.limit (c.ready-quiet.ensures.quiet c.if-not-quiet.false))
+
+pub settle_since-requires-clause-reads : goal.settle_since-requires-clause-reads
+settle_since-requires-clause-reads g c = subst (λ (P : Subject g.row.W.Denot). AllReadBelow P.given.legs (P.given.legs.count + 1)) (sym (c.in_ok-learnt.ensures.grows.path ∙ c.ready-quiet.ensures.same.path)) (c.ready-quiet.ensures.reads c.if-not-quiet.false)
+
+pub returns-in_err-settle_since-clause-continues : goal.returns-in_err-settle_since-clause-continues
+returns-in_err-settle_since-clause-continues g c = Continues_trans (state_of g.W.Partial.sets g.W.Transfer.moves g.R.RowRules.rules g.B.ByteFacts.store c.args.self.now.propagation.facts) (state_of g.W.Partial.sets g.W.Transfer.moves g.R.RowRules.rules g.B.ByteFacts.store c.loop-len.self.propagation.facts) (state_of g.W.Partial.sets g.W.Transfer.moves g.R.RowRules.rules g.B.ByteFacts.store c.settle_since.new.self.propagation.facts) c.loop-len.invariant.continues (goes_trans (state_of g.W.Partial.sets g.W.Transfer.moves g.R.RowRules.rules g.B.ByteFacts.store c.loop-len.self.propagation.facts) (state_of g.W.Partial.sets g.W.Transfer.moves g.R.RowRules.rules g.B.ByteFacts.store c.sweep.new.self.propagation.facts) (state_of g.W.Partial.sets g.W.Transfer.moves g.R.RowRules.rules g.B.ByteFacts.store c.settle_since.new.self.propagation.facts) (goes_trans (state_of g.W.Partial.sets g.W.Transfer.moves g.R.RowRules.rules g.B.ByteFacts.store c.loop-len.self.propagation.facts) (state_of g.W.Partial.sets g.W.Transfer.moves g.R.RowRules.rules g.B.ByteFacts.store c.ready-quiet.new.self.propagation.facts) (state_of g.W.Partial.sets g.W.Transfer.moves g.R.RowRules.rules g.B.ByteFacts.store c.sweep.new.self.propagation.facts) (same_goes (state_of g.W.Partial.sets g.W.Transfer.moves g.R.RowRules.rules g.B.ByteFacts.store c.loop-len.self.propagation.facts) (state_of g.W.Partial.sets g.W.Transfer.moves g.R.RowRules.rules g.B.ByteFacts.store c.ready-quiet.new.self.propagation.facts) c.ready-quiet.ensures.same) (grows_goes (state_of g.W.Partial.sets g.W.Transfer.moves g.R.RowRules.rules g.B.ByteFacts.store c.ready-quiet.new.self.propagation.facts) (state_of g.W.Partial.sets g.W.Transfer.moves g.R.RowRules.rules g.B.ByteFacts.store c.sweep.new.self.propagation.facts) c.in_ok-learnt.ensures.grows)) c.settle_since.ensures.goes).continues
+
+pub returns-in_err-settle_since-clause-more : goal.returns-in_err-settle_since-clause-more
+returns-in_err-settle_since-clause-more g c = known_after (state_of g.W.Partial.sets g.W.Transfer.moves g.R.RowRules.rules g.B.ByteFacts.store c.args.self.now.propagation.facts) (state_of g.W.Partial.sets g.W.Transfer.moves g.R.RowRules.rules g.B.ByteFacts.store c.loop-len.self.propagation.facts) (state_of g.W.Partial.sets g.W.Transfer.moves g.R.RowRules.rules g.B.ByteFacts.store c.settle_since.new.self.propagation.facts) c.loop-len.invariant.more (goes_trans (state_of g.W.Partial.sets g.W.Transfer.moves g.R.RowRules.rules g.B.ByteFacts.store c.loop-len.self.propagation.facts) (state_of g.W.Partial.sets g.W.Transfer.moves g.R.RowRules.rules g.B.ByteFacts.store c.sweep.new.self.propagation.facts) (state_of g.W.Partial.sets g.W.Transfer.moves g.R.RowRules.rules g.B.ByteFacts.store c.settle_since.new.self.propagation.facts) (goes_trans (state_of g.W.Partial.sets g.W.Transfer.moves g.R.RowRules.rules g.B.ByteFacts.store c.loop-len.self.propagation.facts) (state_of g.W.Partial.sets g.W.Transfer.moves g.R.RowRules.rules g.B.ByteFacts.store c.ready-quiet.new.self.propagation.facts) (state_of g.W.Partial.sets g.W.Transfer.moves g.R.RowRules.rules g.B.ByteFacts.store c.sweep.new.self.propagation.facts) (same_goes (state_of g.W.Partial.sets g.W.Transfer.moves g.R.RowRules.rules g.B.ByteFacts.store c.loop-len.self.propagation.facts) (state_of g.W.Partial.sets g.W.Transfer.moves g.R.RowRules.rules g.B.ByteFacts.store c.ready-quiet.new.self.propagation.facts) c.ready-quiet.ensures.same) (grows_goes (state_of g.W.Partial.sets g.W.Transfer.moves g.R.RowRules.rules g.B.ByteFacts.store c.ready-quiet.new.self.propagation.facts) (state_of g.W.Partial.sets g.W.Transfer.moves g.R.RowRules.rules g.B.ByteFacts.store c.sweep.new.self.propagation.facts) c.in_ok-learnt.ensures.grows)) c.settle_since.ensures.goes).more
+
+pub returns-in_err-settle_since-clause-spent : goal.returns-in_err-settle_since-clause-spent
+returns-in_err-settle_since-clause-spent g c =
+    let first = c.loop-len.invariant.spent in
+    let then_ = (goes_trans (state_of g.W.Partial.sets g.W.Transfer.moves g.R.RowRules.rules g.B.ByteFacts.store c.loop-len.self.propagation.facts) (state_of g.W.Partial.sets g.W.Transfer.moves g.R.RowRules.rules g.B.ByteFacts.store c.sweep.new.self.propagation.facts) (state_of g.W.Partial.sets g.W.Transfer.moves g.R.RowRules.rules g.B.ByteFacts.store c.settle_since.new.self.propagation.facts) (goes_trans (state_of g.W.Partial.sets g.W.Transfer.moves g.R.RowRules.rules g.B.ByteFacts.store c.loop-len.self.propagation.facts) (state_of g.W.Partial.sets g.W.Transfer.moves g.R.RowRules.rules g.B.ByteFacts.store c.ready-quiet.new.self.propagation.facts) (state_of g.W.Partial.sets g.W.Transfer.moves g.R.RowRules.rules g.B.ByteFacts.store c.sweep.new.self.propagation.facts) (same_goes (state_of g.W.Partial.sets g.W.Transfer.moves g.R.RowRules.rules g.B.ByteFacts.store c.loop-len.self.propagation.facts) (state_of g.W.Partial.sets g.W.Transfer.moves g.R.RowRules.rules g.B.ByteFacts.store c.ready-quiet.new.self.propagation.facts) c.ready-quiet.ensures.same) (grows_goes (state_of g.W.Partial.sets g.W.Transfer.moves g.R.RowRules.rules g.B.ByteFacts.store c.ready-quiet.new.self.propagation.facts) (state_of g.W.Partial.sets g.W.Transfer.moves g.R.RowRules.rules g.B.ByteFacts.store c.sweep.new.self.propagation.facts) c.in_ok-learnt.ensures.grows)) c.settle_since.ensures.goes).spent in
+    omega (arith, first, then_)
+
+pub returns-in_err-settle_since-clause-begins : goal.returns-in_err-settle_since-clause-begins
+returns-in_err-settle_since-clause-begins g c = λ h. inr (c.settle_since.ensures.goes.begun (c.in_ok-learnt.ensures.begun (begins_like (state_of g.W.Partial.sets g.W.Transfer.moves g.R.RowRules.rules g.B.ByteFacts.store c.loop-len.self.propagation.facts) (state_of g.W.Partial.sets g.W.Transfer.moves g.R.RowRules.rules g.B.ByteFacts.store c.ready-quiet.new.self.propagation.facts) c.ready-quiet.ensures.same.path (ap (λ (k : Known). k.log) c.ready-quiet.ensures.same.known) (c.loop-len.invariant.begins h))))
+
+pub returns-in_err-settle_since-clause-halted : goal.returns-in_err-settle_since-clause-halted
+returns-in_err-settle_since-clause-halted g c = λ h. c.settle_since.ensures.goes.begun (c.in_ok-learnt.ensures.begun (begins_like (state_of g.W.Partial.sets g.W.Transfer.moves g.R.RowRules.rules g.B.ByteFacts.store c.loop-len.self.propagation.facts) (state_of g.W.Partial.sets g.W.Transfer.moves g.R.RowRules.rules g.B.ByteFacts.store c.ready-quiet.new.self.propagation.facts) c.ready-quiet.ensures.same.path (ap (λ (k : Known). k.log) c.ready-quiet.ensures.same.known) (c.loop-len.invariant.begins h)))
+
 pub loop-len-preserved : goal.loop-len-preserved
-loop-len-preserved g c = record { begins = λ h. inr (c.in_ok-learnt.ensures.begun (begins_like (state_of g.W.Partial.sets g.W.Transfer.moves g.R.RowRules.rules g.B.ByteFacts.store c.loop-len.self.propagation.facts) (state_of g.W.Partial.sets g.W.Transfer.moves g.R.RowRules.rules g.B.ByteFacts.store c.ready-quiet.new.self.propagation.facts) c.ready-quiet.ensures.same.path (ap (λ (k : Known). k.log) c.ready-quiet.ensures.same.known) (c.loop-len.invariant.begins h))); continues = Continues_trans _ (state_of g.W.Partial.sets g.W.Transfer.moves g.R.RowRules.rules g.B.ByteFacts.store c.loop-len.self.propagation.facts) _ c.loop-len.invariant.continues (Continues_trans _ (state_of g.W.Partial.sets g.W.Transfer.moves g.R.RowRules.rules g.B.ByteFacts.store c.ready-quiet.new.self.propagation.facts) _ (same_continues (state_of g.W.Partial.sets g.W.Transfer.moves g.R.RowRules.rules g.B.ByteFacts.store c.loop-len.self.propagation.facts) (state_of g.W.Partial.sets g.W.Transfer.moves g.R.RowRules.rules g.B.ByteFacts.store c.ready-quiet.new.self.propagation.facts) c.ready-quiet.ensures.same) (grows_continues (state_of g.W.Partial.sets g.W.Transfer.moves g.R.RowRules.rules g.B.ByteFacts.store c.ready-quiet.new.self.propagation.facts) (state_of g.W.Partial.sets g.W.Transfer.moves g.R.RowRules.rules g.B.ByteFacts.store c.sweep.new.self.propagation.facts) c.in_ok-learnt.ensures.grows)); more = known_after (state_of g.W.Partial.sets g.W.Transfer.moves g.R.RowRules.rules g.B.ByteFacts.store c.args.self.now.propagation.facts) (state_of g.W.Partial.sets g.W.Transfer.moves g.R.RowRules.rules g.B.ByteFacts.store c.ready-quiet.new.self.propagation.facts) (state_of g.W.Partial.sets g.W.Transfer.moves g.R.RowRules.rules g.B.ByteFacts.store c.sweep.new.self.propagation.facts) (known_after (state_of g.W.Partial.sets g.W.Transfer.moves g.R.RowRules.rules g.B.ByteFacts.store c.args.self.now.propagation.facts) (state_of g.W.Partial.sets g.W.Transfer.moves g.R.RowRules.rules g.B.ByteFacts.store c.loop-len.self.propagation.facts) (state_of g.W.Partial.sets g.W.Transfer.moves g.R.RowRules.rules g.B.ByteFacts.store c.ready-quiet.new.self.propagation.facts) c.loop-len.invariant.more (known_like (state_of g.W.Partial.sets g.W.Transfer.moves g.R.RowRules.rules g.B.ByteFacts.store c.loop-len.self.propagation.facts) (state_of g.W.Partial.sets g.W.Transfer.moves g.R.RowRules.rules g.B.ByteFacts.store c.ready-quiet.new.self.propagation.facts) c.ready-quiet.ensures.same.path c.ready-quiet.ensures.same.known)) c.in_ok-learnt.ensures.grows.more; spent = spent_after (state_of g.W.Partial.sets g.W.Transfer.moves g.R.RowRules.rules g.B.ByteFacts.store c.loop-len.self.propagation.facts) (state_of g.W.Partial.sets g.W.Transfer.moves g.R.RowRules.rules g.B.ByteFacts.store c.ready-quiet.new.self.propagation.facts) (state_of g.W.Partial.sets g.W.Transfer.moves g.R.RowRules.rules g.B.ByteFacts.store c.sweep.new.self.propagation.facts) (state_of g.W.Partial.sets g.W.Transfer.moves g.R.RowRules.rules g.B.ByteFacts.store c.args.self.now.propagation.facts) c.ready-quiet.ensures.same c.in_ok-learnt.ensures.grows c.loop-len.invariant.spent; uncut = c.in_ok-learnt.ensures.inferred.uncut (uncut_like (state_of g.W.Partial.sets g.W.Transfer.moves g.R.RowRules.rules g.B.ByteFacts.store c.loop-len.self.propagation.facts) (state_of g.W.Partial.sets g.W.Transfer.moves g.R.RowRules.rules g.B.ByteFacts.store c.ready-quiet.new.self.propagation.facts) c.ready-quiet.ensures.same c.loop-len.invariant.uncut) }
+loop-len-preserved g c =
+    let goes = goes_trans (state_of g.W.Partial.sets g.W.Transfer.moves g.R.RowRules.rules g.B.ByteFacts.store c.loop-len.self.propagation.facts) (state_of g.W.Partial.sets g.W.Transfer.moves g.R.RowRules.rules g.B.ByteFacts.store c.sweep.new.self.propagation.facts) (state_of g.W.Partial.sets g.W.Transfer.moves g.R.RowRules.rules g.B.ByteFacts.store c.settle_since.new.self.propagation.facts) (goes_trans (state_of g.W.Partial.sets g.W.Transfer.moves g.R.RowRules.rules g.B.ByteFacts.store c.loop-len.self.propagation.facts) (state_of g.W.Partial.sets g.W.Transfer.moves g.R.RowRules.rules g.B.ByteFacts.store c.ready-quiet.new.self.propagation.facts) (state_of g.W.Partial.sets g.W.Transfer.moves g.R.RowRules.rules g.B.ByteFacts.store c.sweep.new.self.propagation.facts) (same_goes (state_of g.W.Partial.sets g.W.Transfer.moves g.R.RowRules.rules g.B.ByteFacts.store c.loop-len.self.propagation.facts) (state_of g.W.Partial.sets g.W.Transfer.moves g.R.RowRules.rules g.B.ByteFacts.store c.ready-quiet.new.self.propagation.facts) c.ready-quiet.ensures.same) (grows_goes (state_of g.W.Partial.sets g.W.Transfer.moves g.R.RowRules.rules g.B.ByteFacts.store c.ready-quiet.new.self.propagation.facts) (state_of g.W.Partial.sets g.W.Transfer.moves g.R.RowRules.rules g.B.ByteFacts.store c.sweep.new.self.propagation.facts) c.in_ok-learnt.ensures.grows)) c.in_ok-settle_since.ensures.goes in
+    let first = c.loop-len.invariant.spent in
+    let then_ = goes.spent in
+    record {
+      begins = λ h. inr (c.in_ok-settle_since.ensures.goes.begun (c.in_ok-learnt.ensures.begun (begins_like (state_of g.W.Partial.sets g.W.Transfer.moves g.R.RowRules.rules g.B.ByteFacts.store c.loop-len.self.propagation.facts) (state_of g.W.Partial.sets g.W.Transfer.moves g.R.RowRules.rules g.B.ByteFacts.store c.ready-quiet.new.self.propagation.facts) c.ready-quiet.ensures.same.path (ap (λ (k : Known). k.log) c.ready-quiet.ensures.same.known) (c.loop-len.invariant.begins h))));
+      continues = Continues_trans (state_of g.W.Partial.sets g.W.Transfer.moves g.R.RowRules.rules g.B.ByteFacts.store c.args.self.now.propagation.facts) (state_of g.W.Partial.sets g.W.Transfer.moves g.R.RowRules.rules g.B.ByteFacts.store c.loop-len.self.propagation.facts) (state_of g.W.Partial.sets g.W.Transfer.moves g.R.RowRules.rules g.B.ByteFacts.store c.settle_since.new.self.propagation.facts) c.loop-len.invariant.continues goes.continues;
+      more = known_after (state_of g.W.Partial.sets g.W.Transfer.moves g.R.RowRules.rules g.B.ByteFacts.store c.args.self.now.propagation.facts) (state_of g.W.Partial.sets g.W.Transfer.moves g.R.RowRules.rules g.B.ByteFacts.store c.loop-len.self.propagation.facts) (state_of g.W.Partial.sets g.W.Transfer.moves g.R.RowRules.rules g.B.ByteFacts.store c.settle_since.new.self.propagation.facts) c.loop-len.invariant.more goes.more;
+      spent = omega (arith, first, then_);
+      uncut = c.in_ok-settle_since.ensures.uncut;
+    }
 
 pub loop-len-smaller : goal.loop-len-smaller
 loop-len-smaller g c =
-    let a = state_of g.W.Partial.sets g.W.Transfer.moves g.R.RowRules.rules g.B.ByteFacts.store c.loop-len.self.propagation.facts in
-    let b = state_of g.W.Partial.sets g.W.Transfer.moves g.R.RowRules.rules g.B.ByteFacts.store c.ready-quiet.new.self.propagation.facts in
-    let d = state_of g.W.Partial.sets g.W.Transfer.moves g.R.RowRules.rules g.B.ByteFacts.store c.sweep.new.self.propagation.facts in
-    let same = measure_same a b c.ready-quiet.ensures.same in
-    subst (λ (n : ℕ). measure d < n) same (news_less b d c.in_ok-learnt.ensures.grows (c.in_ok-learnt.ensures.inferred.news c.if-not-learnt.false))
+    let same = measure_same (state_of g.W.Partial.sets g.W.Transfer.moves g.R.RowRules.rules g.B.ByteFacts.store c.loop-len.self.propagation.facts) (state_of g.W.Partial.sets g.W.Transfer.moves g.R.RowRules.rules g.B.ByteFacts.store c.ready-quiet.new.self.propagation.facts) c.ready-quiet.ensures.same in
+    let less = news_less (state_of g.W.Partial.sets g.W.Transfer.moves g.R.RowRules.rules g.B.ByteFacts.store c.ready-quiet.new.self.propagation.facts) (state_of g.W.Partial.sets g.W.Transfer.moves g.R.RowRules.rules g.B.ByteFacts.store c.sweep.new.self.propagation.facts) c.in_ok-learnt.ensures.grows (c.in_ok-learnt.ensures.inferred.news c.if-not-learnt.false) in
+    let rest = c.in_ok-settle_since.ensures.goes.measured in
+    omega (arith, same, less, rest)
 
 pub returns-clause-continues : goal.returns-clause-continues
 returns-clause-continues g c = Continues_trans _ (state_of g.W.Partial.sets g.W.Transfer.moves g.R.RowRules.rules g.B.ByteFacts.store c.loop-len.self.propagation.facts) _ c.loop-len.invariant.continues (Continues_trans _ (state_of g.W.Partial.sets g.W.Transfer.moves g.R.RowRules.rules g.B.ByteFacts.store c.ready-quiet.new.self.propagation.facts) _ (same_continues (state_of g.W.Partial.sets g.W.Transfer.moves g.R.RowRules.rules g.B.ByteFacts.store c.loop-len.self.propagation.facts) (state_of g.W.Partial.sets g.W.Transfer.moves g.R.RowRules.rules g.B.ByteFacts.store c.ready-quiet.new.self.propagation.facts) c.ready-quiet.ensures.same) (grows_continues (state_of g.W.Partial.sets g.W.Transfer.moves g.R.RowRules.rules g.B.ByteFacts.store c.ready-quiet.new.self.propagation.facts) (state_of g.W.Partial.sets g.W.Transfer.moves g.R.RowRules.rules g.B.ByteFacts.store c.sweep.new.self.propagation.facts) c.in_ok-learnt.ensures.grows))

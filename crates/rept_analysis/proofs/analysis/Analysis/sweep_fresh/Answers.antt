@@ -1,74 +1,28 @@
-use Rattle.std.proofs.Common.{◌≡◌, ◌||◌, false}
-use Rattle.std.proofs.lemmas.Bool.{or_parts}
+use Rattle.std.proofs.Common.{◌||◌}
 use Rattle.rept_facts.specs.State.{AnalysisState, state_of}
-use Rattle.rept_facts.specs.Inferring.{HasInferred, LastKnownBelow, LastBytesKnown, SinglesKnown}
+use Rattle.rept_facts.specs.Inferring.{LastKnownBelow, LastBytesKnown, SinglesKnown}
 use Rattle.rept_facts.proofs.Begun.{begun_after}
 use Rattle.rept_facts.proofs.Conclusion.{HasInferred_both, Grows_trans}
 use Rattle.rept_facts.proofs.Following.{fitted_after}
-use Rattle.rept_facts.proofs.Listing.{writings_after}
 use Rattle.rept_analysis.proofs.analysis.Analysis.sweep_fresh.Goals as goal
 
-pub infer_through-requires-clause-writings : goal.infer_through-requires-clause-writings
-infer_through-requires-clause-writings g c = writings_after (state_of g.W.Partial.sets g.W.Transfer.moves g.R.RowRules.rules g.B.ByteFacts.store c.args.self.now.propagation.facts) (state_of g.W.Partial.sets g.W.Transfer.moves g.R.RowRules.rules g.B.ByteFacts.store c.infer_all_last.new.self.propagation.facts) c.in_ok-last.ensures.grows c.requires.writings
-
-pub infer_through-requires-clause-uncut : goal.infer_through-requires-clause-uncut
-infer_through-requires-clause-uncut g c = c.in_ok-last.ensures.inferred.uncut c.requires.uncut
-
-pub returns-in_err-rows-clause-grows : goal.returns-in_err-rows-clause-grows
-returns-in_err-rows-clause-grows g c = Grows_trans _ _ _ c.in_ok-last.ensures.grows c.infer_through.ensures.grows
-
-pub carry_rest-requires-clause-writings : goal.carry_rest-requires-clause-writings
-carry_rest-requires-clause-writings g c = writings_after (state_of g.W.Partial.sets g.W.Transfer.moves g.R.RowRules.rules g.B.ByteFacts.store c.args.self.now.propagation.facts) (state_of g.W.Partial.sets g.W.Transfer.moves g.R.RowRules.rules g.B.ByteFacts.store c.infer_through.new.self.propagation.facts) (Grows_trans _ _ _ c.in_ok-last.ensures.grows c.in_ok-rows.ensures.grows) c.requires.writings
-
-pub carry_rest-requires-clause-uncut : goal.carry_rest-requires-clause-uncut
-carry_rest-requires-clause-uncut g c = c.in_ok-rows.ensures.inferred.uncut (c.in_ok-last.ensures.inferred.uncut c.requires.uncut)
-
-pub returns-in_err-bytes-clause-grows : goal.returns-in_err-bytes-clause-grows
-returns-in_err-bytes-clause-grows g c = Grows_trans _ _ _ c.in_ok-last.ensures.grows (Grows_trans _ _ _ c.in_ok-rows.ensures.grows c.carry_rest.ensures.grows)
-
 pub infer_singles-requires-clause-fitted : goal.infer_singles-requires-clause-fitted
-infer_singles-requires-clause-fitted g c = fitted_after (state_of g.W.Partial.sets g.W.Transfer.moves g.R.RowRules.rules g.B.ByteFacts.store c.args.self.now.propagation.facts) (state_of g.W.Partial.sets g.W.Transfer.moves g.R.RowRules.rules g.B.ByteFacts.store c.carry_rest.new.self.propagation.facts) (Grows_trans _ _ _ c.in_ok-last.ensures.grows (Grows_trans _ _ _ c.in_ok-rows.ensures.grows c.in_ok-bytes.ensures.grows)) c.requires.writings.fitted
+infer_singles-requires-clause-fitted g c = fitted_after (state_of g.W.Partial.sets g.W.Transfer.moves g.R.RowRules.rules g.B.ByteFacts.store c.args.self.now.propagation.facts) (state_of g.W.Partial.sets g.W.Transfer.moves g.R.RowRules.rules g.B.ByteFacts.store c.sweep_rows.new.self.propagation.facts) c.in_ok-rows.ensures.grows c.requires.writings.fitted
 
 pub returns-in_err-singles-clause-grows : goal.returns-in_err-singles-clause-grows
-returns-in_err-singles-clause-grows g c = Grows_trans _ _ _ c.in_ok-last.ensures.grows (Grows_trans _ _ _ c.in_ok-rows.ensures.grows (Grows_trans _ _ _ c.in_ok-bytes.ensures.grows c.infer_singles.ensures.grows))
+returns-in_err-singles-clause-grows g c = Grows_trans _ _ _ c.in_ok-rows.ensures.grows c.infer_singles.ensures.grows
 
 pub returns-clause-grows : goal.returns-clause-grows
-returns-clause-grows g c = Grows_trans _ _ _ c.in_ok-last.ensures.grows (Grows_trans _ _ _ c.in_ok-rows.ensures.grows (Grows_trans _ _ _ c.in_ok-bytes.ensures.grows c.in_ok-singles.ensures.grows))
+returns-clause-grows g c = Grows_trans _ _ _ c.in_ok-rows.ensures.grows c.in_ok-singles.ensures.grows
 
 pub returns-clause-inferred : goal.returns-clause-inferred
 returns-clause-inferred g c =
-    let a = (state_of g.W.Partial.sets g.W.Transfer.moves g.R.RowRules.rules g.B.ByteFacts.store c.args.self.now.propagation.facts) in
-    let b1 = (state_of g.W.Partial.sets g.W.Transfer.moves g.R.RowRules.rules g.B.ByteFacts.store c.infer_all_last.new.self.propagation.facts) in
-    let b2 = (state_of g.W.Partial.sets g.W.Transfer.moves g.R.RowRules.rules g.B.ByteFacts.store c.infer_through.new.self.propagation.facts) in
-    let b3 = (state_of g.W.Partial.sets g.W.Transfer.moves g.R.RowRules.rules g.B.ByteFacts.store c.carry_rest.new.self.propagation.facts) in
-    let b4 = (state_of g.W.Partial.sets g.W.Transfer.moves g.R.RowRules.rules g.B.ByteFacts.store c.infer_singles.new.self.propagation.facts) in
-    let news = c.in_ok-last.last || c.in_ok-rows.rows in
-    let U : AnalysisState g.row.W.Denot → Type 0 = λ x. Unit {0} in
-    let P : AnalysisState g.row.W.Denot → Type 0 = LastKnownBelow 32 in
-    let Q : AnalysisState g.row.W.Denot → Type 0 = λ x. news ≡ false → LastBytesKnown x in
-    let R : AnalysisState g.row.W.Denot → Type 0 = λ x. LastKnownBelow 32 x × LastBytesKnown x in
-    let F : AnalysisState g.row.W.Denot → Type 0 = λ x. LastKnownBelow 32 x × LastBytesKnown x × SinglesKnown x in
-    let g1 = c.in_ok-last.ensures.grows in
-    let g2 = Grows_trans a b1 b2 g1 c.in_ok-rows.ensures.grows in
-    let g3 = Grows_trans a b2 b3 g2 c.in_ok-bytes.ensures.grows in
-    let d2 = HasInferred_both a b1 b2 c.in_ok-last.last c.in_ok-rows.rows P U P g1 c.in_ok-rows.ensures.grows c.in_ok-last.ensures.inferred c.in_ok-rows.ensures.inferred (λ p q. p) in
-    let both = HasInferred_both a b2 b3 news c.in_ok-bytes.bytes P Q (λ x. P x × Q x) g2 c.in_ok-bytes.ensures.grows d2 c.in_ok-bytes.ensures.inferred (λ p q. (p, q)) in
-    let d3 : HasInferred a b3 (news || c.in_ok-bytes.bytes) R = record {
-      news = both.news;
-      unchanged = both.unchanged;
-      closed = λ e. let all = both.closed e in (all.0, all.1 (or_parts news c.in_ok-bytes.bytes e).0);
-      uncut = both.uncut;
-    } in
-    HasInferred_both a b3 b4 (news || c.in_ok-bytes.bytes) c.in_ok-singles.singles R SinglesKnown F g3 c.in_ok-singles.ensures.grows d3 c.in_ok-singles.ensures.inferred (λ p q. (p.0, p.1, q))
-
-pub returns-in_err-rows-clause-begun : goal.returns-in_err-rows-clause-begun
-returns-in_err-rows-clause-begun g c = λ h. begun_after (state_of g.W.Partial.sets g.W.Transfer.moves g.R.RowRules.rules g.B.ByteFacts.store c.infer_all_last.new.self.propagation.facts) (state_of g.W.Partial.sets g.W.Transfer.moves g.R.RowRules.rules g.B.ByteFacts.store c.infer_through.new.self.propagation.facts) c.infer_through.ensures.grows (c.in_ok-last.ensures.begun h)
-
-pub returns-in_err-bytes-clause-begun : goal.returns-in_err-bytes-clause-begun
-returns-in_err-bytes-clause-begun g c = λ h. begun_after (state_of g.W.Partial.sets g.W.Transfer.moves g.R.RowRules.rules g.B.ByteFacts.store c.infer_all_last.new.self.propagation.facts) (state_of g.W.Partial.sets g.W.Transfer.moves g.R.RowRules.rules g.B.ByteFacts.store c.carry_rest.new.self.propagation.facts) (Grows_trans _ _ _ c.in_ok-rows.ensures.grows c.carry_rest.ensures.grows) (c.in_ok-last.ensures.begun h)
+    let P : AnalysisState g.row.W.Denot → Type 0 = λ x. LastKnownBelow 32 x × LastBytesKnown x in
+    let Q : AnalysisState g.row.W.Denot → Type 0 = λ x. LastKnownBelow 32 x × LastBytesKnown x × SinglesKnown x in
+    HasInferred_both (state_of g.W.Partial.sets g.W.Transfer.moves g.R.RowRules.rules g.B.ByteFacts.store c.args.self.now.propagation.facts) (state_of g.W.Partial.sets g.W.Transfer.moves g.R.RowRules.rules g.B.ByteFacts.store c.sweep_rows.new.self.propagation.facts) (state_of g.W.Partial.sets g.W.Transfer.moves g.R.RowRules.rules g.B.ByteFacts.store c.infer_singles.new.self.propagation.facts) c.in_ok-rows.rows c.in_ok-singles.singles P SinglesKnown Q c.in_ok-rows.ensures.grows c.in_ok-singles.ensures.grows c.in_ok-rows.ensures.inferred c.in_ok-singles.ensures.inferred (λ p q. (p.0, p.1, q))
 
 pub returns-in_err-singles-clause-begun : goal.returns-in_err-singles-clause-begun
-returns-in_err-singles-clause-begun g c = λ h. begun_after (state_of g.W.Partial.sets g.W.Transfer.moves g.R.RowRules.rules g.B.ByteFacts.store c.infer_all_last.new.self.propagation.facts) (state_of g.W.Partial.sets g.W.Transfer.moves g.R.RowRules.rules g.B.ByteFacts.store c.infer_singles.new.self.propagation.facts) (Grows_trans _ _ _ c.in_ok-rows.ensures.grows (Grows_trans _ _ _ c.in_ok-bytes.ensures.grows c.infer_singles.ensures.grows)) (c.in_ok-last.ensures.begun h)
+returns-in_err-singles-clause-begun g c = λ h. begun_after (state_of g.W.Partial.sets g.W.Transfer.moves g.R.RowRules.rules g.B.ByteFacts.store c.sweep_rows.new.self.propagation.facts) (state_of g.W.Partial.sets g.W.Transfer.moves g.R.RowRules.rules g.B.ByteFacts.store c.infer_singles.new.self.propagation.facts) c.infer_singles.ensures.grows (c.in_ok-rows.ensures.begun h)
 
 pub returns-clause-begun : goal.returns-clause-begun
-returns-clause-begun g c = λ h. begun_after (state_of g.W.Partial.sets g.W.Transfer.moves g.R.RowRules.rules g.B.ByteFacts.store c.infer_all_last.new.self.propagation.facts) (state_of g.W.Partial.sets g.W.Transfer.moves g.R.RowRules.rules g.B.ByteFacts.store c.infer_singles.new.self.propagation.facts) (Grows_trans _ _ _ c.in_ok-rows.ensures.grows (Grows_trans _ _ _ c.in_ok-bytes.ensures.grows c.in_ok-singles.ensures.grows)) (c.in_ok-last.ensures.begun h)
+returns-clause-begun g c = λ h. begun_after (state_of g.W.Partial.sets g.W.Transfer.moves g.R.RowRules.rules g.B.ByteFacts.store c.sweep_rows.new.self.propagation.facts) (state_of g.W.Partial.sets g.W.Transfer.moves g.R.RowRules.rules g.B.ByteFacts.store c.infer_singles.new.self.propagation.facts) c.in_ok-singles.ensures.grows (c.in_ok-rows.ensures.begun h)

@@ -1,0 +1,15 @@
+use Rattle.std.proofs.Common.{◌-◌, length}
+use Rattle.rept_facts.specs.State.{AnalysisState, state_of}
+use Rattle.rept_facts.specs.Inferring.{Grows, HasInferred}
+use Rattle.rept_analysis.proofs.analysis.Analysis.infer_singles_at.Given as goal
+
+abbrev pub invariant-loop-point : goal.invariant-loop-point
+invariant-loop-point g l =
+    let st = state_of g.W.Partial.sets g.W.Transfer.moves g.R.RowRules.rules g.B.ByteFacts.store in
+    record {
+      grows : Grows (st l.fn.self.propagation.facts) (st l.self.propagation.facts);
+      inferred : HasInferred (st l.fn.self.propagation.facts) (st l.self.propagation.facts) l.learnt (λ (x : AnalysisState g.row.W.Denot). Unit {0});
+    }
+
+abbrev pub decreases-loop-point : goal.decreases-loop-point
+decreases-loop-point g l = length l.points - l.from
