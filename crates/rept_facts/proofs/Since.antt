@@ -1,5 +1,5 @@
 -- Sets and lists that are made anew where more became known.
-use Rattle.std.proofs.Common.{◌≡◌, ◌≢◌, ◌⊎◌, ℕ, ◌+◌, ◌<◌, ◌≤◌, ◌^◌, eqb, Bool, true, false, if◌then◌else◌, List, ◌∷◌, length, Option, Some, None, inl, inr, refl, sym, ap, subst, ◌∙◌, arith, slice_get}
+use Rattle.std.proofs.Common.{◌≡◌, ◌≢◌, ◌⊎◌, ℕ, ◌+◌, ◌<◌, ◌≤◌, ◌^◌, eqb, Bool, true, false, not, if◌then◌else◌, List, ◌∷◌, length, Option, Some, None, inl, inr, refl, sym, ap, subst, ◌∙◌, arith, slice_get}
 use Rattle.std.proofs.lemmas.Bool.{cases_Bool, cases_eq, cases_lt, cond-true, cond-false}
 use Rattle.rept_isa.specs.Operands.{first_read, second_read}
 use Rattle.rept_reason.specs.declared.fact.Fact.{Fact}
@@ -19,6 +19,10 @@ use Rattle.rept_report.proofs.Told.{told_old, speaks_is}
 use Rattle.rept_log.proofs.Looking.{oldest_step}
 use Rattle.rept_facts.specs.State.{AnalysisState, all_known, along}
 use Rattle.rept_facts.specs.Inferring.{AreWritings, IsSparedAt, IsSpared}
+
+pub not_true : (b : Bool) → not b ≡ true → b ≡ false
+not_true true e = cc
+not_true false e = refl
 
 -- a point is marked or isn't
 pub marked_or : (marks : List Bool) (p : ℕ) → HasPoint marks p ⊎ (HasPoint marks p → ⊥)

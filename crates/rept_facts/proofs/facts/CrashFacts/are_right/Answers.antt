@@ -22,6 +22,6 @@ loop-point-smaller g c =
     let later = next.later in
     omega (arith, inside, later)
 
-pub returns-in_default-clause : goal.returns-in_default-clause
-returns-in_default-clause g c =
+pub returns-in_default : goal.returns-in_default
+returns-in_default g c =
     λ _. right_all c.args.points.now (λ i. IsWrongTurn (setting_of g.W.Partial.sets g.W.Transfer.moves g.R.RowRules.rules c.args.self.now) (told (oldest c.args.limit c.args.self.now.known.log)) i → ⊥) c.loop-point.from c.loop-point.invariant (none_is c.args.points.now c.loop-point.from c.next.result c.in_default.not-Some c.next.ensures.next)

@@ -9,6 +9,5 @@ use Rattle.rept_facts.proofs.facts.CrashFacts.mark_news.Given as goal
 abbrev pub invariant-loop-place : goal.invariant-loop-place
 invariant-loop-place g l = record {
   long : length l.points ≡ (timeline l.self.paths).legs.count + 1;
-  last : l.last ≡ (timeline l.self.paths).legs.count;
   news : (p : ℕ) → p ≤ (timeline l.self.paths).legs.count → (HasPoint l.points p → ⊥) → SameAt (told (oldest l.self.filled l.self.known.log)) (told (oldest l.place l.self.known.log)) p;
 }
