@@ -1,5 +1,5 @@
 -- Rounds that go only where something became known.
-use Rattle.std.proofs.Common.{◌≡◌, ◌+◌, ◌<◌, ◌≤◌, ℕ, length, Option, Some, None, refl, ◌∙◌, arith}
+use Rattle.std.proofs.Common.{◌≡◌, ◌<◌, ℕ, length, Option, Some, None, refl, ◌∙◌, arith}
 use Rattle.std.specs.Option.{IsSome}
 use Rattle.std.proofs.lemmas.Bool.{false≢true}
 use Rattle.rept_isa.specs.declared.row.StepRow.{StepRow}
@@ -7,21 +7,19 @@ use Rattle.rept_reason.specs.Facts.{told}
 use Rattle.rept_span.specs.Ranges.{Legs}
 use Rattle.rept_report.specs.Conflicts.{IsQuiet}
 use Rattle.rept_report.specs.Log.{oldest}
-use Rattle.rept_facts.specs.Begun.{HasEndsFirst}
 use Rattle.rept_facts.specs.Inferring.{Grows, SameFacts}
-use Rattle.rept_facts.specs.Measure.{measure}
-use Rattle.rept_facts.specs.State.{AnalysisState, all_known, along}
+use Rattle.rept_facts.specs.State.{AnalysisState, along}
 use Rattle.rept_facts.specs.Work.{left}
 use Rattle.rept_facts.proofs.Begun.{begun_after}
 use Rattle.rept_facts.proofs.Ending.{measure_same, same_continues, grows_continues, Continues_itself, Continues_trans, known_like, known_after, quiet_whole}
 use Rattle.rept_propagate.specs.Likeness.{IsCurrent}
-use Rattle.rept_analysis.specs.Since.{IsFilledQuiet, GoesOn}
+use Rattle.rept_analysis.specs.Since.{IsFilledQuiet, GoesFurther}
 use Rattle.rept_analysis.proofs.Measure.{measure_le}
 
-pub goes_itself : {W : Type 0} (a : AnalysisState W) → GoesOn a a
+pub goes_itself : {W : Type 0} (a : AnalysisState W) → GoesFurther a a
 goes_itself a = record { continues = Continues_itself a; more = λ p c v e. e; spent = omega arith; measured = omega arith; begun = λ h. h }
 
-pub goes_trans : {W : Type 0} (a b c : AnalysisState W) → GoesOn a b → GoesOn b c → GoesOn a c
+pub goes_trans : {W : Type 0} (a b c : AnalysisState W) → GoesFurther a b → GoesFurther b c → GoesFurther a c
 goes_trans a b c g h =
     let first = g.spent in
     let second = h.spent in
@@ -30,7 +28,7 @@ goes_trans a b c g h =
     record { continues = Continues_trans a b c g.continues h.continues; more = known_after a b c g.more h.more; spent = omega (arith, first, second); measured = omega (arith, before, after); begun = λ e. h.begun (g.begun e) }
 
 -- where only the sets and the list change
-pub same_goes : {W : Type 0} (a b : AnalysisState W) → SameFacts a b → GoesOn a b
+pub same_goes : {W : Type 0} (a b : AnalysisState W) → SameFacts a b → GoesFurther a b
 same_goes a b same =
     let infers = same.infers in
     let inferred : left b.work.inferred ≡ left a.work.inferred = rw same.inferred refl in
@@ -44,7 +42,7 @@ same_goes a b same =
     }
 
 -- where facts are learnt
-pub grows_goes : {W : Type 0} (a b : AnalysisState W) → Grows a b → GoesOn a b
+pub grows_goes : {W : Type 0} (a b : AnalysisState W) → Grows a b → GoesFurther a b
 grows_goes a b g = record { continues = grows_continues a b g; more = g.more; spent = g.spent; measured = measure_le a b g; begun = begun_after a b g }
 
 pub quiet_after : {W : Type 0} (a b : AnalysisState W) → Grows a b → IsFilledQuiet a → IsFilledQuiet b

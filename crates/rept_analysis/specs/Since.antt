@@ -16,7 +16,7 @@ IsFilledQuiet s = IsQuiet (along s.path) (told (oldest s.filled s.known.log))
 
 -- another state of the same analysis, which knows no less, and in which no more is left to be
 -- learnt; its sets, and the rows that are listed, may be those of other facts
-pub record GoesOn {W : Type 0} (old new : AnalysisState W) : Type 0 where
+pub record GoesFurther {W : Type 0} (old new : AnalysisState W) : Type 0 where
   pub continues : Continues old new
   pub more : KeepsKnown old new
   pub spent : new.work.infers + left new.work.inferred ≤ old.work.infers + left old.work.inferred

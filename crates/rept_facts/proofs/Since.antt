@@ -1,10 +1,9 @@
 -- Sets and lists that are made anew where more became known.
-use Rattle.std.proofs.Common.{◌≡◌, ◌≢◌, ◌⊎◌, ℕ, ◌+◌, ◌<◌, ◌≤◌, ◌^◌, eqb, Bool, true, false, not, if◌then◌else◌, List, ◌∷◌, length, Option, Some, None, inl, inr, refl, sym, ap, subst, ◌∙◌, arith, slice_get}
+use Rattle.std.proofs.Common.{◌≡◌, ◌≢◌, ◌⊎◌, ℕ, ◌+◌, ◌<◌, ◌≤◌, ◌^◌, eqb, Bool, true, false, not, if◌then◌else◌, List, ◌∷◌, Option, Some, None, inl, inr, refl, sym, ap, subst, ◌∙◌, arith, slice_get}
 use Rattle.std.proofs.lemmas.Bool.{cases_Bool, cases_eq, cases_lt, cond-true, cond-false}
 use Rattle.rept_isa.specs.Operands.{first_read, second_read}
 use Rattle.rept_reason.specs.declared.fact.Fact.{Fact}
-use Rattle.rept_reason.specs.declared.fact.Cell.{Cell}
-use Rattle.rept_reason.specs.declared.fact.Cell.TheVariants.{Register, Byte}
+use Rattle.rept_reason.specs.declared.fact.Cell.TheVariants.{Register}
 use Rattle.rept_reason.specs.Facts.{Knowledge, told, speaks, register_known, register_fact, flat, operand}
 use Rattle.rept_span.specs.Filled.{SameAt, IsFilled}
 use Rattle.rept_span.specs.Points.{HasPoint, IsFirstPoint, IsNextPoint, KeepsPoints}

@@ -2,12 +2,12 @@
 //! costs little.
 
 ghost use Rattle.rept_timeline.specs.Paths.{timeline};
-ghost use Rattle.std.specs.Prelude.{⊤, ◌≡◌, ◌+◌, ◌≤◌, length, true, false, IfOk, IfErr};
+ghost use Rattle.std.specs.Prelude.{⊤, ◌≡◌, ◌+◌, length, true, false, IfOk, IfErr};
 ghost use Rattle.rept_span.specs.Filled.{AllReadBelow};
 ghost use Rattle.rept_facts.specs.State.{state_of};
 ghost use Rattle.rept_facts.specs.Inferring.{Grows, HasInferred, IsHalt, IsFitted, SameFacts, AreWritings, IsUncut};
 ghost use Rattle.rept_propagate.specs.Likeness.{IsCurrent};
-ghost use Rattle.rept_analysis.specs.Since.{GoesOn, IsFilledQuiet};
+ghost use Rattle.rept_analysis.specs.Since.{GoesFurther, IsFilledQuiet};
 
 use super::Analysis;
 use rept_facts::LearnError;
@@ -188,7 +188,7 @@ impl<'a, B: ByteFacts, W: Transfer, R: RowRules> Analysis<'a, B, W, R> {
         requires quiet { IsFilledQuiet (state_of W.sets W.moves R.rules B.store self.old.propagation.facts) }
         requires reads { AllReadBelow (timeline self.old.propagation.facts.paths).legs ((timeline self.old.propagation.facts.paths).legs.count + 1) }
         requires marks { length changes.old.points ≡ (timeline self.old.propagation.facts.paths).legs.count + 1 }
-        ensures goes { GoesOn (state_of W.sets W.moves R.rules B.store self.old.propagation.facts) (state_of W.sets W.moves R.rules B.store self.new.propagation.facts) }
+        ensures goes { GoesFurther (state_of W.sets W.moves R.rules B.store self.old.propagation.facts) (state_of W.sets W.moves R.rules B.store self.new.propagation.facts) }
         ensures uncut { IfOk result (λ _. IsUncut (state_of W.sets W.moves R.rules B.store self.new.propagation.facts)) }
         ensures halt { IfErr result (λ h. IsHalt (state_of W.sets W.moves R.rules B.store self.new.propagation.facts) h) }
     {
@@ -211,7 +211,7 @@ impl<'a, B: ByteFacts, W: Transfer, R: RowRules> Analysis<'a, B, W, R> {
         requires writings { AreWritings (state_of W.sets W.moves R.rules B.store self.old.propagation.facts) }
         requires quiet { IsFilledQuiet (state_of W.sets W.moves R.rules B.store self.old.propagation.facts) }
         requires reads { AllReadBelow (timeline self.old.propagation.facts.paths).legs ((timeline self.old.propagation.facts.paths).legs.count + 1) }
-        ensures goes { GoesOn (state_of W.sets W.moves R.rules B.store self.old.propagation.facts) (state_of W.sets W.moves R.rules B.store self.new.propagation.facts) }
+        ensures goes { GoesFurther (state_of W.sets W.moves R.rules B.store self.old.propagation.facts) (state_of W.sets W.moves R.rules B.store self.new.propagation.facts) }
         ensures uncut { IfOk result (λ _. IsUncut (state_of W.sets W.moves R.rules B.store self.new.propagation.facts)) }
         ensures halt { IfErr result (λ h. IsHalt (state_of W.sets W.moves R.rules B.store self.new.propagation.facts) h) }
     {

@@ -1,4 +1,4 @@
-use Rattle.std.proofs.Common.{◌≡◌, ap, sym, subst, ◌∙◌}
+use Rattle.std.proofs.Common.{ap, sym, subst, ◌∙◌}
 use Rattle.rept_facts.specs.State.{AnalysisState, Whole, state_of}
 use Rattle.rept_facts.specs.Inferring.{SameFacts, AreWritings}
 use Rattle.rept_propagate.specs.Likeness.{IsCurrent}

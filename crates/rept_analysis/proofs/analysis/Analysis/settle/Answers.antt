@@ -1,4 +1,4 @@
-use Rattle.std.proofs.Common.{arith, ◌≡◌, ◌+◌, ◌<◌, ℕ, length, inr, sym, ap, subst, ◌∙◌}
+use Rattle.std.proofs.Common.{arith, ◌≡◌, ◌+◌, length, inr, sym, ap, subst, ◌∙◌}
 use Rattle.rept_reason.specs.Facts.{told}
 use Rattle.rept_report.specs.Conflicts.{IsQuiet}
 use Rattle.rept_report.specs.Log.{oldest}
@@ -6,7 +6,6 @@ use Rattle.rept_log.specs.Known.{Known}
 use Rattle.rept_facts.specs.State.{AnalysisState, state_of, Subject, along}
 use Rattle.rept_facts.specs.Inferring.{IsSettled}
 use Rattle.rept_facts.specs.Begun.{HasEndsFirst}
-use Rattle.rept_facts.specs.Measure.{measure}
 use Rattle.rept_facts.proofs.Begun.{any_err, begins_like}
 use Rattle.rept_span.specs.Filled.{AllReadBelow}
 use Rattle.rept_analysis.proofs.Measure.{news_less}
@@ -59,7 +58,7 @@ pub returns-in_err-settle_since-clause-begins : goal.returns-in_err-settle_since
 returns-in_err-settle_since-clause-begins g c = λ h. inr (c.settle_since.ensures.goes.begun (c.in_ok-learnt.ensures.begun (begins_like (state_of g.W.Partial.sets g.W.Transfer.moves g.R.RowRules.rules g.B.ByteFacts.store c.loop-len.self.propagation.facts) (state_of g.W.Partial.sets g.W.Transfer.moves g.R.RowRules.rules g.B.ByteFacts.store c.ready-quiet.new.self.propagation.facts) c.ready-quiet.ensures.same.path (ap (λ (k : Known). k.log) c.ready-quiet.ensures.same.known) (c.loop-len.invariant.begins h))))
 
 pub returns-in_err-settle_since-clause-halted : goal.returns-in_err-settle_since-clause-halted
-returns-in_err-settle_since-clause-halted g c = λ h. c.settle_since.ensures.goes.begun (c.in_ok-learnt.ensures.begun (begins_like (state_of g.W.Partial.sets g.W.Transfer.moves g.R.RowRules.rules g.B.ByteFacts.store c.loop-len.self.propagation.facts) (state_of g.W.Partial.sets g.W.Transfer.moves g.R.RowRules.rules g.B.ByteFacts.store c.ready-quiet.new.self.propagation.facts) c.ready-quiet.ensures.same.path (ap (λ (k : Known). k.log) c.ready-quiet.ensures.same.known) (c.loop-len.invariant.begins h)))
+returns-in_err-settle_since-clause-halted g c = λ h. any_err c.from_residual-in_err-settle_since.result (HasEndsFirst (state_of g.W.Partial.sets g.W.Transfer.moves g.R.RowRules.rules g.B.ByteFacts.store c.settle_since.new.self.propagation.facts)) (c.settle_since.ensures.goes.begun (c.in_ok-learnt.ensures.begun (begins_like (state_of g.W.Partial.sets g.W.Transfer.moves g.R.RowRules.rules g.B.ByteFacts.store c.loop-len.self.propagation.facts) (state_of g.W.Partial.sets g.W.Transfer.moves g.R.RowRules.rules g.B.ByteFacts.store c.ready-quiet.new.self.propagation.facts) c.ready-quiet.ensures.same.path (ap (λ (k : Known). k.log) c.ready-quiet.ensures.same.known) (c.loop-len.invariant.begins h))))
 
 pub loop-len-preserved : goal.loop-len-preserved
 loop-len-preserved g c =

@@ -1,9 +1,8 @@
-use Rattle.std.proofs.Common.{◌≡◌, ◌+◌, ◌<◌, ℕ, sym, ap, subst, ◌∙◌, arith}
+use Rattle.std.proofs.Common.{◌+◌, ◌<◌, ℕ, sym, ap, subst, ◌∙◌}
 use Rattle.rept_span.specs.Filled.{AllReadBelow}
-use Rattle.rept_facts.specs.State.{AnalysisState, Subject, state_of}
+use Rattle.rept_facts.specs.State.{Subject, state_of}
 use Rattle.rept_facts.specs.Measure.{measure}
 use Rattle.rept_facts.proofs.Ending.{measure_same, uncut_like}
-use Rattle.rept_analysis.specs.Since.{GoesOn}
 use Rattle.rept_analysis.proofs.Measure.{news_less}
 use Rattle.rept_analysis.proofs.Since.{goes_itself, goes_trans, same_goes, grows_goes, quiet_after}
 use Rattle.rept_analysis.proofs.analysis.Analysis.settle_at.Goals as goal

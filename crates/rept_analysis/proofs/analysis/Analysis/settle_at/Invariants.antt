@@ -3,14 +3,14 @@ use Rattle.std.proofs.Common.{◌≡◌, ◌+◌, length}
 use Rattle.rept_facts.specs.State.{state_of}
 use Rattle.rept_facts.specs.Inferring.{AreWritings, IsUncut}
 use Rattle.rept_facts.specs.Measure.{measure}
-use Rattle.rept_analysis.specs.Since.{GoesOn, IsFilledQuiet}
+use Rattle.rept_analysis.specs.Since.{GoesFurther, IsFilledQuiet}
 use Rattle.rept_analysis.proofs.analysis.Analysis.settle_at.Given as goal
 
 abbrev pub invariant-loop-quiet : goal.invariant-loop-quiet
 invariant-loop-quiet g l =
     let st = state_of g.W.Partial.sets g.W.Transfer.moves g.R.RowRules.rules g.B.ByteFacts.store in
     record {
-      goes : GoesOn (st l.fn.self.propagation.facts) (st l.self.propagation.facts);
+      goes : GoesFurther (st l.fn.self.propagation.facts) (st l.self.propagation.facts);
       uncut : IsUncut (st l.self.propagation.facts);
       writings : AreWritings (st l.self.propagation.facts);
       quiet : IsFilledQuiet (st l.self.propagation.facts);

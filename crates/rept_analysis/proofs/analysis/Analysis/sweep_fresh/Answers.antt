@@ -1,4 +1,3 @@
-use Rattle.std.proofs.Common.{◌||◌}
 use Rattle.rept_facts.specs.State.{AnalysisState, state_of}
 use Rattle.rept_facts.specs.Inferring.{LastKnownBelow, LastBytesKnown, SinglesKnown}
 use Rattle.rept_facts.proofs.Begun.{begun_after}

@@ -1,4 +1,4 @@
-use Rattle.std.proofs.Common.{◌||◌, ap, ◌∙◌, arith}
+use Rattle.std.proofs.Common.{arith}
 use Rattle.rept_facts.specs.State.{AnalysisState, state_of}
 use Rattle.rept_facts.specs.Inferring.{LastKnownBelow, LastBytesKnown}
 use Rattle.rept_facts.proofs.Conclusion.{HasInferred_both, Grows_trans}

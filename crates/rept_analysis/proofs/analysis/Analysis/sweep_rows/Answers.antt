@@ -1,7 +1,7 @@
 use Rattle.std.proofs.Common.{◌≡◌, ◌||◌, false}
 use Rattle.std.proofs.lemmas.Bool.{or_parts}
 use Rattle.rept_facts.specs.State.{AnalysisState, state_of}
-use Rattle.rept_facts.specs.Inferring.{HasInferred, LastKnownBelow, LastBytesKnown}
+use Rattle.rept_facts.specs.Inferring.{LastKnownBelow, LastBytesKnown}
 use Rattle.rept_facts.proofs.Begun.{begun_after}
 use Rattle.rept_facts.proofs.Conclusion.{HasInferred_both, Grows_trans}
 use Rattle.rept_facts.proofs.Listing.{writings_after}

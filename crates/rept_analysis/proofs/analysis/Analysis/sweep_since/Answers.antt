@@ -2,7 +2,7 @@ use Rattle.std.proofs.Common.{Bool, sym, subst}
 use Rattle.rept_facts.specs.State.{AnalysisState, state_of}
 use Rattle.rept_facts.specs.Inferring.{HasInferred, AllCarried}
 use Rattle.rept_propagate.specs.Likeness.{IsCurrent}
-use Rattle.rept_facts.proofs.Conclusion.{HasInferred_second, HasInferred_loud, Grows_trans}
+use Rattle.rept_facts.proofs.Conclusion.{HasInferred_second, Grows_trans}
 use Rattle.rept_facts.proofs.Listing.{writings_after}
 use Rattle.rept_analysis.proofs.analysis.Analysis.sweep_since.Goals as goal
 

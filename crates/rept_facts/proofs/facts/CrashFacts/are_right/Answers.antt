@@ -1,5 +1,4 @@
-use Rattle.std.proofs.Common.{◌≡◌, ℕ, ◌<◌, ◌+◌, true, false, sym, ◌∙◌, arith}
-use Rattle.std.proofs.lemmas.Bool.{false≢true}
+use Rattle.std.proofs.Common.{false, arith}
 use Rattle.rept_reason.specs.Facts.{told}
 use Rattle.rept_report.specs.Log.{oldest}
 use Rattle.rept_report.specs.Conflicts.{IsWrongTurn}

@@ -1,4 +1,4 @@
-use Rattle.std.proofs.Common.{◌≡◌, ◌-◌, ◌<◌, ℕ, length}
+use Rattle.std.proofs.Common.{◌-◌, ◌<◌, ℕ, length}
 use Rattle.rept_reason.specs.Facts.{told}
 use Rattle.rept_span.specs.Points.{HasPoint}
 use Rattle.rept_report.specs.Log.{oldest}

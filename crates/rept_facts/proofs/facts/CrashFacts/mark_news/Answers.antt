@@ -1,5 +1,4 @@
-use Rattle.rept_timeline.specs.Paths.{timeline}
-use Rattle.std.proofs.Common.{◌≡◌, ◌+◌, Some, sym, ap, subst, ◌∙◌}
+use Rattle.std.proofs.Common.{◌≡◌, Some, sym, ap, subst, ◌∙◌}
 use Rattle.rept_reason.specs.Facts.{told, register_fact}
 use Rattle.rept_report.specs.Log.{oldest, entry}
 use Rattle.rept_facts.specs.State.{Whole}
