@@ -52,6 +52,7 @@ fn up_of(ways: &Ways<'_>, number: u32) -> Option<Bounds>
     ensures { IfSome result (IsUp (seen_in ways.now).moments number) }
 {
     let course = ways.course();
+    // for the proof alone
     let _end = course.end();
     let Some(former) = ways.previous_to(number + 1, number) else {
         return None;
@@ -72,6 +73,7 @@ fn down_of(ways: &Ways<'_>, number: u32) -> Option<Bounds>
     ensures { IfSome result (IsDown (seen_in ways.now).moments number) }
 {
     let course = ways.course();
+    // for the proof alone
     let _end = course.end();
     let Some(next) = ways.next_from(number, number + 1) else {
         return None;

@@ -146,6 +146,7 @@ pub fn first_reaching(ends: &[u64], many: &Many<'_>, time: u64) -> u32
     requires few { length ends.now ≤ (seen_of many.now).moments.end }
     ensures { AllBefore many.now result time }
 {
+    // for the proof alone
     let _count = many.end();
     count_to(ends, time, Ordering::Less) as u32
 }

@@ -228,6 +228,7 @@ impl<'a, B: ByteFacts, W: Transfer, R: RowRules> CrashFacts<'a, B, W, R> {
         ensures value { result ≡ flat (register_known (told self.now.known.log) point r) }
         ensures in_file { r < 32 }
     {
+        // for the proof alone
         let _paths = self.paths;
         self.known.known(point, r)
     }
@@ -239,6 +240,7 @@ impl<'a, B: ByteFacts, W: Transfer, R: RowRules> CrashFacts<'a, B, W, R> {
         requires named { 0 < least }
         ensures { IsNextDiffering self.now.known.log point least result }
     {
+        // for the proof alone
         let _paths = self.paths;
         self.known.next_differing(point, least)
     }
@@ -254,6 +256,7 @@ impl<'a, B: ByteFacts, W: Transfer, R: RowRules> CrashFacts<'a, B, W, R> {
     pub fn held(&self)
         ensures { IsKept (state_of W.sets W.moves R.rules B.store self.now) }
     {
+        // for the proof alone
         let _paths = self.paths;
     }
 
@@ -293,6 +296,7 @@ impl<'a, B: ByteFacts, W: Transfer, R: RowRules> CrashFacts<'a, B, W, R> {
         requires point { point ≤ (timeline self.now.paths).legs.count }
         ensures { entry_at self.now.spans point r ≡ Some result }
     {
+        // for the proof alone
         let _paths = self.paths;
         self.spans.at(point, r)
     }
@@ -302,6 +306,7 @@ impl<'a, B: ByteFacts, W: Transfer, R: RowRules> CrashFacts<'a, B, W, R> {
         requires point { point ≤ (timeline self.now.paths).legs.count }
         ensures { result ≡ flat (register_answer (state_of W.sets W.moves R.rules B.store self.now) point r) }
     {
+        // for the proof alone
         let _paths = self.paths;
         self.known.known_below(self.shown, point, r)
     }
@@ -312,6 +317,7 @@ impl<'a, B: ByteFacts, W: Transfer, R: RowRules> CrashFacts<'a, B, W, R> {
         ensures infers { self.now.work.infers ≡ R.infers self.now.rules }
         ensures joins { self.now.work.joins ≡ B.JOINS }
     {
+        // for the proof alone
         let _paths = self.paths;
     }
 

@@ -212,6 +212,7 @@ pub fn number_of<F: Findings>(findings: &F, at: ThreadPoint) -> u32
     ensures value { result ≡ number (F.shown findings.now) at }
     ensures within { result < (F.shown findings.now).points }
 {
+    // for the proof alone
     let _few = findings.points();
     findings.first(at.thread) + at.point
 }
@@ -223,6 +224,7 @@ pub fn number_after<F: Findings>(findings: &F, at: ThreadPoint) -> u32
     ensures value { result ≡ number (F.shown findings.now) at + 1 }
     ensures within { result < (F.shown findings.now).points }
 {
+    // for the proof alone
     let _few = findings.points();
     findings.first(at.thread) + at.point + 1
 }

@@ -34,6 +34,7 @@ fn call_leaves_pages(table: &Table, index: u32) -> bool
     requires inside { index + 1 < table.now.points }
     ensures { result ≡ true → (story : Story) (run : ℕ → State) → index < length story.rows → HasSets story table.now run → leaves_pages ((run index).register 17) ((run index).register 13) ≡ true }
 {
+    // for the proof alone
     let _points = table.points();
     match table.at(index, register(17)).as_exact() {
         None => false,

@@ -119,6 +119,7 @@ impl<'a, K: KnownPath> ByteCrossing<'a, K> {
         requires inside { self.now.index + 1 < self.now.table.now.points }
         ensures { IfOk result (λ list. (story : Story) (run : ℕ → State) → story.image_end ≡ self.now.image_end → slice_get story.rows self.now.index ≡ Some self.now.row → HasSets story self.now.table.now run → AreBytes story (tells_in (K.byte self.now.bytes.now.known.now) self.now.bytes.now.lanes.now self.now.bytes.now.sweep.now) run → ListsWritten story run self.now.index self.now.bytes.now.sweep.now.held list.items) }
     {
+        // for the proof alone
         let _points = self.table.points();
         if writes_none(self.table, self.index, &self.row) {
             return Ok(Vec::new(alloc));

@@ -73,6 +73,7 @@ fn brk_answer(table: &Table, index: u32, row: &StepRow) -> Option<u32>
     requires inside { index + 1 < table.now.points }
     ensures { IfSome result (λ v. (story : Story) (run : ℕ → State) → slice_get story.rows index ≡ Some row.now → HasSets story table.now run → IsCallAt story run index 214 × ((run (index + 1)).register 10 ≡ v)) }
 {
+    // for the proof alone
     let _points = table.points();
     if is_call(table, index, row, BRK) {
         value_at(table, index + 1, 10)
@@ -87,6 +88,7 @@ fn heap_end(table: &Table, rows: &[StepRow], index: u32) -> Option<u32>
     requires inside { index < length rows.now }
     ensures { IfSome result (λ v. (story : Story) (run : ℕ → State) → story.rows ≡ rows.now → HasSets story table.now run → IsHeapEnd story run index v) }
 {
+    // for the proof alone
     let _points = table.points();
     for back in 0..index {
         let before = index - 1 - back;
@@ -125,6 +127,7 @@ fn fresh_heap(table: &Table, rows: &[StepRow], index: u32) -> Option<ZeroBytes>
     requires inside { index < length rows.now }
     ensures { IfSome result (λ z. (story : Story) (run : ℕ → State) → story.rows ≡ rows.now → HasSets story table.now run → IsCallAt story run index 214 → AreZero run (index + 1) z.from z.to) }
 {
+    // for the proof alone
     let _points = table.points();
     match heap_end(table, rows, index) {
         None => None,
@@ -159,6 +162,7 @@ fn fresh_map(table: &Table, index: u32) -> Option<ZeroBytes>
     requires inside { index + 1 < table.now.points }
     ensures { IfSome result (λ z. (story : Story) (run : ℕ → State) → index < length story.rows → HasSets story table.now run → IsCallAt story run index 222 → AreZero run (index + 1) z.from z.to) }
 {
+    // for the proof alone
     let _points = table.points();
     match value_at(table, index, 13) {
         None => None,

@@ -48,6 +48,7 @@ impl<'a, K: KnownPath, P: PathPremises> InferredPath<'a, K, P> {
     pub fn set(&self, point: u32, register: Reg) -> Both
         ensures { (told_in (path_reader K.set K.byte P.premises) self.now).set point register ≡ Some result }
     {
+        // for the proof alone
         let _number = register.number();
         let known = self.known.set(point, register);
         if point < self.table.points() {

@@ -37,6 +37,7 @@ fn set_after(table: &Table, index: u32, row: &StepRow) -> Both
     requires { index + 1 < table.now.points }
     ensures { (story : Story) (run : ℕ → State) → HasSets story table.now run → slice_get story.rows index ≡ Some row.now → both_has result (value_in story.rows run (32 + index)) ≡ true }
 {
+    // for the proof alone
     let _points = table.points();
     match writes(&row.instr) {
         None => Both::unknown(),

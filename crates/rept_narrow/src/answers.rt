@@ -155,6 +155,7 @@ fn tell_answer<P: PathPremises>(
     ensures keeps { OnOk result ((story : Story) (row : StepRow) → slice_get story.rows index ≡ Some row → row.instr ≡ Ecall → story.image_end ≡ image_end → story.premises ≡ P.premises premises.now → KeepsSets story table.old table.new) }
     ensures refuses { OnErr result ((story : Story) (row : StepRow) → slice_get story.rows index ≡ Some row → row.instr ≡ Ecall → story.image_end ≡ image_end → story.premises ≡ P.premises premises.now → RefusesSets story table.old) }
 {
+    // for the proof alone
     let _points = table.points();
     match table.at(index, register(17)).as_exact() {
         None => Ok(false),

@@ -28,6 +28,7 @@ pub fn held_byte(table: &Table, index: u32, row: &StepRow, k: u32) -> Option<Byt
     requires inside { index + 1 < table.now.points }
     ensures { IfSome result (λ b. (story : Story) (run : ℕ → State) → slice_get story.rows index ≡ Some row.now → HasSets story table.now run → (run index).memory b.address ≡ b.value) }
 {
+    // for the proof alone
     let _points = table.points();
     match row.instr {
         Instr::Amo { op, rd, rs1, .. } => {
@@ -66,6 +67,7 @@ pub fn left_byte(table: &Table, index: u32, row: &StepRow, k: u32) -> Option<Byt
     requires inside { index + 1 < table.now.points }
     ensures { IfSome result (λ b. (story : Story) (run : ℕ → State) → slice_get story.rows index ≡ Some row.now → HasSets story table.now run → (run (index + 1)).memory b.address ≡ b.value) }
 {
+    // for the proof alone
     let _points = table.points();
     match row.instr {
         Instr::Amo { op, rd, rs1, rs2 } => {
@@ -98,6 +100,7 @@ pub fn answer_row<B: ToldBytes>(
     ensures keeps { OnOk result ((story : Story) (run : ℕ → State) → slice_get story.rows index ≡ Some row.now → AreBytes story (B.tells bytes.now) run → HasSets story table.old run → HasSets story table.new run) }
     ensures refuses { OnErr result ((story : Story) (run : ℕ → State) → slice_get story.rows index ≡ Some row.now → AreBytes story (B.tells bytes.now) run → HasSets story table.old run → ⊥) }
 {
+    // for the proof alone
     let _points = table.points();
     match row.instr {
         Instr::Amo { op, rd, rs1, .. } => {

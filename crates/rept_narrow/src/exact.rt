@@ -48,6 +48,7 @@ fn operated(
     ensures keeps { OnOk result ((story : Story) → slice_get story.rows index ≡ Some row.now → KeepsSets story table.old table.new) }
     ensures refuses { OnErr result ((story : Story) → slice_get story.rows index ≡ Some row.now → RefusesSets story table.old) }
 {
+    // for the proof alone
     let _points = table.points();
     let first = table.at(index, operation.rs1);
     let second = table.at(index, operation.rs2);
@@ -68,6 +69,7 @@ fn immediate(table: &mut Table, index: u32, row: &StepRow) -> Result<bool, Empty
     ensures keeps { OnOk result ((story : Story) → slice_get story.rows index ≡ Some row.now → KeepsSets story table.old table.new) }
     ensures refuses { OnErr result ((story : Story) → slice_get story.rows index ≡ Some row.now → RefusesSets story table.old) }
 {
+    // for the proof alone
     let _points = table.points();
     match row.instr {
         Instr::Imm { op, rd, rs1, imm } => {

@@ -84,6 +84,7 @@ fn immediate_back(table: &mut Table, index: u32, row: &StepRow) -> Result<bool, 
     ensures keeps { OnOk result ((story : Story) → slice_get story.rows index ≡ Some row.now → KeepsSets story table.old table.new) }
     ensures refuses { OnErr result ((story : Story) → slice_get story.rows index ≡ Some row.now → RefusesSets story table.old) }
 {
+    // for the proof alone
     let _points = table.points();
     match row.instr {
         Instr::Imm { op, rd, rs1, imm } => {
@@ -106,6 +107,7 @@ fn first_back(table: &mut Table, index: u32, row: &StepRow) -> Result<bool, Empt
     ensures keeps { OnOk result ((story : Story) → slice_get story.rows index ≡ Some row.now → KeepsSets story table.old table.new) }
     ensures refuses { OnErr result ((story : Story) → slice_get story.rows index ≡ Some row.now → RefusesSets story table.old) }
 {
+    // for the proof alone
     let _points = table.points();
     match row.instr {
         Instr::Op { op, rd, rs1, rs2 } => {
@@ -128,6 +130,7 @@ fn second_back(table: &mut Table, index: u32, row: &StepRow) -> Result<bool, Emp
     ensures keeps { OnOk result ((story : Story) → slice_get story.rows index ≡ Some row.now → KeepsSets story table.old table.new) }
     ensures refuses { OnErr result ((story : Story) → slice_get story.rows index ≡ Some row.now → RefusesSets story table.old) }
 {
+    // for the proof alone
     let _points = table.points();
     match row.instr {
         Instr::Op { op, rd, rs1, rs2 } => {

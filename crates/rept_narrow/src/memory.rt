@@ -128,6 +128,7 @@ pub fn load_row<B: ToldBytes>(
     ensures keeps { OnOk result ((story : Story) (run : ℕ → State) → slice_get story.rows index ≡ Some row.now → AreBytes story (B.tells bytes.now) run → HasSets story table.old run → HasSets story table.new run) }
     ensures refuses { OnErr result ((story : Story) (run : ℕ → State) → slice_get story.rows index ≡ Some row.now → AreBytes story (B.tells bytes.now) run → HasSets story table.old run → ⊥) }
 {
+    // for the proof alone
     let _points = table.points();
     match row.instr {
         Instr::Load { op, rd, rs1, imm } => {
@@ -159,6 +160,7 @@ pub fn store_row<B: ToldBytes>(
     ensures keeps { OnOk result ((story : Story) (run : ℕ → State) → slice_get story.rows index ≡ Some row.now → AreBytes story (B.tells bytes.now) run → HasSets story table.old run → HasSets story table.new run) }
     ensures refuses { OnErr result ((story : Story) (run : ℕ → State) → slice_get story.rows index ≡ Some row.now → AreBytes story (B.tells bytes.now) run → HasSets story table.old run → ⊥) }
 {
+    // for the proof alone
     let _points = table.points();
     match row.instr {
         Instr::Store { op, rs1, rs2, imm } => {

@@ -39,6 +39,7 @@ pub fn load_width(op: LoadOp) -> u32
 pub fn named(table: &Table, index: u32, row: &StepRow, k: u32) -> Option<u32>
     requires inside { index + 1 < table.now.points }
 {
+    // for the proof alone
     let _points = table.points();
     match row.instr {
         Instr::Load { op, rs1, imm, .. } => {
@@ -84,6 +85,7 @@ pub fn loaded_byte(table: &Table, index: u32, row: &StepRow, k: u32) -> Option<B
     requires inside { index + 1 < table.now.points }
     ensures { IfSome result (λ b. (story : Story) (run : ℕ → State) → slice_get story.rows index ≡ Some row.now → HasSets story table.now run → (run index).memory b.address ≡ b.value) }
 {
+    // for the proof alone
     let _points = table.points();
     match row.instr {
         Instr::Load { op, rd, rs1, imm } => {
@@ -111,6 +113,7 @@ pub fn stored_byte(table: &Table, index: u32, row: &StepRow, k: u32) -> Option<B
     requires inside { index + 1 < table.now.points }
     ensures { IfSome result (λ b. (story : Story) (run : ℕ → State) → slice_get story.rows index ≡ Some row.now → HasSets story table.now run → (run (index + 1)).memory b.address ≡ b.value) }
 {
+    // for the proof alone
     let _points = table.points();
     match row.instr {
         Instr::Store { op, rs1, rs2, imm } => {

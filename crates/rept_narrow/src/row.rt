@@ -19,6 +19,7 @@ fn carry_one(table: &mut Table, index: u32, row: &StepRow, r: Reg) -> Result<boo
     ensures keeps { OnOk result ((story : Story) → slice_get story.rows index ≡ Some row.now → KeepsSets story table.old table.new) }
     ensures refuses { OnErr result ((story : Story) → slice_get story.rows index ≡ Some row.now → RefusesSets story table.old) }
 {
+    // for the proof alone
     let _points = table.points();
     let before = table.at(index, r);
     let onward = table.narrow(index + 1, r, before)?;
@@ -35,6 +36,7 @@ fn carry_apart(table: &mut Table, index: u32, row: &StepRow, r: Reg) -> Result<b
     ensures keeps { OnOk result ((story : Story) → slice_get story.rows index ≡ Some row.now → KeepsSets story table.old table.new) }
     ensures refuses { OnErr result ((story : Story) → slice_get story.rows index ≡ Some row.now → RefusesSets story table.old) }
 {
+    // for the proof alone
     let _points = table.points();
     let before = table.at(index, r);
     let after = table.at(index + 1, r);
@@ -84,6 +86,7 @@ pub fn forward(table: &mut Table, index: u32, row: &StepRow) -> Result<bool, Emp
     ensures keeps { OnOk result ((story : Story) → slice_get story.rows index ≡ Some row.now → KeepsSets story table.old table.new) }
     ensures refuses { OnErr result ((story : Story) → slice_get story.rows index ≡ Some row.now → RefusesSets story table.old) }
 {
+    // for the proof alone
     let _points = table.points();
     match writes(&row.instr) {
         None => Ok(false),

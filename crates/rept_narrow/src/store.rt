@@ -142,6 +142,7 @@ pub fn may_hit<B: ToldBytes>(table: &Table, bytes: &B, index: u32, row: &StepRow
     requires inside { index + 1 < table.now.points }
     ensures { result ≡ false → (story : Story) (run : ℕ → State) → slice_get story.rows index ≡ Some row.now → HasSets story table.now run → AreBytes story (B.tells bytes.now) run → WritesNot story run index a }
 {
+    // for the proof alone
     let _points = table.points();
     match row.instr {
         Instr::Store { op, rs1, rs2, imm } => {

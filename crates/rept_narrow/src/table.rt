@@ -106,6 +106,7 @@ impl SetGrid {
         requires point { point < self.now.points }
         ensures value { set_at self.now point r ≡ Some result }
     {
+        // for the proof alone
         let _points = &self.points;
         self.items[place(point, r)]
     }
@@ -117,6 +118,7 @@ impl SetGrid {
         ensures here { set_at self.new point r ≡ Some w }
         ensures others { (q s : ℕ) → ((q ≡ point) × (s ≡ r) → ⊥) → set_at self.new q s ≡ set_at self.old q s }
     {
+        // for the proof alone
         let _points = &self.points;
         let place = place(point, r);
         self.items[place] = w;

@@ -31,6 +31,7 @@ pub fn call_access(table: &Table, index: u32, image_end: u64) -> CallAccess
     requires inside { index + 1 < table.now.points }
     ensures { (story : Story) (run : ℕ → State) (row : StepRow) (a : ℕ) → story.image_end ≡ image_end → slice_get story.rows index ≡ Some row → row.instr ≡ Ecall → HasSets story table.now run → RowWrites story run index row a → call_hits result a ≡ true }
 {
+    // for the proof alone
     let _points = table.points();
     let number = Flat::of(table.at(index, register(17)).as_exact());
     let args = [
@@ -49,6 +50,7 @@ pub fn atomic_access(table: &Table, index: u32, rs1: Reg) -> CallAccess
     requires inside { index + 1 < table.now.points }
     ensures { (story : Story) (run : ℕ → State) (row : StepRow) (a : ℕ) → slice_get story.rows index ≡ Some row → IsAtomicAt row.instr rs1 → HasSets story table.now run → RowWrites story run index row a → call_hits result a ≡ true }
 {
+    // for the proof alone
     let _points = table.points();
     let base = table.at(index, rs1).range();
     CallAccess {
@@ -63,6 +65,7 @@ fn atomic_writes_none(table: &Table, index: u32, op: AmoOp, rd: Reg) -> bool
     requires inside { index + 1 < table.now.points }
     ensures { result ≡ true → (story : Story) (run : ℕ → State) (base a : ℕ) → index < length story.rows → HasSets story table.now run → WritesAtomic op rd base (run (index + 1)).register a → ⊥ }
 {
+    // for the proof alone
     let _points = table.points();
     match op {
         AmoOp::Lr => true,

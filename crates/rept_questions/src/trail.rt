@@ -37,6 +37,7 @@ pub fn trail_of<F: Findings>(
     requires step { first.point < length ((F.shown findings.now).rows first.thread) }
     ensures { IfOk result (λ trail. IsTrail (F.shown findings.now) first.thread first.point trail.rows.items trail.more) }
 {
+    // for the proof alone
     let _rows = findings.rows(first.thread);
     let mut rows = Vec::new(alloc);
     let mut seen = Vec::new(alloc);

@@ -277,6 +277,7 @@ pub fn is_writer<F: Findings>(findings: &F, at: ThreadPoint, address: u32) -> bo
     requires step { at.point < length ((F.shown findings.now).rows at.thread) }
     ensures { result ≡ is_writer (F.shown findings.now) address at }
 {
+    // for the proof alone
     let _rows = findings.rows(at.thread);
     let after = ThreadPoint {
         thread: at.thread,
@@ -495,6 +496,7 @@ fn is_sure_writer<F: Findings>(findings: &F, at: ThreadPoint, address: u32) -> b
     requires step { at.point < length ((F.shown findings.now).rows at.thread) }
     ensures { result ≡ is_sure_writer (F.shown findings.now) address at }
 {
+    // for the proof alone
     let _rows = findings.rows(at.thread);
     let after = ThreadPoint {
         thread: at.thread,

@@ -29,6 +29,7 @@ pub fn operand_before<V: RowView>(view: &V, r: Option<Reg>) -> Flat
 pub fn is_known<V: RowView>(view: &V, r: Reg) -> bool
     ensures { result ≡ is_register r && is_some ((V.seen view.now).register When.Before r) }
 {
+    // for the proof alone
     let _number = r.number();
     match view.reg(When::Before, r) {
         Flat::Unknown => false,

@@ -46,6 +46,7 @@ pub fn touched<V: RowView>(instr: &Instr, view: &V, image_end: u64) -> CallAcces
 fn range_before<V: RowView>(view: &V, r: Reg) -> Range
     ensures { result ≡ range_of (V.seen view.now) When.Before r }
 {
+    // for the proof alone
     let _number = r.number();
     view.range(When::Before, r)
 }

@@ -55,6 +55,7 @@ pub fn start<F: Findings>(alloc: Global, findings: &F) -> Result<Stand, OutOfMem
     ensures stand { IfOk result (λ stand. stand ≡ start_of (F.shown findings.now) (record { breaks = []; regions = [] })) }
     ensures within { IfOk result (IsStandLawful (F.shown findings.now)) }
 {
+    // for the proof alone
     let _threads = findings.threads();
     let cursors = Cursors::new(alloc, findings)?;
     Ok(Stand {
@@ -168,6 +169,7 @@ fn cursor_of<F: Findings>(findings: &F, stand: &Stand, thread: u32) -> ThreadPoi
     ensures value { result ≡ cursor_of stand.now thread }
     ensures within { IsThreadPoint (F.shown findings.now) result }
 {
+    // for the proof alone
     let _threads = findings.threads();
     ThreadPoint {
         thread,
@@ -306,6 +308,7 @@ fn lead<F: Findings>(findings: &F, stand: &mut Stand, point: u32)
     ensures stand { stand.new ≡ led stand.old point }
     ensures within { IsStandLawful (F.shown findings.now) stand.new }
 {
+    // for the proof alone
     let _threads = findings.threads();
     stand.cursors.put(stand.thread, point);
 }

@@ -204,6 +204,7 @@ pub fn thread_text<F: Findings>(
 pub fn threads_text<F: Findings>(alloc: Global, findings: &F) -> Result<Text, OutOfMemory>
     ensures { IfOk result (λ text. text ≡ threads_reply (F.shown findings.now)) }
 {
+    // for the proof alone
     let _threads = findings.threads();
     let mut text = Text::new(alloc);
     text.push(b"m")?;

@@ -138,6 +138,7 @@ impl<'a> ThreadEnds<'a> {
         ensures some { 0 < length self.now.course.threads }
         ensures few { points_in self.now.course ≤ 66560 }
     {
+        // for the proof alone
         let _run = self.run;
     }
 

@@ -57,6 +57,7 @@ fn does_may_act(many: &Many<'_>, number: u32, row: u32) -> bool
     requires row { IsSome ((seen_of many.now).legs.row row) }
     ensures { result ≡ true → IsOfOtherThread (as_timeline (seen_of many.now)) number row }
 {
+    // for the proof alone
     let _end = many.end();
     if many.before(row) == number {
         return false;
@@ -92,6 +93,7 @@ fn is_still_too(storing: &Storing, many: &Many<'_>, number: u32, still: u32) -> 
     requires still { IsStill many.now still }
     ensures { result ≡ true → IsStill many.now number }
 {
+    // for the proof alone
     let _end = many.end();
     if !many.are_together(still, number) {
         return false;
@@ -127,6 +129,7 @@ fn first_other(storing: &Storing, many: &Many<'_>, number: u32) -> Option<u32>
     requires apart { IsOwnBetween many.now number (number + 1) None }
     ensures { IsOtherActing many.now number result }
 {
+    // for the proof alone
     let _end = many.end();
     let _last = many.last_point();
     let mut from = 0;
@@ -199,6 +202,7 @@ fn crossing_at(storing: &Storing, many: &Many<'_>, number: u32, hint: Hint) -> C
     requires hint { IsHint many.now hint }
     ensures { IsCrossing many.now number result }
 {
+    // for the proof alone
     let _end = many.end();
     match many.row_between(number, number + 1) {
         Some(_own) => Crossing {
@@ -232,6 +236,7 @@ fn is_steady(many: &Many<'_>, pause: u32, number: u32) -> bool
     requires two { AreTwo many.now pause number }
     ensures { result ≡ true → IsSteady many.now pause number }
 {
+    // for the proof alone
     let _end = many.end();
     if does_own_store(many, pause) {
         return false;
@@ -249,6 +254,7 @@ fn do_rows_stay(storing: &Storing, many: &Many<'_>, pause: u32, number: u32) -> 
     ensures yes { result ≡ true → DoRowsStay (as_timeline (seen_of many.now)) pause number }
     ensures no { result ≡ false → MayActToo (as_timeline (seen_of many.now)) pause number → ⊥ }
 {
+    // for the proof alone
     let _end = many.end();
     if is_steady(many, pause, number) {
         return true;
@@ -273,6 +279,7 @@ fn does_untraced_stay(many: &Many<'_>, pause: u32, number: u32) -> bool
     ensures yes { result ≡ true → (seen_of many.now).moments.untraced pause (pause + 1) ≡ true → (seen_of many.now).moments.untraced number (number + 1) ≡ true }
     ensures no { result ≡ false → MayActToo (as_timeline (seen_of many.now)) pause number → ⊥ }
 {
+    // for the proof alone
     let _end = many.end();
     if many.is_untraced_between(pause, pause + 1) {
         many.is_untraced_between(number, number + 1)
@@ -317,6 +324,7 @@ fn longer(storing: &Storing, many: &Many<'_>, strip: Strip, crossing: Crossing) 
     requires crossing { IsCrossing many.now strip.last crossing }
     ensures { IsLonger many.now strip result }
 {
+    // for the proof alone
     let _end = many.end();
     let last = strip.last;
     if !crossing.is_crossed {
@@ -345,6 +353,7 @@ fn line_end(many: &Many<'_>, lines: &Lines, number: u32) -> u32
     ensures joined { (k : ℕ) → number ≤ k → k < result → IsJoined (seen_of many.now).moments k }
     ensures ends { IsJoined (seen_of many.now).moments result → ⊥ }
 {
+    // for the proof alone
     let _end = many.end();
     lines.line(number).last
 }
@@ -391,6 +400,7 @@ fn strip_after(
     requires strip { IsStrip (as_timeline (seen_of many.now)) number strip }
     ensures { IsStrip (as_timeline (seen_of many.now)) (number + 1) result }
 {
+    // for the proof alone
     let _end = many.end();
     if number < strip.last {
         strip

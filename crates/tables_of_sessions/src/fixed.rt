@@ -52,6 +52,7 @@ impl Findings for Fixed {
     }
 
     fn first(&self, _thread: u32) -> u32 {
+        // for the proof alone
         let _two: &[StepRow] = &self.rows;
         0
     }

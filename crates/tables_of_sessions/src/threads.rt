@@ -62,6 +62,7 @@ impl Findings for TwoThreads {
     }
 
     fn first(&self, thread: u32) -> u32 {
+        // for the proof alone
         let _four: &[StepRow] = &self.first;
         let _two: &[StepRow] = &self.second;
         if thread == 0 { 0 } else { 5 }
@@ -203,6 +204,7 @@ fn lengths(first: &[StepRow; 4], second: &[StepRow; 2])
     ensures four { length first.now ≡ 4 }
     ensures two { length second.now ≡ 2 }
 {
+    // for the proof alone
     let _four: &[StepRow] = first;
     let _two: &[StepRow] = second;
 }

@@ -23,6 +23,7 @@ impl<'a, B: ByteFacts, W: Transfer, R: RowRules> Analysis<'a, B, W, R> {
         ensures registers { self.now.propagation.facts.complete ≡ true → (p r : ℕ) → register_answer (state_of W.sets W.moves R.rules B.store self.now.propagation.facts) p r ≡ register_known (answers (state_of W.sets W.moves R.rules B.store self.now.propagation.facts)) p r }
         ensures log { self.now.propagation.facts.complete ≡ true → IsLogOf (setting_of W.sets W.moves R.rules self.now.propagation.facts) (answers (state_of W.sets W.moves R.rules B.store self.now.propagation.facts)) self.now.propagation.facts.known.log }
     {
+        // for the proof alone
         let _ended = self.propagation.facts.ended();
     }
 }

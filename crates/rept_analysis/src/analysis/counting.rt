@@ -133,6 +133,7 @@ impl<'a, B: ByteFacts, W: Transfer, R: RowRules> Analysis<'a, B, W, R> {
         ensures shown { IsCounted (setting_of W.sets W.moves R.rules self.now.propagation.facts) (told (oldest self.now.propagation.facts.shown self.now.propagation.facts.known.log)) result }
         ensures ended { self.now.propagation.facts.complete ≡ true → IsCounted (setting_of W.sets W.moves R.rules self.now.propagation.facts) (answers (state_of W.sets W.moves R.rules B.store self.now.propagation.facts)) result }
     {
+        // for the proof alone
         let _ended = self.propagation.facts.ended();
         Counts {
             steps: self.steps(),

@@ -88,6 +88,7 @@ impl<'a, B: ByteFacts, W: Transfer, R: RowRules> Analysis<'a, B, W, R> {
         if !keeps(&row.instr, r) {
             return Ok(false);
         }
+        // for the proof alone
         let _count = self.propagation.facts.count();
         let before = self.propagation.facts.known(i, r);
         let onward = self.propagation.facts.learn_if(i + 1, r, before)?;
@@ -191,6 +192,7 @@ impl<'a, B: ByteFacts, W: Transfer, R: RowRules> Analysis<'a, B, W, R> {
         ensures still { self.new.propagation.facts.work ≡ self.old.propagation.facts.work }
         ensures halt { IfErr result (λ h. IsHalt (state_of W.sets W.moves R.rules B.store self.new.propagation.facts) h) }
     {
+        // for the proof alone
         let _count = self.propagation.facts.count();
         match &inferred.cell {
             Cell::Register(r) => {

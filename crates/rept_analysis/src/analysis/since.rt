@@ -32,6 +32,7 @@ impl<'a, B: ByteFacts, W: Transfer, R: RowRules> Analysis<'a, B, W, R> {
         ensures quiet { result ≡ true → IsFilledQuiet (state_of W.sets W.moves R.rules B.store self.new.propagation.facts) }
         ensures marks { length changes.new.points ≡ length changes.old.points }
     {
+        // for the proof alone
         let _count = self.propagation.facts.count();
         let len = self.propagation.facts.len();
         let quiet = self.propagation.facts.is_quiet_since(len, changes);

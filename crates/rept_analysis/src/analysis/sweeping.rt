@@ -129,6 +129,7 @@ impl<'a, B: ByteFacts, W: Transfer, R: RowRules> Analysis<'a, B, W, R> {
         ensures calm { IfErr result (λ _. HasEndsAlone (state_of W.sets W.moves R.rules B.store self.old.propagation.facts) → ⊥) }
         ensures halt { IfErr result (λ h. IsHalt (state_of W.sets W.moves R.rules B.store self.new.propagation.facts) h) }
     {
+        // for the proof alone
         let _number = r.number();
         let learnt = self.propagation.facts.learn(point, r, value)?;
         Ok(learnt)

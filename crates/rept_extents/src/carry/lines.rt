@@ -52,6 +52,7 @@ fn is_joined(ways: &Ways<'_>, number: u32) -> bool
     ensures yes { result ≡ true → IsJoined (seen_in ways.now).moments number }
     ensures no { result ≡ false → IsJoined (seen_in ways.now).moments number → ⊥ }
 {
+    // for the proof alone
     let _end = ways.course().end();
     match ways.next_from(number, 0) {
         None => false,
@@ -91,6 +92,7 @@ fn line_after(ways: &Ways<'_>, line: NumberChain, number: u32) -> NumberChain
     requires line { IsLine (seen_in ways.now).moments number line }
     ensures { IsLine (seen_in ways.now).moments (number + 1) result }
 {
+    // for the proof alone
     let _end = ways.course().end();
     if number < line.last {
         line

@@ -32,6 +32,7 @@ impl<'a, B: ByteFacts, W: Transfer, R: RowRules> CrashFacts<'a, B, W, R> {
         ensures same { (state_of W.sets W.moves R.rules B.store self.new) ≡ with_infers (state_of W.sets W.moves R.rules B.store self.old) self.new.work.infers }
         ensures once { self.new.work.infers ≤ self.old.work.infers + 1 }
     {
+        // for the proof alone
         let _len = self.known.len();
         let _paths = self.paths;
         let view = Around {
@@ -47,6 +48,7 @@ impl<'a, B: ByteFacts, W: Transfer, R: RowRules> CrashFacts<'a, B, W, R> {
         requires { i < (timeline self.now.paths).legs.count }
         ensures { slice_get self.now.work.inferred i ≡ Some result }
     {
+        // for the proof alone
         let _paths = self.paths;
         self.inferred.at(i)
     }
@@ -58,6 +60,7 @@ impl<'a, B: ByteFacts, W: Transfer, R: RowRules> CrashFacts<'a, B, W, R> {
         requires open { self.old.complete ≡ false }
         ensures { (state_of W.sets W.moves R.rules B.store self.new) ≡ with_inferred (state_of W.sets W.moves R.rules B.store self.old) (set self.old.work.inferred i pass) }
     {
+        // for the proof alone
         let _paths = self.paths;
         self.inferred.put(i, pass);
     }
@@ -71,6 +74,7 @@ impl<'a, B: ByteFacts, W: Transfer, R: RowRules> CrashFacts<'a, B, W, R> {
         ensures rows { length self.new.work.inferred ≡ (timeline self.old.paths).legs.count }
         ensures uncut { IsUncut (state_of W.sets W.moves R.rules B.store self.new) }
     {
+        // for the proof alone
         let _paths = self.paths;
         self.inferred.clear();
     }
@@ -85,6 +89,7 @@ impl<'a, B: ByteFacts, W: Transfer, R: RowRules> CrashFacts<'a, B, W, R> {
         ensures halt { IfErr result (λ h. IsHalt (state_of W.sets W.moves R.rules B.store self.new) h) }
     {
         self.held();
+        // for the proof alone
         let _number = r.number();
         if self.known.is_known_below(self.filled, point, r) {
             return Ok(false);

@@ -31,6 +31,7 @@ impl<'a, B: ByteFacts, W: Transfer, R: RowRules> CrashFacts<'a, B, W, R> {
         ensures entry { entry_at self.now.spans point r ≡ Some result }
         ensures in_file { r < 32 }
     {
+        // for the proof alone
         let _paths = self.paths;
         let _number = r.number();
         self.spans.at(point, r)
@@ -71,6 +72,7 @@ impl<'a, B: ByteFacts, W: Transfer, R: RowRules> CrashFacts<'a, B, W, R> {
         requires equal { HasEqualNumbers (timeline self.now.paths) }
         ensures { IsNoneFrom (IsMaybe (timeline self.now.paths) (writes_by (setting_of W.sets W.moves R.rules self.now) (told (oldest self.now.filled self.now.known.log))) (spot moment a)) result }
     {
+        // for the proof alone
         let _count = self.count();
         match self.last_begun(moment) {
             None => 0,
@@ -151,6 +153,7 @@ impl<'a, B: ByteFacts, W: Transfer, R: RowRules> CrashFacts<'a, B, W, R> {
         requires { point ≤ (timeline self.now.paths).legs.count }
         ensures { result ≡ is_some (register_fact (told (oldest self.now.shown self.now.known.log)) point r) }
     {
+        // for the proof alone
         let _paths = self.paths;
         r.number() != 0 && self.known.is_known_below(self.shown, point, r)
     }
@@ -160,6 +163,7 @@ impl<'a, B: ByteFacts, W: Transfer, R: RowRules> CrashFacts<'a, B, W, R> {
         requires { i ≤ (timeline self.now.paths).legs.count }
         ensures { result ≡ is_some (register_known (told (oldest self.now.shown self.now.known.log)) i r) }
     {
+        // for the proof alone
         let _paths = self.paths;
         match self.known.known_below(self.shown, i, r) {
             Flat::Known(_) => true,
@@ -174,6 +178,7 @@ impl<'a, B: ByteFacts, W: Transfer, R: RowRules> CrashFacts<'a, B, W, R> {
         ensures place { result ≡ place_of self.now.known.log point (Register r) }
         ensures within { IfSome result (λ t. t < length self.now.known.log) }
     {
+        // for the proof alone
         let _paths = self.paths;
         self.known.place(point, r)
     }

@@ -25,6 +25,7 @@ impl<'a, B: ByteFacts, W: Transfer, R: RowRules> CrashFacts<'a, B, W, R> {
         ensures { result ≡ base_known (first_read row.now.instr) (around (timeline self.now.paths).moments (known_of B.store self.now.known) i) }
     {
         let (first, _) = reads(&row.instr);
+        // for the proof alone
         let _count = self.count();
         match first {
             None => None,
@@ -41,6 +42,7 @@ impl<'a, B: ByteFacts, W: Transfer, R: RowRules> CrashFacts<'a, B, W, R> {
         ensures value { result ≡ operand_known (around (timeline self.now.paths).moments (known_of B.store self.now.known) i) when r }
         ensures few { result ≤ 1 }
     {
+        // for the proof alone
         let _count = self.count();
         let point = point_at(i, when);
         match r {

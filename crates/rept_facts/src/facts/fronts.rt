@@ -76,6 +76,7 @@ impl<'a, B: ByteFacts, W: Transfer, R: RowRules> CrashFacts<'a, B, W, R> {
         requires complete { self.now.complete ≡ true }
         ensures { front_of W.sets W.moves R.rules (basis_of result) ≡ front_below W.sets W.moves R.rules self.now limit }
     {
+        // for the proof alone
         let _len = self.known.len();
         Front::new(&self.known, limit, self.paths, self.last, &self.dump, spans)
     }

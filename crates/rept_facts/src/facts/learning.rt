@@ -32,6 +32,7 @@ impl<'a, B: ByteFacts, W: Transfer, R: RowRules> CrashFacts<'a, B, W, R> {
         requires led { IsLed (record { address = a; from = from; to = to; value = value }) (state_of W.sets W.moves R.rules B.store self.old) }
         ensures { Sends (state_of W.sets W.moves R.rules B.store self.old) (state_of W.sets W.moves R.rules B.store self.new) (record { address = a; from = from; to = to; value = value }) result }
     {
+        // for the proof alone
         let _value = value;
         let _paths = self.paths;
         self.known.carry(a, from, to)
@@ -45,8 +46,10 @@ impl<'a, B: ByteFacts, W: Transfer, R: RowRules> CrashFacts<'a, B, W, R> {
         requires open { self.old.complete ≡ false }
         ensures { ToldAs (state_of W.sets W.moves R.rules B.store self.old) (state_of W.sets W.moves R.rules B.store self.new) (fact_of point (Register r) value) result }
     {
+        // for the proof alone
         let _number = r.number();
         let answer = self.known.learn_register(point, r, value);
+        // for the proof alone
         let _len = self.known.len();
         answer
     }
@@ -68,6 +71,7 @@ impl<'a, B: ByteFacts, W: Transfer, R: RowRules> CrashFacts<'a, B, W, R> {
         ensures { ByteToldAs (state_of W.sets W.moves R.rules B.store self.old) (state_of W.sets W.moves R.rules B.store self.new) (fact_of point (Byte a) value) result }
     {
         let answer = self.known.learn_byte(point, a, value, keep);
+        // for the proof alone
         let _len = self.known.len();
         answer
     }

@@ -34,6 +34,7 @@ impl<'a, B: ByteFacts, W: Transfer, R: RowRules> CrashFacts<'a, B, W, R> {
         ensures next { IsNextHitBelow self.now.work.writing k end a result }
         ensures few { length self.now.work.writing < 2 ^ 64 }
     {
+        // for the proof alone
         let _count = self.writing.len();
         self.writing.next_hit(k, end, a)
     }
@@ -44,6 +45,7 @@ impl<'a, B: ByteFacts, W: Transfer, R: RowRules> CrashFacts<'a, B, W, R> {
         ensures next { IsNextMeeting self.now.work.writing k (record { from = m; to = w; address = a }) result }
         ensures few { length self.now.work.writing < 2 ^ 64 }
     {
+        // for the proof alone
         let _count = self.writing.len();
         self.writing.next_meeting(k, m, w, a)
     }
@@ -221,6 +223,7 @@ impl<'a, B: ByteFacts, W: Transfer, R: RowRules> CrashFacts<'a, B, W, R> {
         ensures there { IsSome ((timeline self.now.paths).legs.row result.row) }
         ensures early { result.at ≤ (timeline self.now.paths).moments.end }
     {
+        // for the proof alone
         let _end = self.end();
         self.writing_at(k)
     }
@@ -231,6 +234,7 @@ impl<'a, B: ByteFacts, W: Transfer, R: RowRules> CrashFacts<'a, B, W, R> {
         requires within { k ≤ length self.now.work.writing }
         ensures value { result ≡ past self.now.work.writing k }
     {
+        // for the proof alone
         let _end = self.end();
         if k == 0 {
             return 0;

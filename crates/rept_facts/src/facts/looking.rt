@@ -36,6 +36,7 @@ impl<'a, B: ByteFacts, W: Transfer, R: RowRules> CrashFacts<'a, B, W, R> {
         requires { i < (timeline self.now.paths).legs.count }
         ensures { (a : ℕ) → a < 2 ^ 32 → call_hits result a ≡ R.rules.touched row.now (moment W.sets (oldest limit self.now.known.log) self.now.spans i) (contents self.now.exe).end a }
     {
+        // for the proof alone
         let _len = self.known.len();
         let image_end = self.dump.image_end();
         let view = RegisterView {
@@ -75,6 +76,7 @@ impl<'a, B: ByteFacts, W: Transfer, R: RowRules> CrashFacts<'a, B, W, R> {
         requires point { point ≤ (timeline self.now.paths).legs.count }
         ensures { result ≡ operand (told (oldest limit self.now.known.log)) point r }
     {
+        // for the proof alone
         let _paths = self.paths;
         match r {
             None => Flat::Unknown,

@@ -97,6 +97,7 @@ impl<'a, B: ByteFacts, W: Transfer, R: RowRules> CrashFacts<'a, B, W, R> {
     fn is_right(&self, limit: u32, i: u32) -> bool
         ensures { result ≡ true → IsWrongTurn (setting_of W.sets W.moves R.rules self.now) (told (oldest limit self.now.known.log)) i → ⊥ }
     {
+        // for the proof alone
         let _paths = self.paths;
         if i >= self.count() {
             return true;

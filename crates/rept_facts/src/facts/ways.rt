@@ -150,6 +150,7 @@ impl<'a, B: ByteFacts, W: Transfer, R: RowRules> CrashFacts<'a, B, W, R> {
         ensures last { IsLastFrom (timeline self.now.paths).legs least result }
         ensures few { IfSome result (λ p. p ≤ 66560) }
     {
+        // for the proof alone
         let _count = self.count();
         self.paths.next_last(least)
     }

@@ -36,6 +36,7 @@ impl<'a, B: ByteFacts, W: Transfer, R: RowRules> RowWrites for CrashFacts<'a, B,
         match self.row(row) {
             None => false,
             Some(found) => {
+                // for the proof alone
                 let _len = self.known.len();
                 let view = RegisterView {
                     facts: &self.known,

@@ -103,8 +103,10 @@ impl<'a, F: Findings, K: KnownPath, P: PathPremises> InferredCrash<'a, F, K, P> 
         ensures value { result ≡ step_added (told_in (path_reader K.set K.byte P.premises) self.now.inferred) (F.shown self.now.found.now) index }
         ensures few { result ≤ 4 }
     {
+        // for the proof alone
         let _some = self.found.threads();
         let row = self.found.rows(0)[index as usize];
+        // for the proof alone
         let _few = self.found.points();
         self.load_bytes(self.found.first(0) + index, &row.instr)
     }
@@ -114,6 +116,7 @@ impl<'a, F: Findings, K: KnownPath, P: PathPremises> InferredCrash<'a, F, K, P> 
         ensures value { result ≡ length ((F.shown self.now.found.now).rows 0) }
         ensures few { length ((F.shown self.now.found.now).rows 0) ≤ 65536 }
     {
+        // for the proof alone
         let _some = self.found.threads();
         self.found.rows(0).len() as u32
     }
@@ -123,6 +126,7 @@ impl<'a, F: Findings, K: KnownPath, P: PathPremises> InferredCrash<'a, F, K, P> 
         ensures { result ≡ sum_to (step_added (told_in (path_reader K.set K.byte P.premises) self.now.inferred) (F.shown self.now.found.now)) (length ((F.shown self.now.found.now).rows 0)) }
     {
         let steps = self.steps();
+        // for the proof alone
         let _few = self.found.points();
         let mut sum = 0;
         for index in 0..steps {

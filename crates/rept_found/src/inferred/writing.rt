@@ -103,6 +103,7 @@ fn are_lined<F: Findings>(found: &F, count: u32) -> bool
 pub(crate) fn is_line<F: Findings>(found: &F) -> bool
     ensures { result ≡ is_line (F.shown found.now) }
 {
+    // for the proof alone
     let _some = found.points();
     found.threads() == 1 && found.first(0) == 0 && are_lined(found, found.rows(0).len() as u32 + 1)
 }
@@ -163,6 +164,7 @@ impl<'r, 'a, F: Findings, K: KnownPath, P: PathPremises> PossibleWriters<'r, 'a,
         requires { step < length ((F.shown self.now.found.now).rows 0) }
         ensures { result ≡ refined_row (told_in (path_reader K.set K.byte P.premises) self.now.inferred.now) address step (slice_get ((F.shown self.now.found.now).rows 0) step) told }
     {
+        // for the proof alone
         let _some = self.found.threads();
         let row = self.found.rows(0)[step as usize];
         if self.instr_reaches(step, address, &row.instr) {
@@ -178,6 +180,7 @@ impl<'r, 'a, F: Findings, K: KnownPath, P: PathPremises> PossibleWriters<'r, 'a,
         requires moment { step + 1 < (F.shown self.now.found.now).moments }
         ensures { result ≡ refined_step (told_in (path_reader K.set K.byte P.premises) self.now.inferred.now) (F.shown self.now.found.now) address step }
     {
+        // for the proof alone
         let _few = self.steps();
         let told = self.found.writer(step + 1, address);
         if names_step(told, step) {
@@ -276,8 +279,10 @@ impl<'r, 'a, F: Findings, K: KnownPath, P: PathPremises> PossibleWriters<'r, 'a,
         requires { index < length ((F.shown self.now.found.now).rows 0) }
         ensures { result ≡ row_stores known (told_in (path_reader K.set K.byte P.premises) self.now.inferred.now) (F.shown self.now.found.now) ((F.shown self.now.found.now).first 0 + index) (slice_get ((F.shown self.now.found.now).rows 0) index) }
     {
+        // for the proof alone
         let _some = self.found.threads();
         let row = self.found.rows(0)[index as usize];
+        // for the proof alone
         let _few = self.found.points();
         let point = self.found.first(0) + index;
         self.is_store_told(known, point, &row.instr)
@@ -288,6 +293,7 @@ impl<'r, 'a, F: Findings, K: KnownPath, P: PathPremises> PossibleWriters<'r, 'a,
         ensures value { result ≡ length ((F.shown self.now.found.now).rows 0) }
         ensures few { length ((F.shown self.now.found.now).rows 0) ≤ 65536 }
     {
+        // for the proof alone
         let _some = self.found.threads();
         self.found.rows(0).len() as u32
     }

@@ -58,6 +58,7 @@ impl<B: ByteFacts> FactLog<B> {
         requires named { 0 < r }
         ensures { IsTrue result ↔ IsSameAfter self.now.log point r }
     {
+        // for the proof alone
         let _last = self.last;
         self.same[slot(point, r)]
     }

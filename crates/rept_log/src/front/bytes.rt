@@ -58,6 +58,7 @@ impl<'k, 'd, B: ByteFacts, W: Transfer, R: RowRules> Front<'k, 'd, B, W, R> {
         requires { IsSome ((timeline self.now.paths).legs.row i) }
         ensures { result ≡ base_seen (first_read instr.now) (seen_in (front_of W.sets W.moves R.rules (basis_of self.now)) i) }
     {
+        // for the proof alone
         let _count = self.count();
         let register = reads(instr).0?;
         self.known(i, register).as_exact()

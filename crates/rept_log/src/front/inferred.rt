@@ -101,6 +101,7 @@ impl<'k, 'd, B: ByteFacts, W: Transfer, R: RowRules> Front<'k, 'd, B, W, R> {
         ensures none { IfOk result (λ found. IfNone found (IsNotInferredBy (front_of W.sets W.moves R.rules (basis_of self.now)) i fact.now)) }
         ensures room { IfOk result (λ found. IfSome found IsInPlace) }
     {
+        // for the proof alone
         let _count = self.count();
         let bytes = self.row_bytes(alloc, i, row)?;
         let view = Standing {
@@ -237,6 +238,7 @@ impl<'k, 'd, B: ByteFacts, W: Transfer, R: RowRules> Front<'k, 'd, B, W, R> {
         ensures none { IfOk result (λ found. IfNone found (IsNotInferred (front_of W.sets W.moves R.rules (basis_of self.now)) fact.now)) }
         ensures room { IfOk result (λ found. IfSome found IsInPlace) }
     {
+        // for the proof alone
         let _count = self.count();
         let found = self.inferred_before(rules, alloc, fact)?;
         if found.is_some() {

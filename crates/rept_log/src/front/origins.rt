@@ -108,6 +108,7 @@ impl<'k, 'd, B: ByteFacts, W: Transfer, R: RowRules> Front<'k, 'd, B, W, R> {
         requires far { 0 < found.links }
         ensures { IfOk result (λ step. IsCarriedBy (front_of W.sets W.moves R.rules (basis_of self.now)) (spot number byte.now.address) step) }
     {
+        // for the proof alone
         let _count = self.count();
         nearer(alloc, self.paths, byte, number, found)
     }
@@ -133,6 +134,7 @@ impl<'k, 'd, B: ByteFacts, W: Transfer, R: RowRules> Front<'k, 'd, B, W, R> {
         requires inside { number ≤ (timeline self.now.paths).moments.end }
         ensures { IfOk result (λ found. found ≡ stands (front_of W.sets W.moves R.rules (basis_of self.now)) number (Byte byte.now.address)) }
     {
+        // for the proof alone
         let _end = self.end();
         let _count = self.count();
         let nearest = self.nearest(alloc, byte, number)?;

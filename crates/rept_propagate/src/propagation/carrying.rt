@@ -195,6 +195,7 @@ impl<'a, B: ByteFacts, W: Transfer, R: RowRules> Propagation<'a, B, W, R> {
         match strip.pause {
             None => true,
             Some(pause) => {
+                // for the proof alone
                 let _end = self.facts.end();
                 if self.is_walled(a, pause) {
                     return false;
@@ -212,6 +213,7 @@ impl<'a, B: ByteFacts, W: Transfer, R: RowRules> Propagation<'a, B, W, R> {
         requires within { k < length self.now.facts.work.writing }
         ensures { IsLooseEnd strip k result (state_of W.sets W.moves R.rules B.store self.now.facts) }
     {
+        // for the proof alone
         let _end = self.facts.end();
         let entry = self.facts.entry(k);
         if entry.at < strip.first {
@@ -338,6 +340,7 @@ impl<'a, B: ByteFacts, W: Transfer, R: RowRules> Propagation<'a, B, W, R> {
         ensures inferred { IfOk result (λ learnt. HasInferred (state_of W.sets W.moves R.rules B.store self.old.facts) (state_of W.sets W.moves R.rules B.store self.new.facts) learnt (IsCarriedIn a strip)) }
         ensures halt { IfErr result (λ h. IsHalt (state_of W.sets W.moves R.rules B.store self.new.facts) h) }
     {
+        // for the proof alone
         let _end = self.facts.end();
         let mut learnt = false;
         let mut from = strip.first;
@@ -411,6 +414,7 @@ impl<'a, B: ByteFacts, W: Transfer, R: RowRules> Propagation<'a, B, W, R> {
         ensures inferred { IfOk result (λ learnt. HasInferred (state_of W.sets W.moves R.rules B.store self.old.facts) (state_of W.sets W.moves R.rules B.store self.new.facts) learnt (IsCarriedIn a strip)) }
         ensures halt { IfErr result (λ h. IsHalt (state_of W.sets W.moves R.rules B.store self.new.facts) h) }
     {
+        // for the proof alone
         let _end = self.facts.end();
         let mut learnt = false;
         let mut from = strip.first;

@@ -177,6 +177,7 @@ impl<'a, B: ByteFacts, W: Transfer, R: RowRules> Propagation<'a, B, W, R> {
         ensures no { result ≡ false → IsBlocked (record { address = a; from = m; to = m + 1 }) (state_of W.sets W.moves R.rules B.store self.old.facts) }
         ensures same { self.new.facts ≡ self.old.facts }
     {
+        // for the proof alone
         let _end = self.facts.end();
         if self.facts.is_untraced_between(m, m + 1) {
             return false;
@@ -194,6 +195,7 @@ impl<'a, B: ByteFacts, W: Transfer, R: RowRules> Propagation<'a, B, W, R> {
         requires next { (timeline self.now.facts.paths).moments.next m (m + 1) ≡ true }
         ensures { result ≡ true → IsBlocked (record { address = a; from = m; to = m + 1 }) (state_of W.sets W.moves R.rules B.store self.now.facts) }
     {
+        // for the proof alone
         let _end = self.facts.end();
         let own = self.facts.listed_before(m);
         if self.blocks(a, m, m + 1, Some(own)) {

@@ -136,6 +136,7 @@ pub fn serve<F: Findings, S: Source, K: Sink>(
     ensures text { IfSome (S.port input.old).bytes (λ bytes. Serves (session_told (F.shown findings.now) skipped (F.reasons findings.now)) (record { input = bytes; left = (S.port input.new).bytes }) (move (K.port out.old) (K.port out.new)) result) }
     ensures causes { IsServeCaused (move (S.port input.old) (S.port input.new)) (move (K.port out.old) (K.port out.new)) result }
 {
+    // for the proof alone
     let _threads = findings.threads();
     let mut cursor = last_of(findings, 0);
     let mut lines = BoundedLines::new(input);
