@@ -51,7 +51,7 @@ fn is_after(m: u32, w: u32) -> bool
 }
 
 /// Whether a stretch has each point from one to another one.
-fn has_all(stretch: &ValueStretch, from: u32, to: u32) -> bool
+pub(super) fn has_all(stretch: &ValueStretch, from: u32, to: u32) -> bool
     ensures { result ≡ true → (stretch.now.first ≤ from) × (to ≤ stretch.now.last) }
 {
     stretch.first <= from && to <= stretch.last
@@ -362,7 +362,12 @@ impl<'a, B: ByteFacts, W: Transfer, R: RowRules> Propagation<'a, B, W, R> {
 
     /// The value of a byte from a number of a strip down, number by number, as long as it is new
     /// there. That this is done at once saves rounds: no clause rests on it.
-    fn carry_down(&mut self, a: u32, strip: Strip, number: u32) -> Result<bool, LearnError>
+    pub(super) fn carry_down(
+        &mut self,
+        a: u32,
+        strip: Strip,
+        number: u32,
+    ) -> Result<bool, LearnError>
         requires strip { IsStrip (timeline self.old.facts.paths) strip.first strip }
         requires inside { number ≤ strip.last }
         requires writings { AreWritings (state_of W.sets W.moves R.rules B.store self.old.facts) }
@@ -380,6 +385,30 @@ impl<'a, B: ByteFacts, W: Transfer, R: RowRules> Propagation<'a, B, W, R> {
             if !new {
                 return Ok(learnt);
             }
+        }
+        Ok(learnt)
+    }
+
+    /// The value of a byte from a number of a strip up, number by number, as long as it is new
+    /// there. That this is done at once saves rounds: no clause rests on it.
+    pub(super) fn carry_up(&mut self, a: u32, strip: Strip, number: u32) -> Result<bool, LearnError>
+        requires strip { IsStrip (timeline self.old.facts.paths) strip.first strip }
+        requires inside { strip.first ≤ number }
+        requires writings { AreWritings (state_of W.sets W.moves R.rules B.store self.old.facts) }
+        requires open { self.old.facts.complete ≡ false }
+        ensures grows { Grows (state_of W.sets W.moves R.rules B.store self.old.facts) (state_of W.sets W.moves R.rules B.store self.new.facts) }
+        ensures inferred { IfOk result (λ learnt. HasInferred (state_of W.sets W.moves R.rules B.store self.old.facts) (state_of W.sets W.moves R.rules B.store self.new.facts) learnt (λ _. ⊤)) }
+        ensures halt { IfErr result (λ h. IsHalt (state_of W.sets W.moves R.rules B.store self.new.facts) h) }
+    {
+        let mut learnt = false;
+        let mut m = number;
+        while m < strip.last {
+            let new = self.carry_step(a, m)?;
+            learnt = learnt | new;
+            if !new {
+                return Ok(learnt);
+            }
+            m += 1;
         }
         Ok(learnt)
     }
