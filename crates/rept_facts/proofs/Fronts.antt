@@ -11,6 +11,7 @@ use Rattle.rept_span.specs.Ranges.{IsEmptyFirst}
 use Rattle.rept_span.specs.Filled.{View}
 use Rattle.rept_report.specs.Setting.{Setting, HasLaws, way_of}
 use Rattle.rept_report.specs.Conflicts.{IsQuiet}
+use Rattle.rept_report.specs.Conclusions.{HasWords}
 use Rattle.rept_report.specs.Log.{oldest, logged_of, entry, place_of}
 use Rattle.rept_report.specs.Reasons.{StandsIn, IsStanding}
 use Rattle.rept_report.specs.Why.{Because, fact_of, IsInferredBecause, IsKnownBecause, IsCarriedBecause, IsLeastFront}
@@ -193,13 +194,20 @@ pub on_ok : (result : Result ⊤ EmptyAt) (P : Type 0) → IsOk result → OnOk 
 on_ok (Ok x) P h p = p
 on_ok (Err e) P h p = cc
 
-pub some_after : {A : Type 0} (P Q : A → Type 0) (found : Option A) → ((x : A) → P x → Q x) → IfSome found P → IfSome found Q
-some_after P Q None f h = tt
-some_after P Q (Some x) f h = f x h
-
 -- a prefix of what an analysis holds is that of what is given
 pub front_same : {B W R : Type 0} (sets : Sets W) (moves : Moves W) (rules : Rules) (a : Whole B W R) (t : ℕ) (b : Stored) → b ≡ record { paths = a.paths; last = a.last; exe = a.exe; core = a.core; facts = oldest t a.known.log } → front_of sets moves rules (basis_of b) ≡ front_below sets moves rules a t
 front_same sets moves rules a t b is = ap (λ (x : Stored). front_of sets moves rules (basis_of x)) is
 
 pub front_by : {B W R : Type 0} (sets : Sets W) (moves : Moves W) (rules : Rules) (store : B → Store) (a : Whole B W R) (t : ℕ) (spans : View W) → HasLaws (setting_of sets moves rules a) → IsKept (state_of sets moves rules store a) → IsFinished (state_of sets moves rules store a) → AreSetsOf (setting_of sets moves rules a) (oldest t a.known.log) spans → IsFront (front_of sets moves rules (basis_of (record { paths = a.paths; last = a.last; exe = a.exe; core = a.core; facts = oldest t a.known.log }))) a.known.last spans
 front_by sets moves rules store a t spans laws kept finished its = front_is (state_of sets moves rules store a) laws kept finished t spans its
+
+-- words, and the last point, of a prefix of the log
+module _ {B W R : Type 0} (sets : Sets W) (moves : Moves W) (rules : Rules) (store : B → Store) (a : Whole B W R) (kept : IsKept (state_of sets moves rules store a)) where
+  abbrev its_state : AnalysisState W
+  its_state = state_of sets moves rules store a
+
+  pub prefix_words : (t : ℕ) → HasWords (told (oldest t a.known.log))
+  prefix_words t p r v e = known_words its_state kept p r v (oldest_less t a.known.log kept.once p (Register r) v e)
+
+  pub prefix_last : a.known.last ≡ (setting_of sets moves rules a).legs.count
+  prefix_last = kept.last_is

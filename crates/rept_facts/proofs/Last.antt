@@ -1,10 +1,10 @@
 -- From which row on none may have written a byte, found by the list of the rows that may write.
-use Rattle.std.proofs.Common.{◌≡◌, ℕ, zero, suc, ◌+◌, ◌<◌, ◌≤◌, ◌^◌, false, List, get_or, length, Option, Some, None, IfSome, inl, inr, ap, subst, ◌∙◌, arith, slice_get}
+use Rattle.std.proofs.Common.{◌≡◌, ℕ, zero, suc, ◌+◌, ◌<◌, ◌≤◌, ◌^◌, List, get_or, Option, Some, None, IfSome, inl, inr, ap, subst, ◌∙◌, arith, slice_get}
 use Rattle.std.proofs.lemmas.Bool.{cases_lt}
 use Rattle.std.proofs.lemmas.Option.{slice_get_within, slice_get-get_or}
 use Rattle.rept_reason.specs.Facts.{Knowledge, told}
 use Rattle.rept_span.specs.Ranges.{AreLegs}
-use Rattle.rept_writing.specs.Hits.{AreInOrder, IsHitBefore, IsPastHitFrom, hits_at}
+use Rattle.rept_writing.specs.Hits.{AreInOrder, IsHitBefore, IsPastHitFrom}
 use Rattle.rept_writing.specs.declared.list.Writing.{Writing}
 use Rattle.rept_report.specs.Last.Latest.{IsMaybe, IsNoneFrom}
 use Rattle.rept_report.specs.Log.{oldest}
@@ -17,7 +17,7 @@ use Rattle.rept_facts.specs.State.{AnalysisState, along, timeline_of}
 use Rattle.rept_facts.specs.Inferring.{IsHitBy, IsSettled, past}
 use Rattle.rept_facts.specs.Latest.{ArePassed, writes_by}
 use Rattle.rept_facts.proofs.Along.{there_inside}
-use Rattle.rept_facts.proofs.Settled.{listed_hit, no_row}
+use Rattle.rept_facts.proofs.Settled.{listed_hit}
 
 -- a row that has begun is one of the rows
 pub begun_inside : (t : Timeline) → AreLegs t.legs → (m most : ℕ) (o : Option ℕ) → IsGreatestTo (IsBegun t m) most o → IfSome o (λ i. i < t.legs.count)
@@ -67,14 +67,6 @@ module _ {W : Type 0} (s : AnalysisState W) (settled : IsSettled s) (a : ℕ) (s
               | inr late ↦ absurd (is.none_after h.index late (hit_before equal n i below h))
             ]
       ]
-
-  -- none from a number on may have written the byte before a moment: none where the list has none,
-  -- and none past the last row
-  pub none_listed : (m count : ℕ) → count ≡ length s.work.writing → ((j : ℕ) → 0 ≤ j → j < count → hits_at s.work.writing j a ≡ false) → IsNoneFrom (IsMaybe (timeline_of s) (writes_by S K) (spot m a)) 0
-  none_listed m count all none k _ h = no_row s settled a small count all none k h.may
-
-  pub none_outside : (m : ℕ) → IsNoneFrom (IsMaybe (timeline_of s) (writes_by S K) (spot m a)) S.legs.count
-  none_outside m k out h = let inside = there_inside (timeline_of s) settled.writings.laws.legs k h.begun.row in omega (arith, inside, out)
 
   -- none past those that have begun
   pub none_begun : (m : ℕ) (o : Option ℕ) → IsGreatestTo (IsBegun (timeline_of s) m) S.legs.count o → o ≡ None → IsNoneFrom (IsMaybe (timeline_of s) (writes_by S K) (spot m a)) 0

@@ -11,6 +11,7 @@ pub mod Last
 pub mod Latest
 pub mod Learning
 pub mod Listing
+pub mod Newest
 pub mod Passing
 pub mod Reported
 pub mod Reserve

@@ -11,7 +11,7 @@ use Rattle.rept_span.specs.Ranges.{Legs}
 use Rattle.rept_reason.specs.View.Seen.{Seen}
 use Rattle.rept_report.specs.Reach.Reaching.{IsExtent}
 use Rattle.rept_report.specs.declared.paths.NumberWindow.{NumberWindow}
-use Rattle.rept_writing.specs.Hits.{IsSplitAt, IsFreeSince, hits_at}
+use Rattle.rept_writing.specs.Hits.{IsSplitAt, IsFreeSince}
 use Rattle.rept_writing.specs.declared.list.Writing.{Writing}
 use Rattle.rept_report.specs.declared.paths.NumberChain.{NumberChain}
 use Rattle.rept_report.specs.Moments.{Moments, AreMoments}
@@ -156,11 +156,3 @@ module _ {W : Type 0} (s : AnalysisState W) (settled : IsSettled s) (a : ℕ) (s
       let there = (settled.writings.barriers.each h.index h.writing h.found).there in
       let inside = there_inside (timeline_of s) settled.writings.laws.legs h.writing.row there in
       unsettled S K m a h.writing.row inside (settled.exact h.index h.writing a h.found small h.hits) h.late
-
-  -- none of them may write the byte, so no row may
-  pub no_row : (count : ℕ) → count ≡ length s.work.writing → ((j : ℕ) → 0 ≤ j → j < count → hits_at s.work.writing j a ≡ false) → (i : ℕ) → may_write S K i a ≡ true → ⊥
-  no_row count all none i may =
-      let h = listed_hit i may in
-      let within = slice_get_within s.work.writing h.index h.writing h.found in
-      let hits : hits_at s.work.writing h.index a ≡ true = rw h.found h.hits in
-      false≢true (sym (none h.index (omega arith) (omega (arith, within, all))) ∙ hits)

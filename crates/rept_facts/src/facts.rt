@@ -27,6 +27,7 @@ mod cells;
 mod ending;
 mod fronts;
 mod guessing;
+mod latest;
 mod learning;
 mod listing;
 mod looking;

@@ -14,12 +14,13 @@ use Rattle.rept_reason.specs.declared.view.inferred.Conclusion.{Conclusion}
 use Rattle.rept_reason.specs.declared.view.inferred.Premise.{Premise}
 use Rattle.rept_reason.specs.View.Rules.{Rules, AreLawfulRules, HasSameCells, IsRowByte, IsRowCell, offset_of}
 use Rattle.rept_reason.specs.View.Seen.{Seen, IsLawful}
-use Rattle.rept_reason.proofs.ViewLemmas.Alike.{inferred_alike, same_cells_back}
+use Rattle.rept_reason.proofs.ViewLemmas.Alike.{inferred_alike}
 use Rattle.rept_report.specs.Moments.{Moments}
 use Rattle.rept_report.specs.Views.{instant_of}
-use Rattle.rept_report.specs.Why.{fact_of, or_zero, premise_of}
+use Rattle.rept_report.specs.Why.{Because, because, fact_of, or_zero, premise_of}
 use Rattle.rept_log.specs.declared.row_bytes.RowByte.{RowByte}
-use Rattle.rept_log.specs.RowBytes.{on_side, byte_among, row_byte, bytes_from, base_seen, bytes_from_base, row_bytes, with_bytes, with_bytes_lawful}
+use Rattle.rept_log.specs.RowBytes.{on_side, byte_among, row_byte, bytes_from, base_seen, bytes_from_base, row_bytes, with_bytes}
+use Rattle.rept_log.specs.Concluding.{seen_row, IsConcluded, IsNotConcluded}
 
 -- what agrees on the elements of a list
 map_same : (f g : Premise → Fact) (ns : List Premise) → ((n : Premise) → Contains ns n → f n ≡ g n) → map f ns ≡ map g ns
@@ -74,6 +75,30 @@ module _ (s : Seen) where
     | inr (inr g) ↦ absurd (omega (arith, below, g))
   ]
 
+-- of two views that have the same of a row's own cells, the one lets the row conclude what the
+-- other does, and conclusions rest on the same facts
+module _ (rules : Rules) (row : StepRow) (laws : AreLawfulRules rules) (s t : Seen) (ls : IsLawful s) (lt : IsLawful t) (same : HasSameCells rules row s t) where
+  same_premise : (moments : Moments) (i : ℕ) (n : Premise) → IsRowCell rules row s n.when n.cell → premise_of moments t i n ≡ premise_of moments s i n
+  same_premise moments i n own = ap (λ (v : Option ℕ). fact_of (instant_of moments i n.when n.cell) n.cell (or_zero v)) (same n.when n.cell own)
+
+  same_premises : (d : Conclusion) → Contains (rules.infer row s) d → (moments : Moments) (i : ℕ) → map (premise_of moments s i) (rules.needs row s d) ≡ map (premise_of moments t i) (rules.needs row t d)
+  same_premises d has moments i =
+      sym (
+      ap (λ (ns : List Premise). map (premise_of moments t i) ns) (laws.needs_told row s t d same)
+      ∙ map_same (premise_of moments t i) (premise_of moments s i) (rules.needs row s d) (λ n needed. same_premise moments i n (laws.needs_own row s d n ls has needed).0)
+      )
+
+  pub concluded_alike : (moments : Moments) (i : ℕ) (f : Fact) (why : Because) → IsConcluded rules (seen_row moments i row s) f why → IsConcluded rules (seen_row moments i row t) f why
+  concluded_alike moments i f why h = record {
+    conclusion = h.conclusion;
+    inferred = inferred_alike rules row laws s t h.conclusion ls lt same h.inferred;
+    gives = h.gives;
+    is = h.is ∙ ap (λ (ps : List Fact). because h.conclusion.rule ps []) (same_premises h.conclusion h.inferred moments i);
+  }
+
+  pub not_concluded_alike : (moments : Moments) (i : ℕ) (f : Fact) → IsNotConcluded rules (seen_row moments i row t) f → IsNotConcluded rules (seen_row moments i row s) f
+  not_concluded_alike moments i f none d has gives = none d (inferred_alike rules row laws s t d ls lt same has) gives
+
 module _ (rules : Rules) (row : StepRow) (s : Seen) where
   -- a byte of the row is among them
   own_byte : (w : When) (a : ℕ) → IsRowByte rules row s a → byte_among (row_bytes rules row s) w a ≡ s.byte w a
@@ -89,27 +114,3 @@ module _ (rules : Rules) (row : StepRow) (s : Seen) where
   same_cells After (Register r) own = refl
   same_cells Before (Byte a) own = own_byte Before a own
   same_cells After (Byte a) own = own_byte After a own
-
-  -- so the rules conclude the same by them
-  pub inferred_by_bytes : AreLawfulRules rules → IsLawful s → (bytes : List RowByte) → bytes ≡ row_bytes rules row s → (d : Conclusion) → Contains (rules.infer row (with_bytes s bytes)) d → Contains (rules.infer row s) d
-  inferred_by_bytes laws lawful bytes is d has =
-      let t = with_bytes s (row_bytes rules row s) in
-      inferred_alike rules row laws t s d (with_bytes_lawful s (row_bytes rules row s) lawful) lawful (same_cells_back rules row s t same_cells) (subst (λ (bs : List RowByte). Contains (rules.infer row (with_bytes s bs)) d) is has)
-
-  pub bytes_are_enough : AreLawfulRules rules → IsLawful s → (bytes : List RowByte) → bytes ≡ row_bytes rules row s → (d : Conclusion) → Contains (rules.infer row s) d → Contains (rules.infer row (with_bytes s bytes)) d
-  bytes_are_enough laws lawful bytes is d has =
-      let t = with_bytes s (row_bytes rules row s) in
-      subst (λ (bs : List RowByte). Contains (rules.infer row (with_bytes s bs)) d) (sym is) (inferred_alike rules row laws s t d lawful (with_bytes_lawful s (row_bytes rules row s) lawful) same_cells has)
-
-  needs_by_bytes : AreLawfulRules rules → (d : Conclusion) → rules.needs row (with_bytes s (row_bytes rules row s)) d ≡ rules.needs row s d
-  needs_by_bytes laws d = laws.needs_told row s (with_bytes s (row_bytes rules row s)) d same_cells
-
-  same_premise : (moments : Moments) (i : ℕ) (n : Premise) → IsRowCell rules row s n.when n.cell → premise_of moments (with_bytes s (row_bytes rules row s)) i n ≡ premise_of moments s i n
-  same_premise moments i n own = ap (λ (v : Option ℕ). fact_of (instant_of moments i n.when n.cell) n.cell (or_zero v)) (same_cells n.when n.cell own)
-
-  -- and rest on the same facts
-  pub premises_by_bytes : AreLawfulRules rules → IsLawful s → (bytes : List RowByte) → bytes ≡ row_bytes rules row s → (d : Conclusion) → Contains (rules.infer row s) d → (moments : Moments) (i : ℕ) → map (premise_of moments (with_bytes s bytes) i) (rules.needs row (with_bytes s bytes) d) ≡ map (premise_of moments s i) (rules.needs row s d)
-  premises_by_bytes laws lawful bytes is d has moments i = rw is (
-      ap (λ (ns : List Premise). map (premise_of moments (with_bytes s (row_bytes rules row s)) i) ns) (needs_by_bytes laws d)
-      ∙ map_same (premise_of moments (with_bytes s (row_bytes rules row s)) i) (premise_of moments s i) (rules.needs row s d) (λ n needed. same_premise moments i n (laws.needs_own row s d n lawful has needed).0)
-      )

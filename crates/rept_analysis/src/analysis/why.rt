@@ -75,12 +75,7 @@ impl<'a, B: ByteFacts, W: Transfer, R: RowRules> Analysis<'a, B, W, R> {
         self.propagation.facts.held();
         match self.place(fact, r) {
             None => Ok(None),
-            Some(place) => {
-                let spans = self.propagation.facts.sets_below(place)?;
-                self.propagation
-                    .facts
-                    .known_below(alloc, &spans, place, fact, r)
-            }
+            Some(place) => self.propagation.facts.known_below(alloc, place, fact, r),
         }
     }
 

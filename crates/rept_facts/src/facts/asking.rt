@@ -80,28 +80,15 @@ impl<'a, B: ByteFacts, W: Transfer, R: RowRules> CrashFacts<'a, B, W, R> {
         }
     }
 
-    /// A row's number where all is learnt: no row that may have written a byte before a moment has
-    /// this one or a greater one.
-    fn end_of_writers(&self, moment: u32, a: u32) -> u32
-        requires settled { IsSettled (state_of W.sets W.moves R.rules B.store self.now) }
-        ensures { IsNoneFrom (IsMaybe (timeline self.now.paths) (writes_by (setting_of W.sets W.moves R.rules self.now) (told (oldest self.now.filled self.now.known.log))) (spot moment a)) result }
-    {
-        if self.paths.has_equal_numbers() {
-            return self.past_begun(moment, a);
-        }
-        let listed = self.writing_count();
-        match self.next_hit(0, listed, a) {
-            None => 0,
-            Some(_) => self.count(),
-        }
-    }
-
     /// What is said of the row that last wrote a byte before a moment, where all is learnt.
     fn settled_writer(&self, moment: u32, a: u32) -> Writer
         requires settled { IsSettled (state_of W.sets W.moves R.rules B.store self.now) }
         ensures { IsWriter (setting_of W.sets W.moves R.rules self.now) (told (oldest self.now.filled self.now.known.log)) (spot moment a) result }
     {
-        let end = self.end_of_writers(moment, a);
+        if !self.paths.has_equal_numbers() {
+            return self.listed_writer(moment, a);
+        }
+        let end = self.past_begun(moment, a);
         self.last_writer(SoughtByte {
             moment,
             address: a,

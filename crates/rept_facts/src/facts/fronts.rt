@@ -5,7 +5,7 @@ ghost use Rattle.std.specs.Prelude.{◌≡◌, ◌+◌, ◌<◌, ◌≤◌, leng
 ghost use Rattle.rept_reason.specs.declared.fact.Cell.TheVariants.{Register, Byte};
 ghost use Rattle.rept_report.specs.Log.{oldest};
 ghost use Rattle.rept_report.specs.Why.{Because, IsInferredBecause, IsKnownBecause, IsCarriedBecause};
-ghost use Rattle.rept_log.specs.Fronts.{IsInPlace, basis_of, front_of, stands, told_by, setting_in};
+ghost use Rattle.rept_log.specs.Fronts.{IsInPlace, IsNotKept, basis_of, front_of, stands, told_by, setting_in};
 ghost use Rattle.rept_facts.specs.State.{setting_of};
 ghost use Rattle.rept_facts.specs.Reasoned.{front_below, AreSetsOf};
 
@@ -13,7 +13,7 @@ use super::CrashFacts;
 use crate::front_sets::FrontSets;
 use crate::trail::PathTrail;
 use rept_isa::Reg;
-use rept_log::{Below, Front};
+use rept_log::{Below, Front, RegisterFront};
 use rept_reason::{Fact, Reason, RowRules};
 use rept_span::{Spans, Transfer};
 use rept_versions::ByteFacts;
@@ -37,7 +37,7 @@ impl<'a, B: ByteFacts, W: Transfer, R: RowRules> CrashFacts<'a, B, W, R> {
     }
 
     /// Sets that are filled from the facts at places below a limit.
-    pub fn sets_below(&self, limit: u32) -> Result<Spans<W>, OutOfMemory>
+    fn sets_below(&self, limit: u32) -> Result<Spans<W>, OutOfMemory>
         requires complete { self.now.complete ≡ true }
         ensures sets { IfOk result (λ spans. AreSetsOf (setting_of W.sets W.moves R.rules self.now) (oldest limit self.now.known.log) spans) }
         ensures sized { IfOk result (λ spans. spans.points ≡ (timeline self.now.paths).legs.count + 1) }
@@ -100,17 +100,48 @@ impl<'a, B: ByteFacts, W: Transfer, R: RowRules> CrashFacts<'a, B, W, R> {
         front.byte(self.alloc, moment, a)
     }
 
-    /// The reason of a register's value by what stands in the front.
-    pub fn known_below(
+    /// What the facts at places below a limit tell of registers.
+    fn registers(&self, limit: u32) -> RegisterFront<'_, 'a, B, W, R>
+        ensures { front_of W.sets W.moves R.rules (basis_of result) ≡ front_below W.sets W.moves R.rules self.now limit }
+    {
+        RegisterFront::new(&self.known, limit, self.paths, self.last, &self.dump)
+    }
+
+    /// The reason of a register's value by what stands in the front, where that isn't its own
+    /// value.
+    fn known_by_sets(
         &self,
         alloc: Global,
-        spans: &Spans<W>,
         limit: u32,
         fact: &Fact,
         r: Reg,
     ) -> Result<Option<Reason>, OutOfMemory>
         requires within { limit ≤ length self.now.known.log }
-        requires sets { AreSetsOf (setting_of W.sets W.moves R.rules self.now) (oldest limit self.now.known.log) spans.now }
+        requires point { fact.now.point ≤ (timeline self.now.paths).legs.count }
+        requires cell { fact.now.cell ≡ Register r }
+        requires kept { IsNotKept (front_below W.sets W.moves R.rules self.now limit) fact.now r }
+        requires complete { self.now.complete ≡ true }
+        ensures found { IfOk result (λ found. IfSome found (λ reason. IsKnownBecause (setting_in (front_below W.sets W.moves R.rules self.now limit)) (stands (front_below W.sets W.moves R.rules self.now limit)) fact.now (told_by reason))) }
+        ensures none { IfOk result (λ found. IfNone found ((why : Because) → IsKnownBecause (setting_in (front_below W.sets W.moves R.rules self.now limit)) (stands (front_below W.sets W.moves R.rules self.now limit)) fact.now why → ⊥)) }
+        ensures room { IfOk result (λ found. IfSome found IsInPlace) }
+    {
+        let spans = self.sets_below(limit)?;
+        let front = self.front(&spans, limit);
+        let mut rules = R::new();
+        front.of_register(&mut rules, alloc, fact, r)
+    }
+
+    /// The reason of a register's value by what stands in the front. Sets are filled only where
+    /// neither its own value nor a row that looks at no byte gives one. `OutOfMemory` says that
+    /// their room, or that for finding bytes, can't be had.
+    pub fn known_below(
+        &self,
+        alloc: Global,
+        limit: u32,
+        fact: &Fact,
+        r: Reg,
+    ) -> Result<Option<Reason>, OutOfMemory>
+        requires within { limit ≤ length self.now.known.log }
         requires point { fact.now.point ≤ (timeline self.now.paths).legs.count }
         requires cell { fact.now.cell ≡ Register r }
         requires named { 0 < r }
@@ -119,9 +150,13 @@ impl<'a, B: ByteFacts, W: Transfer, R: RowRules> CrashFacts<'a, B, W, R> {
         ensures none { IfOk result (λ found. IfNone found ((why : Because) → IsKnownBecause (setting_in (front_below W.sets W.moves R.rules self.now limit)) (stands (front_below W.sets W.moves R.rules self.now limit)) fact.now why → ⊥)) }
         ensures room { IfOk result (λ found. IfSome found IsInPlace) }
     {
-        let front = self.front(spans, limit);
+        let registers = self.registers(limit);
         let mut rules = R::new();
-        front.of_register(&mut rules, alloc, fact, r)
+        let found = registers.of_register(&mut rules, alloc, fact, r);
+        if found.is_some() {
+            return Ok(found);
+        }
+        self.known_by_sets(alloc, limit, fact, r)
     }
 
     /// The reason of a byte's fact by what a row lets one infer from what stands in the front.

@@ -1,92 +1,21 @@
 //! Reasons by what rows let one infer in a prefix of a log.
 
 ghost use Rattle.rept_timeline.specs.Paths.{timeline};
-ghost use Rattle.std.specs.Prelude.{◌≡◌, ◌-◌, ◌<◌, ◌≤◌, length, map, Some, IsSome, IfOk, IfSome, IfNone, Contains};
+ghost use Rattle.std.specs.Prelude.{◌≡◌, ◌-◌, ◌<◌, ◌≤◌, Some, IsSome, IfOk, IfSome, IfNone};
 ghost use Rattle.rept_reason.specs.declared.fact.Cell.TheVariants.{Register, Byte};
-ghost use Rattle.rept_reason.specs.declared.view.inferred.Conclusion.{Conclusion};
-ghost use Rattle.rept_reason.specs.View.Seen.{seen_cell};
-ghost use Rattle.rept_report.specs.Why.{premise_of, IsInferredBecause};
-ghost use Rattle.rept_log.specs.Fronts.{basis_of, front_of, stands, told_by, IsInPlace, IsNotInferred, IsNotInferredBy, AreNotInferredBefore, AreNotInferredAfter, Gives, setting_in};
+ghost use Rattle.rept_report.specs.Why.{IsInferredBecause};
+ghost use Rattle.rept_log.specs.Fronts.{basis_of, front_of, stands, told_by, IsInPlace, IsNotInferred, IsNotInferredBy, AreNotInferredBefore, AreNotInferredAfter, setting_in};
 
 use super::Front;
 use super::views::Standing;
+use crate::concluding::PlacedRow;
 use rept_isa::{Reg, StepRow};
-use rept_partial::Partial;
-use rept_reason::{Cell, Conclusion, Fact, Premise, Reason, RowRules, RowView, When};
+use rept_reason::{Fact, Reason, RowRules};
 use rept_span::Transfer;
 use rept_versions::ByteFacts;
-use smallvec::SmallVec;
 use std::alloc::{AllocError as OutOfMemory, Global};
 
-/// What is seen of a cell before or after a row.
-fn seen_by<V: RowView>(view: &V, when: When, cell: &Cell) -> Option<u32>
-    ensures { result ≡ seen_cell (V.seen view.now) when cell.now }
-{
-    match cell {
-        Cell::Register(r) => view.reg(when, *r).as_exact(),
-        Cell::Byte(a) => match view.byte(when, *a) {
-            Some(v) => Some(u32::from(v)),
-            None => None,
-        },
-    }
-}
-
 impl<'k, 'd, B: ByteFacts, W: Transfer, R: RowRules> Front<'k, 'd, B, W, R> {
-    /// Of conclusions of row i the first one that says what the fact says.
-    fn matching(&self, list: &[Conclusion], i: u32, fact: &Fact) -> Option<Conclusion>
-        requires { IsSome ((timeline self.now.paths).legs.row i) }
-        ensures found { IfSome result (λ d. Contains list.now d × Gives (timeline self.now.paths).moments i d fact.now) }
-        ensures none { IfNone result ((d : Conclusion) → Contains list.now d → Gives (timeline self.now.paths).moments i d fact.now → ⊥) }
-    {
-        for inferred in list {
-            if fact.point == self.instant(i, inferred.when, &inferred.cell)
-                && fact.cell == inferred.cell
-                && fact.value == inferred.value
-            {
-                return Some(*inferred);
-            }
-        }
-        None
-    }
-
-    /// What a conclusion of row i rests on, as a fact.
-    fn premise<V: RowView>(&self, view: &V, i: u32, need: &Premise) -> Fact
-        requires { IsSome ((timeline self.now.paths).legs.row i) }
-        ensures { result ≡ premise_of (timeline self.now.paths).moments (V.seen view.now) i need.now }
-    {
-        let cell = need.cell;
-        let value = match seen_by(view, need.when, &cell) {
-            Some(value) => value,
-            None => 0,
-        };
-        Fact {
-            point: self.instant(i, need.when, &cell),
-            cell,
-            value,
-        }
-    }
-
-    /// What conclusions of row i rest on, as facts.
-    fn premises<V: RowView>(
-        &self,
-        alloc: Global,
-        view: &V,
-        i: u32,
-        needs: &[Premise],
-    ) -> SmallVec<Fact, 10>
-        requires row { IsSome ((timeline self.now.paths).legs.row i) }
-        requires few { length needs.now ≤ 10 }
-        ensures facts { result.items ≡ map (premise_of (timeline self.now.paths).moments (V.seen view.now) i) needs.now }
-        ensures room { result.capacity ≡ 10 }
-    {
-        let mut premises = SmallVec::new(alloc);
-        for need in needs {
-            let premise = self.premise(view, i, need);
-            premises.push_reserved(premise);
-        }
-        premises
-    }
-
     /// The reason by what row i lets one infer.
     fn inferred_by(
         &self,
@@ -109,19 +38,12 @@ impl<'k, 'd, B: ByteFacts, W: Transfer, R: RowRules> Front<'k, 'd, B, W, R> {
             row: i,
             bytes: bytes.as_slice(),
         };
-        let list = rules.infer(alloc, row, &view);
-        match self.matching(list.as_slice(), i, fact) {
-            None => Ok(None),
-            Some(inferred) => {
-                let needs = R::needs(alloc, row, &view, &inferred);
-                let premises = self.premises(alloc, &view, i, needs.as_slice());
-                Ok(Some(Reason {
-                    rule: inferred.rule,
-                    premises,
-                    ranges: SmallVec::new(alloc),
-                }))
-            }
-        }
+        let placed = PlacedRow {
+            paths: self.paths,
+            number: i,
+            row,
+        };
+        Ok(placed.concluded(rules, alloc, &view, fact))
     }
 
     /// The reason by what row i lets one infer, if there is such a row.

@@ -2,11 +2,11 @@ use Rattle.rept_timeline.specs.Paths.{lawful}
 use Rattle.std.proofs.Common.{ℕ, subst}
 use Rattle.std.proofs.lemmas.Result.{IfOk-weaker}
 use Rattle.rept_report.specs.Why.IsReason.{of_carried_byte}
-use Rattle.rept_log.proofs.Reasoning.{none_after}
+use Rattle.rept_log.proofs.Reasoning.{none_after, some_after}
 use Rattle.rept_report.specs.Log.{oldest}
 use Rattle.rept_facts.specs.Reasoned.{AreSetsOf}
 use Rattle.rept_facts.specs.State.{setting_of, state_of}
-use Rattle.rept_facts.proofs.Fronts.{no_carried, some_after}
+use Rattle.rept_facts.proofs.Fronts.{no_carried}
 use Rattle.rept_analysis.proofs.analysis.Analysis.why_carried.Goals as goal
 
 pub carried_below-requires-clause-sets : goal.carried_below-requires-clause-sets

@@ -5,12 +5,12 @@ use Rattle.rept_report.specs.Why.{Because, IsInferredBecause}
 use Rattle.rept_report.specs.Why.IsReason.{of_inferred_byte}
 use Rattle.rept_report.proofs.Reasons.{entry_within}
 use Rattle.rept_log.specs.Fronts.{setting_in, stands}
-use Rattle.rept_log.proofs.Reasoning.{none_after}
+use Rattle.rept_log.proofs.Reasoning.{none_after, some_after}
 use Rattle.rept_report.specs.Log.{oldest}
 use Rattle.rept_facts.specs.Reasoned.{AreSetsOf, front_below}
 use Rattle.rept_facts.specs.State.{setting_of, state_of}
 use Rattle.rept_facts.proofs.Explaining.{front_finds}
-use Rattle.rept_facts.proofs.Fronts.{no_inferred, some_after}
+use Rattle.rept_facts.proofs.Fronts.{no_inferred}
 use Rattle.rept_analysis.proofs.analysis.Analysis.why_inferred.Goals as goal
 
 pub inferred_below-requires-clause-within : goal.inferred_below-requires-clause-within
