@@ -25,6 +25,8 @@ pub struct Found {
     pub on: Lanes,
     /// the spans of the last sweep back
     pub back: Lanes,
+    /// whether values that differ by constants told nothing new when they were last asked
+    pub related: bool,
 }
 
 /// How many bytes are tried in one sweep.
@@ -66,7 +68,12 @@ fn round<K: KnownPath, P: PathPremises>(
     ensures keeps { IfOk result (λ x. (story : Story) (run : ℕ → State) → story.rows ≡ earlier.entry.1.rows.now → story.image_end ≡ earlier.entry.1.image_end → story.premises ≡ P.premises premises.now → AreKnown story run (K.byte known.now) → IsFound story run found.table found.on found.back → IsFound story run x.0.table x.0.on x.0.back) }
     ensures refuses { (empty : Empty) → result ≡ Err (InferStop.Contradiction empty) → (story : Story) (run : ℕ → State) → story.rows ≡ earlier.entry.1.rows.now → story.image_end ≡ earlier.entry.1.image_end → story.premises ≡ P.premises premises.now → AreKnown story run (K.byte known.now) → IsFound story run found.table found.on found.back → ⊥ }
 {
-    let Found { table, back, .. } = found;
+    let Found {
+        table,
+        back,
+        related,
+        ..
+    } = found;
     let mut table = table;
     table.begin(NarrowRule::Value);
     let first = Earlier {
@@ -96,6 +103,7 @@ fn round<K: KnownPath, P: PathPremises>(
                         table,
                         on,
                         back: again.lanes,
+                        related,
                     },
                     swept.changed || again.changed,
                 )),
@@ -117,20 +125,34 @@ fn answered<K: KnownPath, P: PathPremises>(
     ensures keeps { IfOk result (λ x. (story : Story) (run : ℕ → State) → story.rows ≡ earlier.entry.1.rows.now → story.image_end ≡ earlier.entry.1.image_end → story.premises ≡ P.premises premises.now → AreKnown story run (K.byte known.now) → IsFound story run found.table found.on found.back → IsFound story run x.0.table x.0.on x.0.back) }
     ensures refuses { (empty : Empty) → result ≡ Err (InferStop.Contradiction empty) → (story : Story) (run : ℕ → State) → story.rows ≡ earlier.entry.1.rows.now → story.image_end ≡ earlier.entry.1.image_end → story.premises ≡ P.premises premises.now → AreKnown story run (K.byte known.now) → IsFound story run found.table found.on found.back → ⊥ }
 {
-    let Found { table, on, back } = found;
+    let Found {
+        table,
+        on,
+        back,
+        related,
+    } = found;
     let mut table = table;
     table.begin(NarrowRule::Call);
     match tell_answers(&mut table, premises, earlier.1) {
         Err(empty) => Err(InferStop::Contradiction(empty)),
-        Ok(told) => match round(Found { table, on, back }, earlier, known, premises) {
-            Err(stop) => Err(stop),
-            Ok((next, changed)) => Ok((next, told || changed)),
-        },
+        Ok(told) => {
+            let begun = Found {
+                table,
+                on,
+                back,
+                related,
+            };
+            match round(begun, earlier, known, premises) {
+                Err(stop) => Err(stop),
+                Ok((next, changed)) => Ok((next, told || changed)),
+            }
+        }
     }
 }
 
 /// What calls answer, a sweep on and a sweep back, and then what follows by values that differ by
-/// constants. Answers whether a set changed.
+/// constants, unless these told nothing new and no set has changed since. Answers whether a set
+/// changed.
 fn related<K: KnownPath, P: PathPremises>(
     found: Found,
     earlier: (Global, InferPath<'_>),
@@ -146,12 +168,31 @@ fn related<K: KnownPath, P: PathPremises>(
     match answered(found, earlier, known, premises) {
         Err(stop) => Err(stop),
         Ok((next, changed)) => {
-            let Found { table, on, back } = next;
+            if next.related && !changed {
+                return Ok((next, false));
+            }
+            let Found {
+                table,
+                on,
+                back,
+                ..
+            } = next;
             let mut table = table;
             table.begin(NarrowRule::Class);
             match relate_few(earlier.0, &mut table, earlier.1) {
                 Err(stop) => Err(stop),
-                Ok(more) => Ok((Found { table, on, back }, changed || more)),
+                Ok(more) => {
+                    let related = !more;
+                    Ok((
+                        Found {
+                            table,
+                            on,
+                            back,
+                            related,
+                        },
+                        changed || more,
+                    ))
+                }
             }
         }
     }

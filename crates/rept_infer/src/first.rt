@@ -7,6 +7,8 @@ ghost use Rattle.rept_narrow.specs.Admitted.{Story};
 ghost use Rattle.rept_narrow.specs.Rules.{HasSets};
 ghost use Rattle.rept_narrow.specs.Sweeps.{memory_of};
 
+use crate::asked::AskedWindows;
+use crate::sweeping::accesses;
 use rept_isa::{StepRow, register};
 use rept_narrow::naming::{is_window_held, window_of};
 use rept_narrow::{PathPremises, Sweep, Table};
@@ -86,20 +88,20 @@ fn note_window<P: PathPremises>(
     Ok(())
 }
 
-/// Holds the bytes around those that a row names at the first point, as far as they are told there,
-/// unless they are held.
-fn note_row_first<P: PathPremises>(
+/// Holds 32 bytes, if there are any, at the first point, as far as they are told there, unless they
+/// are held.
+fn note_window_first<P: PathPremises>(
     sweep: &mut Sweep,
     premises: &P,
     table: &Table,
-    row: (u32, &StepRow),
+    window: Option<u32>,
 ) -> Result<(), OutOfMemory>
     requires here { sweep.old.point ≡ 0 }
-    requires inside { row.0 + 1 < table.now.points }
+    requires inside { 0 < table.now.points }
     ensures point { sweep.new.point ≡ sweep.old.point }
     ensures holds { OnOk result ((story : Story) (run : ℕ → State) → story.premises ≡ P.premises premises.now → HasSets story table.now run → IsTrueSweep (memory_of run) sweep.old → IsTrueSweep (memory_of run) sweep.new) }
 {
-    match window_of(table, row.0, row.1) {
+    match window {
         None => Ok(()),
         Some(first) => {
             if is_window_held(sweep, first) {
@@ -123,8 +125,13 @@ pub fn start_on<P: PathPremises>(
     ensures point { sweep.new.point ≡ sweep.old.point }
     ensures holds { OnOk result ((story : Story) (run : ℕ → State) → story.premises ≡ P.premises premises.now → HasSets story table.now run → IsTrueSweep (memory_of run) sweep.old → IsTrueSweep (memory_of run) sweep.new) }
 {
+    let mut asked = AskedWindows::new();
     for index in 0..table.points() - 1 {
-        note_row_first(sweep, premises, table, (index, &rows[index as usize]))?;
+        let row = &rows[index as usize];
+        if accesses(row) {
+            let window = asked.fresh(window_of(table, index, row));
+            note_window_first(sweep, premises, table, window)?;
+        }
     }
     Ok(())
 }

@@ -8,6 +8,8 @@ ghost use Rattle.rept_infer.specs.Fresh.{AreHandedOut, AreZero, IsHeapEnd};
 ghost use Rattle.rept_narrow.specs.Rules.{HasSets};
 ghost use Rattle.rept_narrow.specs.Sweeps.{memory_of};
 
+use crate::asked::AskedWindows;
+use crate::sweeping::accesses;
 use rept_isa::{Instr, StepRow, register};
 use rept_narrow::naming::{is_window_held, window_of};
 use rept_narrow::{Sweep, Table};
@@ -224,19 +226,17 @@ fn note_zero_window(sweep: &mut Sweep, zero: ZeroBytes, first: u32) -> Result<()
     Ok(())
 }
 
-/// Holds the bytes around those that a row names, as far as they are among those that are 0, unless
-/// they are held.
-fn note_row_zeros(
+/// Holds 32 bytes, if there are any, as far as they are among those that are 0, unless they are
+/// held.
+fn note_window_zeros(
     sweep: &mut Sweep,
     zero: ZeroBytes,
-    table: &Table,
-    row: (u32, &StepRow),
+    window: Option<u32>,
 ) -> Result<(), OutOfMemory>
-    requires inside { row.0 + 1 < table.now.points }
     ensures point { sweep.new.point ≡ sweep.old.point }
     ensures holds { OnOk result ((run : ℕ → State) → AreZero run sweep.old.point zero.from zero.to → IsTrueSweep (memory_of run) sweep.old → IsTrueSweep (memory_of run) sweep.new) }
 {
-    match window_of(table, row.0, row.1) {
+    match window {
         None => Ok(()),
         Some(first) => {
             if is_window_held(sweep, first) {
@@ -265,9 +265,13 @@ fn note_zeros(sweep: &mut Sweep, zero: ZeroBytes, later: LaterRows<'_>) -> Resul
 {
     let last = later.table.points() - 1;
     let until = later.index.saturating_add(later.most).min(last);
+    let mut asked = AskedWindows::new();
     for index in later.index..until {
-        let row = later.rows[index as usize];
-        note_row_zeros(sweep, zero, later.table, (index, &row))?;
+        let row = &later.rows[index as usize];
+        if accesses(row) {
+            let window = asked.fresh(window_of(later.table, index, row));
+            note_window_zeros(sweep, zero, window)?;
+        }
     }
     Ok(())
 }

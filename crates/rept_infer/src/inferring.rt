@@ -43,11 +43,17 @@ pub fn infer<'a, K: KnownPath, P: PathPremises>(
         table,
         on: Lanes::new(alloc),
         back: Lanes::new(alloc),
+        related: false,
     };
     match rounds(first, (alloc, path), &fixed, premises) {
         Err(stop) => Err(stop),
         Ok(found) => {
-            let Found { table, on, back } = found;
+            let Found {
+                table,
+                on,
+                back,
+                ..
+            } = found;
             let settled = settled_from(&table, rows);
             Ok(InferredPath {
                 last,

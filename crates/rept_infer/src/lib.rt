@@ -1,6 +1,7 @@
 //! Narrowing what is known of a path: sets of values of registers at points, and bytes.
 #![tactic(auto)]
 
+mod asked;
 mod calls;
 pub mod crossing;
 pub mod finding;

@@ -9,7 +9,9 @@ ghost use Rattle.rept_narrow.specs.Sweeps.{IsAround, IsFollowed, memory_of};
 
 use crate::fresh::{most_later, note_fresh};
 use crate::stop::InferStop;
-use crate::sweeping::{BytesAround, cross_back, cross_on, note_loaded, note_named, note_stored};
+use crate::sweeping::{
+    BytesAround, cross_back, cross_on, note_loaded, note_named, note_stored, stores,
+};
 use rept_isa::StepRow;
 use rept_narrow::atomic::answer_row;
 use rept_narrow::memory::{load_row, store_row};
@@ -98,10 +100,14 @@ fn carry_on<K: KnownPath>(
         most: earlier.most,
     };
     let row = earlier.rows[index as usize];
-    note_named(sweep, &around, index, &row)?;
+    let all = note_named(sweep, &around, index, &row)?;
+    // none of its bytes is left to hold, and it writes none
+    if all && !stores(&row) {
+        return cross_on(earlier.alloc, sweep, &around, index, &row);
+    }
     note_loaded(sweep, table, index, &row)?;
     cross_on(earlier.alloc, sweep, &around, index, &row)?;
-    note_named(sweep, &around, index, &row)?;
+    let _all = note_named(sweep, &around, index, &row)?;
     note_stored(sweep, table, index, &row)?;
     Ok(())
 }
@@ -127,10 +133,14 @@ fn carry_back<K: KnownPath>(
         most: earlier.most,
     };
     let row = earlier.rows[index as usize];
-    note_named(sweep, &around, index, &row)?;
+    let all = note_named(sweep, &around, index, &row)?;
+    // none of its bytes is left to hold, and it writes none
+    if all && !stores(&row) {
+        return cross_back(earlier.alloc, sweep, &around, index, &row);
+    }
     note_stored(sweep, table, index, &row)?;
     cross_back(earlier.alloc, sweep, &around, index, &row)?;
-    note_named(sweep, &around, index, &row)?;
+    let _all = note_named(sweep, &around, index, &row)?;
     note_loaded(sweep, table, index, &row)?;
     Ok(())
 }

@@ -7,11 +7,11 @@ ghost use Rattle.rept_narrow.specs.Admitted.{Story};
 ghost use Rattle.rept_narrow.specs.Rules.{HasSets};
 ghost use Rattle.rept_narrow.specs.Sweeps.{IsAround, memory_of};
 
+use crate::asked::AskedWindows;
 use crate::first::start_on;
 use crate::passing::{Earlier, all_back, all_on};
 use crate::stop::InferStop;
-use crate::sweeping::{BytesAround, note_around, note_named};
-use rept_isa::StepRow;
+use crate::sweeping::{BytesAround, accesses, note_around, note_named};
 use rept_narrow::naming::{is_window_held, window_of};
 use rept_narrow::{Empty, KnownPath, Lanes, PathPremises, Sweep, Table};
 use std::alloc::AllocError as OutOfMemory;
@@ -44,24 +44,22 @@ fn start_back<K: KnownPath>(
     };
     let rows = earlier.rows;
     for index in 0..table.points() - 1 {
-        note_named(sweep, &around, index, &rows[index as usize])?;
+        let _all = note_named(sweep, &around, index, &rows[index as usize])?;
     }
     Ok(())
 }
 
-/// Holds the bytes around those that a row names at the point of the sweep, as far as they are
-/// told, unless they are held.
+/// Holds 32 bytes, if there are any, at the point of the sweep, as far as they are told, unless
+/// they are held.
 fn near_back<K: KnownPath>(
     sweep: &mut Sweep,
     bytes: &BytesAround<'_, K>,
-    index: u32,
-    row: &StepRow,
+    window: Option<u32>,
 ) -> Result<(), OutOfMemory>
-    requires inside { index + 1 < bytes.now.table.now.points }
     ensures point { sweep.new.point ≡ sweep.old.point }
     ensures holds { OnOk result ((story : Story) (run : ℕ → State) → sweep.old.point ≤ length story.rows → IsAround story run (K.byte bytes.now.known.now) bytes.now.lanes.now bytes.now.image_end → IsTrueSweep (memory_of run) sweep.old → IsTrueSweep (memory_of run) sweep.new) }
 {
-    match window_of(bytes.table, index, row) {
+    match window {
         None => Ok(()),
         Some(first) => {
             if is_window_held(sweep, first) {
@@ -91,8 +89,13 @@ fn start_around<K: KnownPath>(
         most: earlier.most,
     };
     let rows = earlier.rows;
+    let mut asked = AskedWindows::new();
     for index in 0..table.points() - 1 {
-        near_back(sweep, &bytes, index, &rows[index as usize])?;
+        let row = &rows[index as usize];
+        if accesses(row) {
+            let window = asked.fresh(window_of(table, index, row));
+            near_back(sweep, &bytes, window)?;
+        }
     }
     Ok(())
 }

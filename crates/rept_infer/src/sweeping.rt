@@ -1,6 +1,6 @@
 //! Bytes from point to point, on and back over all rows.
 
-ghost use Rattle.std.specs.Prelude.{◌≡◌, ◌+◌, ◌<◌, ◌≤◌, ◌^◌, ℕ, length, Some, OnOk, slice_get};
+ghost use Rattle.std.specs.Prelude.{◌≡◌, ◌+◌, ◌<◌, ◌≤◌, ◌^◌, ℕ, length, Some, IfSome, OnOk, slice_get};
 ghost use Rattle.rept_machine.specs.State.{State};
 ghost use Rattle.rept_narrow.specs.Lanes.{IsTrueSweep};
 ghost use Rattle.rept_narrow.specs.Admitted.{Story};
@@ -8,7 +8,7 @@ ghost use Rattle.rept_narrow.specs.Rules.{HasSets};
 ghost use Rattle.rept_narrow.specs.Sweeps.{AreKept, IsAround, memory_of};
 
 use crate::crossing::ByteCrossing;
-use rept_isa::StepRow;
+use rept_isa::{Instr, StepRow};
 use rept_narrow::naming::{loaded_byte, named, stored_byte};
 use rept_narrow::told::SweptBytes;
 use rept_narrow::{KnownPath, Lanes, Sweep, Table, ToldBytes};
@@ -29,58 +29,76 @@ pub struct BytesAround<'a, K: KnownPath> {
     pub most: u32,
 }
 
-/// Holds the byte at an address at the point of the sweep, if it is told.
+/// The byte at a point and an address, if it was known before all.
+fn known_before<K: KnownPath>(around: &BytesAround<'_, K>, point: u32, address: u32) -> Option<u8>
+    ensures { IfSome result (λ v. (story : Story) (run : ℕ → State) → point ≤ length story.rows → IsAround story run (K.byte around.now.known.now) around.now.lanes.now around.now.image_end → (run point).memory address ≡ v) }
+{
+    match around.known.byte(point, address) {
+        None => None,
+        Some(value) => Some(value),
+    }
+}
+
+/// The byte at a point and an address, if a span that was found before has it, or if it was known
+/// before all.
+fn told_before<K: KnownPath>(around: &BytesAround<'_, K>, point: u32, address: u32) -> Option<u8>
+    ensures { IfSome result (λ v. (story : Story) (run : ℕ → State) → point ≤ length story.rows → IsAround story run (K.byte around.now.known.now) around.now.lanes.now around.now.image_end → (run point).memory address ≡ v) }
+{
+    match around.lanes.byte(point, address) {
+        Some(value) => Some(value),
+        None => known_before(around, point, address),
+    }
+}
+
+/// Holds the byte at an address at the point of the sweep, if it is told. Answers whether it is.
 fn note_at<K: KnownPath>(
     sweep: &mut Sweep,
     around: &BytesAround<'_, K>,
     address: u32,
-) -> Result<(), OutOfMemory>
+) -> Result<bool, OutOfMemory>
     ensures point { sweep.new.point ≡ sweep.old.point }
     ensures holds { OnOk result ((story : Story) (run : ℕ → State) → sweep.old.point ≤ length story.rows → IsAround story run (K.byte around.now.known.now) around.now.lanes.now around.now.image_end → IsTrueSweep (memory_of run) sweep.old → IsTrueSweep (memory_of run) sweep.new) }
 {
+    if sweep.held().get(address).is_some() {
+        return Ok(true);
+    }
     let point = sweep.point();
-    let told = SweptBytes {
-        known: around.known,
-        lanes: around.lanes,
-        sweep: &*sweep,
-    }
-    .byte(point, address);
-    match told {
-        None => Ok(()),
-        Some(value) => sweep.note(address, value),
+    match told_before(around, point, address) {
+        None => Ok(false),
+        Some(value) => {
+            sweep.note(address, value)?;
+            Ok(true)
+        }
     }
 }
 
-/// Holds the byte at an address, if there is one, at the point of the sweep, if it is told.
-fn note_named_at<K: KnownPath>(
-    sweep: &mut Sweep,
-    around: &BytesAround<'_, K>,
-    address: Option<u32>,
-) -> Result<(), OutOfMemory>
-    ensures point { sweep.new.point ≡ sweep.old.point }
-    ensures holds { OnOk result ((story : Story) (run : ℕ → State) → sweep.old.point ≤ length story.rows → IsAround story run (K.byte around.now.known.now) around.now.lanes.now around.now.image_end → IsTrueSweep (memory_of run) sweep.old → IsTrueSweep (memory_of run) sweep.new) }
-{
-    match address {
-        None => Ok(()),
-        Some(address) => note_at(sweep, around, address),
-    }
-}
-
-/// Holds the bytes that a row names at the point of the sweep, as far as they are told.
+/// Holds the bytes that a row names at the point of the sweep, as far as they are told. Answers
+/// whether they all are.
 pub fn note_named<K: KnownPath>(
     sweep: &mut Sweep,
     around: &BytesAround<'_, K>,
     index: u32,
     row: &StepRow,
-) -> Result<(), OutOfMemory>
+) -> Result<bool, OutOfMemory>
     requires inside { index + 1 < around.now.table.now.points }
     ensures point { sweep.new.point ≡ sweep.old.point }
     ensures holds { OnOk result ((story : Story) (run : ℕ → State) → sweep.old.point ≤ length story.rows → IsAround story run (K.byte around.now.known.now) around.now.lanes.now around.now.image_end → IsTrueSweep (memory_of run) sweep.old → IsTrueSweep (memory_of run) sweep.new) }
 {
-    for k in 0..4u32 {
-        note_named_at(sweep, around, named(around.table, index, row, k))?;
+    if !accesses(row) {
+        return Ok(true);
     }
-    Ok(())
+    let mut all = true;
+    for k in 0..4u32 {
+        match named(around.table, index, row, k) {
+            None => return Ok(all),
+            Some(address) => {
+                if !note_at(sweep, around, address)? {
+                    all = false;
+                }
+            }
+        }
+    }
+    Ok(all)
 }
 
 /// Holds 32 bytes from an address on at the point of the sweep, as far as they are told.
@@ -93,9 +111,24 @@ pub fn note_around<K: KnownPath>(
     ensures holds { OnOk result ((story : Story) (run : ℕ → State) → sweep.old.point ≤ length story.rows → IsAround story run (K.byte around.now.known.now) around.now.lanes.now around.now.image_end → IsTrueSweep (memory_of run) sweep.old → IsTrueSweep (memory_of run) sweep.new) }
 {
     for k in 0..32u32 {
-        note_at(sweep, around, first.wrapping_add(k))?;
+        let _told = note_at(sweep, around, first.wrapping_add(k))?;
     }
     Ok(())
+}
+
+/// Whether a row is a load or an atomic instruction.
+fn loads(row: &StepRow) -> bool {
+    matches!(row.instr, Instr::Load { .. } | Instr::Amo { .. })
+}
+
+/// Whether a row is a store or an atomic instruction.
+pub fn stores(row: &StepRow) -> bool {
+    matches!(row.instr, Instr::Store { .. } | Instr::Amo { .. })
+}
+
+/// Whether a row is a load, a store or an atomic instruction.
+pub fn accesses(row: &StepRow) -> bool {
+    loads(row) || stores(row)
 }
 
 /// Holds byte `k` of those that a load reads, before it, as far as its register tells it.
@@ -129,6 +162,9 @@ pub fn note_loaded(
     ensures point { sweep.new.point ≡ sweep.old.point }
     ensures holds { OnOk result ((story : Story) (run : ℕ → State) → slice_get story.rows index ≡ Some row.now → HasSets story table.now run → IsTrueSweep (memory_of run) sweep.old → IsTrueSweep (memory_of run) sweep.new) }
 {
+    if !loads(row) {
+        return Ok(());
+    }
     for k in 0..4u32 {
         note_loaded_at(sweep, table, index, row, k)?;
     }
@@ -166,6 +202,9 @@ pub fn note_stored(
     ensures point { sweep.new.point ≡ sweep.old.point }
     ensures holds { OnOk result ((story : Story) (run : ℕ → State) → slice_get story.rows index ≡ Some row.now → HasSets story table.now run → IsTrueSweep (memory_of run) sweep.old → IsTrueSweep (memory_of run) sweep.new) }
 {
+    if !stores(row) {
+        return Ok(());
+    }
     for k in 0..4u32 {
         note_stored_at(sweep, table, index, row, k)?;
     }

@@ -4,6 +4,7 @@
 pub mod answers;
 pub mod atomic;
 pub mod bytes;
+mod due;
 mod exact;
 mod inverse;
 pub mod known;

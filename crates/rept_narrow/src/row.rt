@@ -47,18 +47,24 @@ fn carry_apart(table: &mut Table, index: u32, row: &StepRow, r: Reg) -> Result<b
 }
 
 /// Each register but the one that the row writes has the same value before and after it: both sets
-/// are cut to their common values. Answers whether a set changed.
-pub fn carry(table: &mut Table, index: u32, row: &StepRow) -> Result<bool, Empty>
+/// are cut to their common values, of these registers, by bits, and of those that are due since.
+/// Answers whether a set changed.
+pub fn carry(table: &mut Table, index: u32, row: &StepRow, due: u32) -> Result<bool, Empty>
     requires inside { index + 1 < table.old.points }
     ensures points { table.new.points ≡ table.old.points }
     ensures keeps { OnOk result ((story : Story) → slice_get story.rows index ≡ Some row.now → KeepsSets story table.old table.new) }
     ensures refuses { OnErr result ((story : Story) → slice_get story.rows index ≡ Some row.now → RefusesSets story table.old) }
 {
     let written = writes(&row.instr);
+    let due = due | table.due(index);
     let mut changed = false;
     for number in 0..32u8 {
+        let rest = due >> u32::from(number);
+        if rest == 0 {
+            return Ok(changed);
+        }
         let r = register(number);
-        if written != Some(r) {
+        if rest & 1 != 0 && written != Some(r) {
             if carry_apart(table, index, row, r)? {
                 changed = true;
             }

@@ -5,6 +5,7 @@ ghost use Rattle.rept_machine.specs.State.{State};
 ghost use Rattle.rept_narrow.specs.Admitted.{Story};
 ghost use Rattle.rept_narrow.specs.Rules.{set_at, HasSets, KeepsSets, IsSoundIn};
 
+use crate::due::DueRows;
 use crate::known::KnownPath;
 use crate::rule::{KeptRules, NarrowRule};
 use rept_isa::{Reg, register};
@@ -41,12 +42,13 @@ impl Model for SetGrid {
     ghost invariant = { λ t. length t.items.items ≡ t.points * 32 };
 }
 
-/// A set of values for each of the 32 registers at each point, and by which rule it was narrowed
-/// last.
+/// A set of values for each of the 32 registers at each point, by which rule it was narrowed last,
+/// and of which registers rows may tell something new.
 #[derive(Drop)]
 pub struct Table {
     grid: SetGrid,
     rules: KeptRules,
+    due: DueRows,
 }
 
 impl Model for Table {
@@ -136,8 +138,9 @@ impl Table {
         ensures known { IfOk result (λ t. (p r : ℕ) → p < points → r < 32 → set_at t p r ≡ Some (K.set known.now p r)) }
     {
         let rules = KeptRules::of(alloc, points as usize * 32)?;
+        let due = DueRows::of(alloc, points as usize)?;
         let grid = SetGrid::of_known(alloc, known, points)?;
-        Ok(Table { grid, rules })
+        Ok(Table { grid, rules, due })
     }
 
     /// From here on sets are narrowed by this rule.
@@ -176,7 +179,20 @@ impl Table {
         ensures others { (q s : ℕ) → ((q ≡ point) × (s ≡ r) → ⊥) → set_at self.new q s ≡ set_at self.old q s }
     {
         self.rules.keep(place(point, r));
+        self.due.touch(point, r);
         self.grid.set(point, r, w);
+    }
+
+    /// The registers whose sets before or after a row changed since its rules were tried, by bits.
+    pub(crate) fn due(&self, row: u32) -> u32 {
+        self.due.at(row)
+    }
+
+    /// Of the registers that are due at a row only these are from here on, by bits.
+    pub(crate) fn keep_due(&mut self, row: u32, due: u32)
+        ensures { self.new ≡ self.old }
+    {
+        self.due.keep(row, due);
     }
 
     /// Cuts the set of a register at a point to the values that another set has, too; answers
@@ -190,6 +206,9 @@ impl Table {
         ensures refuses { OnErr result ((story : Story) (run : ℕ → State) → HasSets story self.old run → IsSoundIn story run point r set → point ≤ length story.rows → ⊥) }
     {
         let old = self.at(point, r);
+        if old == set {
+            return Ok(false);
+        }
         match old.meet(set) {
             None => Err(Empty { point, reg: r }),
             Some(met) => {

@@ -18,10 +18,10 @@ impl<'a, F: Findings, K: KnownPath, P: PathPremises> InferredCrash<'a, F, K, P> 
         requires { point < (F.shown self.now.found.now).points }
         ensures { result ≡ is_added ((F.shown self.now.found.now).register point register) ((told_in (path_reader K.set K.byte P.premises) self.now.inferred).set point register) }
     {
-        is_added(
-            self.found.reg(point, register),
-            self.inferred.set(point, register),
-        )
+        match self.found.reg(point, register) {
+            Some(_) => false,
+            None => is_added(None, self.inferred.set(point, register)),
+        }
     }
 
     /// How many values of registers at a point only were inferred.
