@@ -3,3 +3,4 @@ pub mod Adding
 pub mod Few
 pub mod Notes
 pub mod Paths
+pub mod Ended

@@ -25,3 +25,5 @@ pub mod Lasting
 pub mod Past
 pub mod Leaving
 pub mod Early
+pub mod Free
+pub mod Ending

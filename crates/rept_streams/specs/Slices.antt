@@ -14,3 +14,5 @@ pub mod Windows
 pub mod Entries
 pub mod Surveyed
 pub mod Ends
+pub mod Ending
+pub mod Free

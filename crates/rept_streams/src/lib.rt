@@ -6,4 +6,4 @@ pub mod runs;
 pub mod slices;
 pub mod threads;
 
-pub use runs::{is_several, paths_are_whole, read_run, runs_are_small};
+pub use runs::{end_untraced, is_several, paths_are_whole, read_run, runs_are_small};

@@ -3,6 +3,7 @@
 
 pub mod back;
 pub mod checks;
+pub mod ending;
 pub mod keeping;
 pub mod laws;
 pub mod order;

@@ -48,7 +48,7 @@ impl Table for Traces {
             return self.files.lengths(alloc);
         }
         match asked {
-            "packets" | "stream" | "survey" | "run" | "opened" => {
+            "packets" | "stream" | "survey" | "last" | "run" | "opened" => {
                 let trace = changed(alloc, self.files.trace(), n)?;
                 told(alloc, asked, &self.files, trace.as_slice(), n)
             }
@@ -78,6 +78,7 @@ fn told(
         "packets" => packets::of_trace(alloc, trace),
         "stream" => packets::of_stream(alloc, trace, n.known(0)),
         "survey" => runs::survey(alloc, trace, n.word(0)),
+        "last" => runs::last(alloc, trace, n.word(0)),
         "run" => runs::run(alloc, files, trace, n.known(0)),
         "opened" => runs::opened(alloc, files, trace),
         "path" | "walk" => paths::answer(alloc, asked, files, trace, n),

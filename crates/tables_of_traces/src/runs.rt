@@ -8,9 +8,10 @@ use crate::rows::{ToldStep, told};
 use rept_isa::{Instr, StepRow};
 use rept_moments::one_path;
 use rept_path::PathFault;
-use rept_steps::{PushFault, Run, Steps};
+use rept_steps::{PushFault, Run, Steps, Threads};
 use rept_streams::slices::survey::survey_all;
-use rept_streams::{is_several, read_run};
+use rept_streams::slices::untraced::untraced;
+use rept_streams::{end_untraced, is_several, read_run};
 use rept_trace::Streams;
 use std::alloc::{AllocError, Global};
 use test_kit::Numbers;
@@ -34,6 +35,34 @@ pub fn survey(alloc: Global, bytes: &[u8], from: u32) -> Result<String, AllocErr
 {
     let times = times(alloc, bytes, from);
     format!(in alloc; "{times:?}")
+}
+
+/// Until when the prefix is untraced that these streams tell, and its last time, of the processes 1
+/// and 2.
+fn ends(alloc: Global, bytes: &[u8], from: u32) -> Result<(Option<u64>, Option<u64>), PathFault>
+    requires { length bytes.now < 2 ^ 32 }
+{
+    let streams = match Streams::open(bytes) {
+        Ok(streams) => streams,
+        Err(fault) => return Err(PathFault::Packet(fault)),
+    };
+    let mut told = survey_all(alloc, &streams, &[1, 2], from)?;
+    let (time, several, skipped) = (told.time, told.several, told.skipped);
+    let end = untraced(&mut told.windows, time, several)?;
+    let run = Run {
+        threads: Threads::new(alloc),
+        untraced: end,
+        skipped,
+    };
+    let ended = end_untraced(alloc, run, bytes, from)?;
+    Ok((end, ended.untraced))
+}
+
+pub fn last(alloc: Global, bytes: &[u8], from: u32) -> Result<String, AllocError>
+    requires { length bytes.now < 2 ^ 32 }
+{
+    let ends = ends(alloc, bytes, from);
+    format!(in alloc; "{ends:?}")
 }
 
 /// What a trace tells of the program and its threads, from a thread on; or the fault.

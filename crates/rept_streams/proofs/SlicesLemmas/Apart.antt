@@ -193,7 +193,7 @@ module _ (ts us : List ToldSlice) (up : Ascend thread_of us) (same : (n : ℕ) �
   of_one : (front : List ToldSlice) (u : ToldSlice) (later : List ToldSlice) → us ≡ front ++ u ∷ later → slices_of (thread_of u) ts ≡ filter (like thread_of u) front ++ u ∷ filter (like thread_of u) later
   of_one front u later e = sym (same (thread_of u)) ∙ ap (filter (like thread_of u)) e ∙ filter_middle front u later
 
-  past_is : (front : List ToldSlice) (u : ToldSlice) (later : List ToldSlice) → us ≡ front ++ u ∷ later → past_of (u ∷ later) ≡ begin_past ts u
+  pub past_is : (front : List ToldSlice) (u : ToldSlice) (later : List ToldSlice) → us ≡ front ++ u ∷ later → past_of (u ∷ later) ≡ begin_past ts u
   past_is front u later e =
       let there = of_one front u later e in
       let own = filter (like thread_of u) later in
@@ -220,7 +220,7 @@ module _ (ts us : List ToldSlice) (up : Ascend thread_of us) (same : (n : ℕ) �
       go true h r = λ i. h i ∷ r i
       go false h r = r
 
-  each_there : (P : ToldSlice → Type 0) → Each P ts → (front later : List ToldSlice) → us ≡ front ++ later → Each P later
+  pub each_there : (P : ToldSlice → Type 0) → Each P ts → (front later : List ToldSlice) → us ≡ front ++ later → Each P later
   each_there P h front [] e = tt
   each_there P h front (u ∷ later) e =
       let test : ToldSlice → Bool = λ t. thread_of t == thread_of u in
@@ -228,7 +228,7 @@ module _ (ts us : List ToldSlice) (up : Ascend thread_of us) (same : (n : ℕ) �
       let here : P u = each_middle P (filter (like thread_of u) front) u (filter (like thread_of u) later) (subst (Each P) (of_one front u later e) own) in
       (here, each_there P h (front ++ u ∷ []) later (shift front u later e))
 
-  each_back : (P : ToldSlice → Type 0) → Each P us → (front later : List ToldSlice) → ts ≡ front ++ later → Each P later
+  pub each_back : (P : ToldSlice → Type 0) → Each P us → (front later : List ToldSlice) → ts ≡ front ++ later → Each P later
   each_back P h front [] e = tt
   each_back P h front (t ∷ later) e =
       let test : ToldSlice → Bool = λ u. thread_of u == thread_of t in

@@ -29,7 +29,7 @@ module _ {A : Type 0} (P : A → Type 0) where
 pub told_permuted : (es fs : List StreamSlice) (ts : List ToldSlice) → IsPermutation es fs → AreEntriesOf es ts → (us : List ToldSlice) × AreEntriesOf fs us
 told_permuted es fs ts p a = told_by_each fs (each_all HasTold fs (All-permutation HasTold es fs p (all_each HasTold es (each_told es ts a))))
 
-told_ascend : (es : List StreamSlice) (ts : List ToldSlice) → AreEntriesOf es ts → Ascend (λ (e : StreamSlice). context_of e.start) es → Ascend thread_of ts
+pub told_ascend : (es : List StreamSlice) (ts : List ToldSlice) → AreEntriesOf es ts → Ascend (λ (e : StreamSlice). context_of e.start) es → Ascend thread_of ts
 told_ascend [] ts a h = subst (Ascend thread_of) (sym a) tt
 told_ascend (e ∷ es) [] a h = absurd a
 told_ascend (e ∷ es) (t ∷ ts) a h = (next es ts a.1 h.0, told_ascend es ts a.1 h.1) where

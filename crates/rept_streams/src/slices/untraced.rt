@@ -45,7 +45,7 @@ pub fn end_before(slice: &StreamSlice<'_>, next: Option<u64>) -> u64
 
 /// The least begin of a slice of the thread of the first one of these that is greater than its own,
 /// of slices that stand in order. `past` is that of the second one.
-fn past_begin(slices: &[StreamSlice<'_>], past: Option<u64>) -> Option<u64>
+pub fn past_begin(slices: &[StreamSlice<'_>], past: Option<u64>) -> Option<u64>
     ensures { (t : ToldSlice) (ts : List ToldSlice) → AreEntriesOf slices.now (t ∷ ts) → past ≡ past_of ts → result ≡ past_of (t ∷ ts) }
 {
     let (slice, later) = slices.split_first()?;
@@ -61,7 +61,7 @@ fn past_begin(slices: &[StreamSlice<'_>], past: Option<u64>) -> Option<u64>
 
 /// The end of a slice, if it begins before a time, where its thread's next greater begin is this
 /// one.
-fn end_early(slice: &StreamSlice<'_>, time: u64, past: Option<u64>) -> Option<u64>
+pub fn end_early(slice: &StreamSlice<'_>, time: u64, past: Option<u64>) -> Option<u64>
     requires { (list : List Packet) × Hold (rest_of slice.now.later) list }
     ensures { (t : ToldSlice) → IsEntryOf slice.now t → result ≡ early time t past }
 {

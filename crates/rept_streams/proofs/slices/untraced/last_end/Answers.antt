@@ -1,4 +1,4 @@
-use Rattle.std.proofs.Common.{◌∷◌, ◌+◌, ◌-◌, ◌<◌, ◌≡◌, ℕ, Option, List, arith, ap, drop, length, subst, sym}
+use Rattle.std.proofs.Common.{◌∷◌, ◌+◌, ◌-◌, ◌<◌, ◌≡◌, ℕ, List, arith, drop, length, subst, sym}
 use Rattle.rept_streams.specs.Slices.Entries.{AreEntriesOf}
 use Rattle.rept_streams.specs.declared.slices.telling.StreamSlice.{StreamSlice}
 use Rattle.rept_streams.proofs.SlicesLemmas.Lasting.{EndsFrom, all_ended, holds_at, none_ended, one_ended, rest_whole}
