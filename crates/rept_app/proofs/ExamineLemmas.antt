@@ -18,7 +18,7 @@ use Rattle.rept_app.specs.Study.{Studies, IsStudied, StudyHolds}
 use Rattle.rept_opening.specs.Loading.{CrashBytes}
 use Rattle.rept_opening.specs.Opened.{CoreSays, CrashTrace, trace_in, run_in, ReadsNotes}
 use Rattle.rept_app.specs.Told.{Examined, NotesTold}
-use Rattle.rept_opening.specs.TraceRun.{IsRunOf, HasNoRunOf}
+use Rattle.rept_opening.specs.TraceRun.{IsRunFor, HasNoRunOf}
 use Rattle.rept_opening.specs.True.{IsExcluded}
 use Rattle.rept_opening.specs.declared.refusal.Refusal.{Refusal}
 use Rattle.rept_opening.specs.declared.refusal.Refusal.TheVariants as refusal
@@ -130,7 +130,7 @@ module _ (t : CrashTrace) (status : ExitStatus) where
       stops (inl h) = inr h
       stops (inr h) = h
 
-  module _ (f : PathFault) (none : (run : Run) → IsRunOf t.crash t.trace t.manner.from run → f ≡ fault.OutOfMemory) (one : (g : PathFault) → HasNoRunOf t.crash t.trace t.manner.from g → (f ≡ fault.OutOfMemory) ⊎ (f ≡ g)) (no_memory : (g : PathFault) → HasNoRunOf t.crash t.trace t.manner.from g → g ≢ fault.OutOfMemory) where
+  module _ (f : PathFault) (none : (run : Run) → IsRunFor t.crash t.trace t.manner run → f ≡ fault.OutOfMemory) (one : (g : PathFault) → HasNoRunOf t.crash t.trace t.manner.from g → (f ≡ fault.OutOfMemory) ⊎ (f ≡ g)) (no_memory : (g : PathFault) → HasNoRunOf t.crash t.trace t.manner.from g → g ≢ fault.OutOfMemory) where
     pub refused_told : (f ≡ fault.OutOfMemory) ⊎ HasNoRunOf t.crash t.trace t.manner.from f → Yields (status_of (refusal.Path f)) status → WalkTold status
     refused_told (inl e) so = inr (memory_stops f e so)
     refused_told (inr has) so = trace_told f status (no_memory f has) so
@@ -151,7 +151,7 @@ module _ (t : CrashTrace) (status : ExitStatus) where
         which e (inr has) = (f, has)
 
   -- where it tells a run
-  module _ (run : Run) (only : (others : Run) → IsRunOf t.crash t.trace t.manner.from others → run ≡ others) (none : (f : PathFault) → HasNoRunOf t.crash t.trace t.manner.from f → ⊥) where
+  module _ (run : Run) (only : (others : Run) → IsRunFor t.crash t.trace t.manner others → run ≡ others) (none : (f : PathFault) → HasNoRunOf t.crash t.trace t.manner.from f → ⊥) where
     run_yields : RunYields (run_in t run) status → (status ≡ ends.Trace → ⊥) → WalkYields t status
     run_yields yields never = record {
       refused = λ f has. absurd (none f has);
@@ -178,17 +178,17 @@ module _ (t : CrashTrace) (reading : Reading) (text : List ℕ) (status : ExitSt
   refused_walks f (inr has) (inl h) = inl (inl (f, has, h))
   refused_walks f why (inr h) = inr (inl h)
 
-  pub studies_walk : (run : Run) → IsRunOf t.crash t.trace t.manner.from run → Studies (run_in t run) reading text status → WalksTrace t reading text status
+  pub studies_walk : (run : Run) → IsRunFor t.crash t.trace t.manner run → Studies (run_in t run) reading text status → WalksTrace t reading text status
   studies_walk run is (inl h) = inl (inr (run, is, inl h))
   studies_walk run is (inr (inl (a, account, inl h))) = inl (inr (run, is, inr (a, account, h)))
   studies_walk run is (inr (inl (a, account, inr h))) = inr (inr (run, a, is, account, h))
   studies_walk run is (inr (inr h)) = inr (inl h)
 
-pub trace_excludes : (t : CrashTrace) (run : Run) → ((others : Run) → IsRunOf t.crash t.trace t.manner.from others → run ≡ others) → IsExcluded (run_in t run) → TraceExcludes t
+pub trace_excludes : (t : CrashTrace) (run : Run) → ((others : Run) → IsRunFor t.crash t.trace t.manner others → run ≡ others) → IsExcluded (run_in t run) → TraceExcludes t
 trace_excludes t run only none others is = subst (λ (p : Run). IsExcluded (run_in t p)) (only others is) none
 
 -- where a session may have been held over a run, so it may over its trace and its files
-pub study_holds : {P : Type 0} (t : CrashTrace) (run : Run) (status : ExitStatus) → IsRunOf t.crash t.trace t.manner.from run → P ⊎ StudyHolds (run_in t run) status → P ⊎ WalkHolds t status
+pub study_holds : {P : Type 0} (t : CrashTrace) (run : Run) (status : ExitStatus) → IsRunFor t.crash t.trace t.manner run → P ⊎ StudyHolds (run_in t run) status → P ⊎ WalkHolds t status
 study_holds t run status is (inl p) = inl p
 study_holds t run status is (inr (consistent, so)) = inr ((run, is, consistent), so)
 

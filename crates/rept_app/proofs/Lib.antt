@@ -19,5 +19,8 @@ pub mod StepLemmas
 pub mod FindLemmas
 pub mod ReasonLineLemmas
 pub mod TrailLineLemmas
+pub mod WriterLineLemmas
 pub mod LineLemmas
 pub mod TrueLineLemmas
+pub mod EarlierLemmas
+pub mod PathWriters

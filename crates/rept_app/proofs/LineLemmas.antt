@@ -17,6 +17,7 @@ use Rattle.rept_app.proofs.FindLemmas.{find_true}
 use Rattle.rept_app.proofs.ReasonLineLemmas.{AreReasonsTrue, why_byte, why_register}
 use Rattle.rept_app.proofs.StepLemmas.{at_true, around_true}
 use Rattle.rept_app.proofs.TrailLineLemmas.{from_byte_true, from_register_true, lost_byte_true, lost_register_true}
+use Rattle.rept_app.proofs.WriterLineLemmas.{writers_true}
 
 module _ (t : SessionTold) (x : ExecutionHeld) (all : (c : ThreadPoint) → IsThreadPoint t.shown c → IsHeldAt t.shown c (x.at c)) (because : AreReasonsTrue t x) where
   question_true : (c : ThreadPoint) (text : List ℕ) → IsThreadPoint t.shown c → (q : Question) → IsAnswered t.shown c q text → IsReplyToQuestionTrue x.at t.shown c q text
@@ -28,7 +29,7 @@ module _ (t : SessionTold) (x : ExecutionHeld) (all : (c : ThreadPoint) → IsTh
   question_true c text is question.Recent e = tt
   question_true c text is (question.FromRegister r) e = from_register_true t.shown x.at all c r text is e
   question_true c text is (question.FromByte a) e = from_byte_true t.shown x.at all c a text is e
-  question_true c text is (question.Writers a count) e = tt
+  question_true c text is (question.Writers a count) e = writers_true t.shown x.at all c a count text is e
   question_true c text is question.Premises e = tt
   question_true c text is (question.Calls count) e = tt
   question_true c text is (question.LostRegister r) e = lost_register_true t.shown x.at all c r text is e

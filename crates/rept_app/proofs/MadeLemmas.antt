@@ -47,7 +47,7 @@ use Rattle.rept_opening.specs.Reading.{NotesSay}
 use Rattle.rept_opening.specs.Loading.{CrashBytes}
 use Rattle.rept_opening.specs.Opened.{CoreSays, CrashTrace, trace_in, ReadsNotes, Opening, run_at}
 use Rattle.rept_app.specs.Told.{NotesTold, WalkedTrace, OpensMade, made_bytes, summary_line}
-use Rattle.rept_opening.specs.TraceRun.{IsRunOf}
+use Rattle.rept_opening.specs.TraceRun.{IsRunFor}
 use Rattle.rept_opening.specs.True.{IsExecuted}
 use Rattle.rept_opening.specs.declared.refusal.Refusal.TheVariants as refusal
 use Rattle.rept_opening.specs.declared.status.ExitStatus.{ExitStatus}
@@ -117,8 +117,8 @@ module _ (seed steps : ℕ) (made : Made) (m : IsMade seed steps made) where
   abbrev run_made : Run
   run_made = run_of_one m.rows 0
 
-  told_made : IsRunOf crash_made made.trace 0 run_made
-  told_made = path_told crash_made made.trace 0 one_made (path_along m.rows) traced_made
+  told_made : IsRunFor crash_made made.trace (made_bytes made).manner run_made
+  told_made = (run_made, path_told crash_made made.trace 0 one_made (path_along m.rows) traced_made, refl)
 
   abbrev states_made : ℕ → State
   states_made = λ i. laid (bytes_of_words m.words) (m.run i)

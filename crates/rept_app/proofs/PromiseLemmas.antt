@@ -19,7 +19,7 @@ use Rattle.rept_app.specs.Claims.{NoExecution}
 use Rattle.rept_app.specs.Promise.{IsOpened, IsAnswered, IsImpossible, Promise}
 use Rattle.rept_app.specs.Told.{CallInput, Analysed, WalkedTrace, NotesTold, Examined, CallTold, ToldOf, CallWrites, made_bytes, summary_line}
 use Rattle.rept_opening.specs.Opened.{Opening, ReadsNotes, IsCrashOf, crash_at, domain_at, run_at, trace_in}
-use Rattle.rept_opening.specs.TraceRun.{IsRunOf}
+use Rattle.rept_opening.specs.TraceRun.{IsRunFor}
 use Rattle.rept_app.specs.Top.{EndsAt, EndsByFiles}
 use Rattle.rept_opening.specs.declared.refusal.FileKind.{FileKind}
 use Rattle.rept_opening.specs.declared.refusal.FileKind.TheVariants as file
@@ -115,7 +115,7 @@ pub record Analyses (bytes : CrashBytes) (lines text : List ℕ) (status : ExitS
   pub opening : Opening
   pub same : opening.bytes ≡ bytes
   pub read : ReadsNotes opening.bytes opening.notes
-  pub told : IsRunOf (crash_at opening) opening.bytes.trace opening.bytes.manner.from opening.run
+  pub told : IsRunFor (crash_at opening) opening.bytes.trace opening.bytes.manner opening.run
   pub analysed : Analysed (run_at opening) lines text status
 
 module _ (lines text : List ℕ) (status : ExitStatus) (promised : (status ≡ ends.Ok) ⊎ (status ≡ ends.Inconsistent)) where

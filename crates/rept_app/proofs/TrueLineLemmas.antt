@@ -1,6 +1,6 @@
 -- The lines that a session prints of a run are true, line by line.
-use Rattle.std.proofs.Common.{◌≡◌, ◌⊎◌, Bool, true, false, ℕ, suc, ◌+◌, ◌<◌, ◌≤◌, List, [], ◌∷◌, length, Option, Some, None, inl, inr, refl, sym, ap, ◌∙◌, subst, arith, zero-add}
-use Rattle.std.specs.Prelude.{bit_and, if◌then◌else◌, ◌==◌}
+use Rattle.std.proofs.Common.{◌≡◌, ◌≢◌, ◌⊎◌, Bool, true, false, ℕ, zero, suc, ◌+◌, ◌<◌, ◌≤◌, List, [], ◌∷◌, length, Option, Some, None, inl, inr, refl, sym, ap, ◌∙◌, subst, arith, zero-add}
+use Rattle.std.specs.Prelude.{bit_and, if◌then◌else◌, nat_le, ◌==◌, ◌&&◌}
 use Rattle.std.proofs.lemmas.Bool.{eqb-true}
 use Rattle.std.proofs.lemmas.List.Elements.{All-weaker}
 use Rattle.rept_isa.specs.declared.row.StepRow.{StepRow}
@@ -27,6 +27,7 @@ use Rattle.rept_order.specs.Writers.{Writer, WriterHoldsInHistory}
 use Rattle.rept_order.specs.Legs.{points_before}
 use Rattle.rept_moments.specs.Seen.{seen}
 use Rattle.rept_moments.proofs.NamingLemmas.Naming.{points_next}
+use Rattle.rept_findings.specs.LastWriters.{named_row}
 use Rattle.rept_findings.specs.Shown.{IsThreadPoint, Shown, moment_at, number}
 use Rattle.rept_findings.specs.declared.place.Place.TheVariants as places
 use Rattle.rept_findings.specs.declared.place.ThreadPlace.{ThreadPlace}
@@ -34,12 +35,15 @@ use Rattle.rept_findings.specs.declared.place.ThreadPoint.{ThreadPoint}
 use Rattle.rept_found.specs.Crash.{Scene}
 use Rattle.rept_found.specs.Histories.{IsPointOf, IsTrueIn, IsTrueTrip, RangeHoldsInAll, spot_in, value_at}
 use Rattle.rept_found.specs.Inferred.Narrowed.{Beyond, shown_beyond}
+use Rattle.rept_found.specs.Inferred.Writing.{greatest, is_line, or_writer, refined_step, writer_beyond, writer_if}
 use Rattle.rept_found.specs.Telling.{shown_of, shown_on}
 use Rattle.rept_found.specs.Trip.Executed.{IsHistoryOf, writer_on}
 use Rattle.rept_found.specs.Trip.Trip.{Trip, setting_on}
 use Rattle.rept_found.specs.Truth.{IsTrueOf, RangeAlwaysHoldsOnPath, WriterHoldsOnPath}
 use Rattle.rept_found.proofs.Alone.{alone_setting}
 use Rattle.rept_found.proofs.Settings.{points_are}
+use Rattle.rept_found.proofs.InferredLemmas.Lined.{refined_named}
+use Rattle.rept_found.proofs.InferredLemmas.Writers.{last_single}
 use Rattle.rept_found.proofs.Single.{one_thread_shown}
 use Rattle.rept_found.proofs.TripLemmas.Pointing.{at_point}
 use Rattle.rept_opening.specs.Beyond.{story_of}
@@ -143,13 +147,34 @@ pub record IsAlongPath (rows : List StepRow) (s : Shown) : Type 0 where
   pub points : s.points ≡ length rows + 1
   pub moments : s.moments ≡ length rows + 1
   pub place : (m : ℕ) → m ≤ length rows → s.place m ≡ record { thread = 0; place = places.Point m }
+  pub single : (p a : ℕ) → p ≤ length rows → s.writer p a ≢ told.TheVariants.Several
+
+none_some : {j : ℕ} → None ≡ Some j → ⊥
+none_some e = cc
+
+-- the greatest step of which something is told isn't told as several
+greatest_single : (told_at : ℕ → Option told.Writer) → ((j : ℕ) (w : told.Writer) → told_at j ≡ Some w → named_row w ≡ Some j) → (p : ℕ) → greatest told_at p ≢ told.TheVariants.Several
+greatest_single told_at named zero e = let no : ⊥ = cc in no
+greatest_single told_at named (suc k) e = by (told_at k) refl (greatest_single told_at named k) e
+  where
+    by : (o : Option told.Writer) → told_at k ≡ o → greatest told_at k ≢ told.TheVariants.Several → or_writer o (greatest told_at k) ≢ told.TheVariants.Several
+    by None is before e = before e
+    by (Some w) is before e = let no : ⊥ = none_some (ap named_row (sym e) ∙ named k w is) in no
+
+-- nor is it where more is inferred
+single_beyond : (b : Beyond) (s : Shown) (p a : ℕ) → s.writer p a ≢ told.TheVariants.Several → writer_beyond b.told s p a ≢ told.TheVariants.Several
+single_beyond b s p a single = by (is_line s && nat_le p (length (s.rows 0)))
+  where
+    by : (lined : Bool) → writer_if lined b.told s p a ≢ told.TheVariants.Several
+    by true = greatest_single (refined_step b.told s a) (refined_named b.told s a) p
+    by false = single
 
 along_path : {W : Type 0} (P : ThreadPath W) (K : Knowledge) (scene : Scene) → IsAlongPath P.given.rows (shown_of P K scene)
-along_path P K scene = let one = one_thread_shown P K scene in record { threads = one.threads; steps = one.rows; first = one.first; point = one.point; moment = one.moment; points = one.points; moments = one.moments; place = one.place }
+along_path P K scene = let one = one_thread_shown P K scene in record { threads = one.threads; steps = one.rows; first = one.first; point = one.point; moment = one.moment; points = one.points; moments = one.moments; place = one.place; single = λ p a few e. last_single (path_setting P) K p a (sym (one.writer p a few) ∙ e) }
 
 along_beyond : (rows : List StepRow) (s : Shown) (b : Option Beyond) → IsAlongPath rows s → IsAlongPath rows (shown_beyond b s)
 along_beyond rows s None a = a
-along_beyond rows s (Some b) a = record { threads = a.threads; steps = a.steps; first = a.first; point = a.point; moment = a.moment; points = a.points; moments = a.moments; place = a.place }
+along_beyond rows s (Some b) a = record { threads = a.threads; steps = a.steps; first = a.first; point = a.point; moment = a.moment; points = a.points; moments = a.moments; place = a.place; single = λ p q few. single_beyond b s p q (a.single p q few) }
 
 -- of one path
 module _ {W : Type 0} (P : ThreadPath W) (s : Shown) (along : IsAlongPath P.given.rows s) (states : ℕ → State) (true_of : IsTrueOf P s states) where
@@ -174,15 +199,15 @@ module _ {W : Type 0} (P : ThreadPath W) (s : Shown) (along : IsAlongPath P.give
   step_point : (j : ℕ) → j ≤ n → j ≡ (s.point j).point
   step_point j most = sym (ap (λ (x : ThreadPoint). x.point) (along.point j most))
 
-  writer_held : (p a : ℕ) → p ≤ n → (w : told.Writer) → WriterHoldsOnPath P states (spot p a) w → WritesOnPath P states (spot p a) (writer_told s w)
-  writer_held p a most (told.TheVariants.Writes j) h =
+  writer_held : (p a : ℕ) → p ≤ n → (w : told.Writer) → w ≢ told.TheVariants.Several → WriterHoldsOnPath P states (spot p a) w → WritesOnPath P states (spot p a) (writer_told s w)
+  writer_held p a most (told.TheVariants.Writes j) single h =
       let less = h.0 in
       (step_thread j (omega (arith, less, most)), subst (λ (k : ℕ). WriterHoldsOnPath P states (spot p a) (told.TheVariants.Writes k)) (step_point j (omega (arith, less, most))) h)
-  writer_held p a most (told.TheVariants.MayWrite j) h =
+  writer_held p a most (told.TheVariants.MayWrite j) single h =
       let less = h.0 in
       (step_thread j (omega (arith, less, most)), subst (λ (k : ℕ). WriterHoldsOnPath P states (spot p a) (told.TheVariants.MayWrite k)) (step_point j (omega (arith, less, most))) h)
-  writer_held p a most told.TheVariants.Several h = tt
-  writer_held p a most told.TheVariants.None h = h
+  writer_held p a most told.TheVariants.Several single h = single refl
+  writer_held p a most told.TheVariants.None single h = h
 
   held_path : (c : ThreadPoint) → IsThreadPoint s c → IsHeldAt s c (held_on P states c)
   held_path c is =
@@ -192,7 +217,7 @@ module _ {W : Type 0} (P : ThreadPath W) (s : Shown) (along : IsAlongPath P.give
         ranges = λ r. subst (λ (p : ℕ). ((s.range p r).lo ≤ (states c.point).register r) × ((states c.point).register r ≤ (s.range p r).hi)) (sym (number_is c is)) (true_of.ranges c.point r most);
         notes = λ r k e. true_of.notes c.point r k most (sym (ap (λ (p : ℕ). s.note p r) (number_is c is)) ∙ e);
         bytes = λ a v e. true_of.bytes c.point a v (sym (ap (λ (m : ℕ). s.byte m a) (moment_is c is)) ∙ e);
-        writers = λ a small. subst (λ (m : ℕ). WritesOnPath P states (spot c.point a) (writer_told s (s.writer m a))) (sym (moment_is c is)) (writer_held c.point a most (s.writer c.point a) (true_of.writers c.point a most small));
+        writers = λ a small. subst (λ (m : ℕ). WritesOnPath P states (spot c.point a) (writer_told s (s.writer m a))) (sym (moment_is c is)) (writer_held c.point a most (s.writer c.point a) (along.single c.point a most) (true_of.writers c.point a most small));
       }
 
   cell_on_path : (K : Knowledge) → ((p r v : ℕ) → register_known K p r ≡ Some v → s.register p r ≡ Some v) → ((m a v : ℕ) → K m (Byte a) ≡ Some v → s.byte m a ≡ Some v)

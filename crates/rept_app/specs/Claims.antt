@@ -1,12 +1,18 @@
 -- What holds of the report of the files that words name, where a conflict is told, and of a made
 -- run. This project's own.
-use Rattle.std.specs.Prelude.{ℕ, ◌<◌, ◌≤◌, List, Option, None, Some}
+use Rattle.std.specs.Prelude.{◌≡◌, ℕ, ◌<◌, ◌≤◌, true, List, Option, None, Some, MatchOption}
 use Rattle.rept_ports.specs.Shelves.{Files}
+use Rattle.rept_steps.specs.Course.{Course}
+use Rattle.rept_steps.specs.Runs.{course_of}
+use Rattle.rept_steps.specs.declared.run.Run.{Run}
 use Rattle.rept_reason.specs.Facts.{Knowledge}
+use Rattle.rept_span.specs.Ranges.{range}
+use Rattle.rept_report.specs.Setting.{way_of}
 use Rattle.rept_report.specs.Knowing.{Extends}
 use Rattle.rept_report.specs.Closure.{IsConsistent, IsReport}
 use Rattle.rept_findings.specs.Shown.{Shown}
 use Rattle.rept_found.specs.Telling.{shown_on}
+use Rattle.rept_known.specs.declared.both.Both.{Both}
 use Rattle.rept_make.specs.Made.{IsMade}
 use Rattle.rept_make.specs.declared.made.Made.{Made}
 use Rattle.rept_opening.specs.Words.Words.{Meaning}
@@ -14,7 +20,9 @@ use Rattle.rept_opening.specs.Words.Words.Meaning.{Open, Maps, Made as MadeWords
 use Rattle.rept_opening.specs.declared.words.request.Domain.{Domain}
 use Rattle.rept_opening.specs.declared.words.request.Domain.TheVariants as domain
 use Rattle.rept_opening.specs.Domains.{means_of}
-use Rattle.rept_opening.specs.Opened.{Opening, Opens, IsAccountOf, RunAccount, crash_at, crash_run, route_of, run_at, setting_at}
+use Rattle.rept_opening.specs.Opened.{CrashRun, Opening, Opens, IsAccountOf, RunAccount, crash_at, crash_run, route_of, run_at, run_setting, setting_at, told_in}
+use Rattle.rept_opening.specs.Places.{same_place}
+use Rattle.rept_opening.specs.TraceRun.{IsRunBy, IsRunOf}
 use Rattle.rept_app.specs.Told.{OpensMade}
 use Rattle.rept_opening.specs.True.{IsExcluded, IsExecuted, IsTrue}
 
@@ -65,3 +73,30 @@ BitsKnowMore words files =
     → IsAccountOf (crash_run (means_of domain.Ranges) (crash_at o) o.run) by_ranges
     → IsAccountOf (crash_run (means_of domain.KnownBits) (crash_at o) o.run) by_bits
     → BitsTellMore o by_ranges by_bits
+
+-- the value is left of a register at a point, by what is known of the run
+abbrev pub IsLeft : {W : Type 0} → CrashRun W → Knowledge → (p r v : ℕ) → Type 0
+IsLeft x K p r v = MatchOption (range (way_of (run_setting x)) K p r) ⊥ (λ set. x.means.sets.has set v ≡ true)
+
+-- What is shown second tells no less than what is shown first, of two runs of the same steps: each
+-- value of a register at its point, each byte at its place, and no range is wider.
+pub record TellsNoLess (C E : Course) (s more : Shown) : Type 0 where
+  pub registers : (p r v : ℕ) → s.register p r ≡ Some v → more.register p r ≡ Some v
+  pub bytes : (m a v : ℕ) → s.byte m a ≡ Some v → more.byte (same_place C E m) a ≡ Some v
+  pub ranges : (p r : ℕ) → p < s.points → r < 32 → IsNoWider s more p r
+
+-- Of one crash, by `bits` of one run, and by `infer` of another one of the same steps: `infer`
+-- tells no less, and leaves no value of a register that `bits` doesn't leave.
+pub record InferTellsMore (by_bits by_infer : CrashRun Both) (bits infer : RunAccount) : Type 0 where
+  pub shown : TellsNoLess (course_of by_bits.run) (course_of by_infer.run) (told_in by_bits bits).shown (told_in by_infer infer).shown
+  pub sets : (p r v : ℕ) → IsLeft by_infer infer.known p r v → IsLeft by_bits bits.known p r v
+
+-- Whatever words open the crash: all that `bits` tells of the run that its trace tells, `infer`
+-- tells of the run that is analysed for it, whose untraced prefix may end earlier.
+abbrev pub InferKnowsMore : List (List ℕ) → Files → Type 0
+InferKnowsMore words files =
+    (o : Opening) (told : Run) (bits infer : RunAccount) → Opens words files o
+    → IsRunOf (crash_at o) o.bytes.trace o.bytes.manner.from told → IsRunBy o.bytes.manner o.bytes.trace told o.run
+    → IsAccountOf (crash_run (means_of domain.KnownBits) (crash_at o) told) bits
+    → IsAccountOf (crash_run (means_of domain.Inferred) (crash_at o) o.run) infer
+    → InferTellsMore (crash_run (means_of domain.KnownBits) (crash_at o) told) (crash_run (means_of domain.Inferred) (crash_at o) o.run) bits infer

@@ -15,7 +15,7 @@ use Rattle.rept_opening.specs.Loading.{CrashBytes}
 use Rattle.rept_app.specs.Conflict.{EndsReport}
 use Rattle.rept_opening.specs.Opened.{CrashRun, CoreSays, RunAccount, run_setting, told_in, CrashTrace, trace_in, run_in, ReadsNotes, IsAccountOf}
 use Rattle.rept_app.specs.Told.{WalkedTrace, Examined}
-use Rattle.rept_opening.specs.TraceRun.{IsRunOf, HasNoRunOf}
+use Rattle.rept_opening.specs.TraceRun.{IsRunFor, HasNoRunOf}
 use Rattle.rept_opening.specs.True.{IsExcluded}
 use Rattle.rept_opening.specs.declared.refusal.Refusal.TheVariants as refusal
 use Rattle.rept_opening.specs.declared.status.ExitStatus.{ExitStatus}
@@ -24,7 +24,7 @@ use Rattle.rept_opening.specs.declared.status.ExitStatus.TheVariants as ends
 -- the session over the run's report was cut short
 abbrev pub WalkCut : CrashTrace → Reading → List ℕ → ExitStatus → Type 0
 WalkCut t reading text status =
-    (run : Run) × (a : RunAccount) × IsRunOf t.crash t.trace t.manner.from run × IsAccountOf (run_in t run) a × CutOff (told_in (run_in t run) a) reading text status
+    (run : Run) × (a : RunAccount) × IsRunFor t.crash t.trace t.manner run × IsAccountOf (run_in t run) a × CutOff (told_in (run_in t run) a) reading text status
 
 -- all of it; or memory ran out; or the session was cut short
 abbrev pub WalksTrace : CrashTrace → Reading → List ℕ → ExitStatus → Type 0
@@ -43,7 +43,7 @@ pub record RunYields {W : Type 0} (p : CrashRun W) (status : ExitStatus) : Type 
 -- How a trace ends the call, whatever the input is. Its status comes only where it tells no run.
 pub record WalkYields (t : CrashTrace) (status : ExitStatus) : Type 0 where
   pub refused : (fault : PathFault) → HasNoRunOf t.crash t.trace t.manner.from fault → Yields ends.Trace status
-  pub walked : (run : Run) → IsRunOf t.crash t.trace t.manner.from run → RunYields (run_in t run) status
+  pub walked : (run : Run) → IsRunFor t.crash t.trace t.manner run → RunYields (run_in t run) status
   pub only : status ≡ ends.Trace → (fault : PathFault) × HasNoRunOf t.crash t.trace t.manner.from fault
 
 -- how what the notes say ends the call
@@ -79,17 +79,17 @@ pub record IsExamined (bytes : CrashBytes) (source sink : PortMove Port) (status
 
 -- a session may have been held, since the trace tells a run whose closure has no conflict
 abbrev pub WalkHolds : CrashTrace → ExitStatus → Type 0
-WalkHolds t status = ((run : Run) × IsRunOf t.crash t.trace t.manner.from run × IsConsistent (run_setting (run_in t run))) × EndsSession status
+WalkHolds t status = ((run : Run) × IsRunFor t.crash t.trace t.manner run × IsConsistent (run_setting (run_in t run))) × EndsSession status
 
 -- the same of the files
 abbrev pub FilesHold : CrashBytes → ExitStatus → Type 0
 FilesHold bytes status =
-    ((notes : List (List ℕ)) × (run : Run) × ReadsNotes bytes notes × IsRunOf (crash_in bytes.program bytes.core notes) bytes.trace bytes.manner.from run × IsConsistent (run_setting (run_in (trace_in bytes notes) run)))
+    ((notes : List (List ℕ)) × (run : Run) × ReadsNotes bytes notes × IsRunFor (crash_in bytes.program bytes.core notes) bytes.trace bytes.manner run × IsConsistent (run_setting (run_in (trace_in bytes notes) run)))
     × EndsSession status
 
 -- no execution of the run ends in the crash
 abbrev pub TraceExcludes : CrashTrace → Type 0
-TraceExcludes t = (run : Run) → IsRunOf t.crash t.trace t.manner.from run → IsExcluded (run_in t run)
+TraceExcludes t = (run : Run) → IsRunFor t.crash t.trace t.manner run → IsExcluded (run_in t run)
 
 abbrev pub FilesExclude : CrashBytes → Type 0
 FilesExclude bytes = (notes : List (List ℕ)) → ReadsNotes bytes notes → TraceExcludes (trace_in bytes notes)

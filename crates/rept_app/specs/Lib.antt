@@ -17,4 +17,5 @@ pub mod TrueReasons
 pub mod TrueSteps
 pub mod TrueTrails
 pub mod TrueValues
+pub mod TrueWriters
 pub mod Process

@@ -31,9 +31,9 @@ IsOpened g o lines =
 -- all of this holds of that path's executions too (`IsTrue`). By `infer` more is told of such a
 -- run: each value, bound, known bit and writer that is told holds in every execution of the path
 -- that ends in the crash and keeps the premises, and nothing that the report has is lost
--- (`IsTrueBeyond`). So the lines of `reg`, `regs`, `range`, `mem`, `writer`, `at`, `around`,
--- `find`, `from`, `lost` and `why` claim only what each such execution has at their points
--- (`AreTrueLines`).
+-- (`IsTrueBeyond`). So the lines of `reg`, `regs`, `range`, `mem`, `writer`, `writers`, `at`,
+-- `around`, `find`, `from`, `lost` and `why` claim only what each such execution has at their
+-- points (`AreTrueLines`).
 pub record IsAnswered (g : CallInput) (out : PortMove Port) : Type 0 where
   pub opening : Opening
   pub lines : List ℕ

@@ -19,7 +19,7 @@ use Rattle.rept_opening.specs.Loading.{CrashBytes, crash_bytes, CoreBytes, Loadi
 use Rattle.rept_opening.specs.Loading.Loading.{Refused, Loaded, LoadedCore, MadeRun}
 use Rattle.rept_opening.specs.Mapped.{MappedCrash, mapped_crash, mapped_bytes, ListSays}
 use Rattle.rept_app.specs.Mapped.{NameFails}
-use Rattle.rept_opening.specs.TraceRun.{IsRunOf, HasNoRunOf}
+use Rattle.rept_opening.specs.TraceRun.{IsRunFor, HasNoRunOf}
 use Rattle.rept_opening.specs.declared.refusal.FileKind.{FileKind}
 use Rattle.rept_opening.specs.declared.refusal.FileKind.TheVariants as file
 use Rattle.rept_opening.specs.declared.refusal.Refusal.TheVariants as refusal
@@ -33,11 +33,12 @@ Analysed p input text status =
     TellsConflict p text status
     ⊎ ((a : RunAccount) × IsAccountOf p a × Replies (told_in p a) input text status)
 
--- The trace tells no run, for a reason that the line tells; or the one that it tells is analysed.
+-- The trace tells no run, for a reason that the line tells; or it tells one, and a run is analysed
+-- for it.
 abbrev pub WalkedTrace : CrashTrace → List ℕ → List ℕ → ExitStatus → Type 0
 WalkedTrace t input text status =
     ((fault : PathFault) × HasNoRunOf t.crash t.trace t.manner.from fault × SaysRefusal (refusal.Path fault) text status)
-    ⊎ ((run : Run) × IsRunOf t.crash t.trace t.manner.from run × Analysed (run_in t run) input text status)
+    ⊎ ((run : Run) × IsRunFor t.crash t.trace t.manner run × Analysed (run_in t run) input text status)
 
 -- The core file's notes are refused; or they give the registers, and the trace is walked.
 abbrev pub NotesTold : CrashBytes → List ℕ → List ℕ → ExitStatus → Type 0
@@ -76,7 +77,7 @@ Summed seed steps text status = (made : Made) × IsMade seed steps made × Exami
 pub record OpensMade (made : Made) (o : Opening) : Type 0 where
   pub bytes : o.bytes ≡ made_bytes made
   pub read : ReadsNotes o.bytes o.notes
-  pub told : IsRunOf (crash_at o) o.bytes.trace o.bytes.manner.from o.run
+  pub told : IsRunFor (crash_at o) o.bytes.trace o.bytes.manner o.run
 
 -- the session over the report of a made run was cut short
 abbrev pub SumCut : ℕ → ℕ → List ℕ → ExitStatus → Type 0

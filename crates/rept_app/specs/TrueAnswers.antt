@@ -37,11 +37,12 @@ held_in t h c = record {
 abbrev pub all_held_in : {W : Type 0} → Trip W → History → ExecutionHeld
 all_held_in t h = record { at = held_in t h; memory = λ x. memory_at t.course h (moment_named t.course x) }
 
--- what is so of the step that last wrote a byte of a path, whose steps are those of thread 0
+-- What is so of the step that last wrote a byte of a path, whose steps are those of thread 0. Of a
+-- path `several` isn't told.
 abbrev pub WritesOnPath : {W : Type 0} → ThreadPath W → (ℕ → State) → Spot → Writer → Type 0
 WritesOnPath P states x (writes r) = (r.thread ≡ 0) × WriterHoldsOnPath P states x (told.TheVariants.Writes r.step)
 WritesOnPath P states x (may_write r) = (r.thread ≡ 0) × WriterHoldsOnPath P states x (told.TheVariants.MayWrite r.step)
-WritesOnPath P states x several = Unit {0}
+WritesOnPath P states x several = ⊥
 WritesOnPath P states x none = WriterHoldsOnPath P states x told.TheVariants.None
 
 -- what an execution of a path has at a point

@@ -14,16 +14,17 @@ use Rattle.rept_app.specs.TrueReasons.{IsWhyTrue}
 use Rattle.rept_app.specs.TrueSteps.{AreStepsTrue, IsAtTrue, IsFindTrue}
 use Rattle.rept_app.specs.TrueTrails.{IsFromByteTrue, IsFromRegisterTrue, IsLostByteTrue, IsLostRegisterTrue}
 use Rattle.rept_app.specs.TrueValues.{AreBytesTrue, AreRegisterLinesTrue, ExecutionHeld, IsRangeLineTrue, IsRegisterLineTrue, IsWriterLineTrue, PointHeld}
+use Rattle.rept_app.specs.TrueWriters.{IsWritersTrue, writers_asked}
 
 -- Whether the answer to a question is true of an execution, by what it has at each point. `visits`,
--- `calls`, `help`, `premises` and the questions of the debugger tell the path or words. What
--- `writers` tells of steps isn't said here.
+-- `calls`, `help`, `premises` and the questions of the debugger tell the path or words.
 abbrev pub IsReplyToQuestionTrue : (ThreadPoint → PointHeld) → Shown → ThreadPoint → Question → List ℕ → Type 0
 IsReplyToQuestionTrue held s c question.At text = IsAtTrue held s c text
 IsReplyToQuestionTrue held s c (question.Around count) text = AreStepsTrue held s c count text
 IsReplyToQuestionTrue held s c (question.Find r value) text = IsFindTrue held c r value text
 IsReplyToQuestionTrue held s c (question.FromRegister r) text = IsFromRegisterTrue held s c r (register_source (s.rows c.thread) c.point r) text
 IsReplyToQuestionTrue held s c (question.FromByte a) text = IsFromByteTrue held s c a text
+IsReplyToQuestionTrue held s c (question.Writers a count) text = a < 2 ^ 32 → IsWritersTrue held s (writers_asked c a count) text
 IsReplyToQuestionTrue held s c (question.LostRegister r) text = IsLostRegisterTrue held s c r text
 IsReplyToQuestionTrue held s c (question.LostByte a) text = IsLostByteTrue held s c a text
 IsReplyToQuestionTrue held s c _ text = Unit {0}

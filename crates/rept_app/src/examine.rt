@@ -17,7 +17,7 @@ ghost use Rattle.rept_opening.specs.Opened.{crash_trace};
 use crate::study::study;
 use rept_dump::Dump;
 use rept_opening::{
-    CrashImages, ExitStatus, OpenOptions, Refusal, crash_images, read_dump, tell, trace_run,
+    CrashImages, ExitStatus, OpenOptions, Refusal, crash_images, read_dump, run_for, tell,
 };
 use rept_ports::{Sink, Source};
 use rept_streams::is_several;
@@ -68,7 +68,7 @@ pub fn walk<S: Source, K: Sink>(
     ensures stays { (notes : List (List ℕ)) → AreNotesOf dump.now notes → (input.new ≡ input.old) ⊎ WalkHolds (crash_trace (crash_of dump.now notes) trace.now manner) result }
     ensures impossible { (notes : List (List ℕ)) → AreNotesOf dump.now notes → result ≡ ExitStatus.Inconsistent → TraceExcludes (crash_trace (crash_of dump.now notes) trace.now manner) }
 {
-    match trace_run(alloc, trace, dump, manner.from) {
+    match run_for(alloc, trace, dump, manner) {
         Ok(run) => study(alloc, manner.domain, &run, dump, images, input, out),
         Err(fault) => tell(alloc, out, &Refusal::Path(fault)),
     }

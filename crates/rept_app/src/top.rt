@@ -11,7 +11,7 @@ ghost use Rattle.rept_opening.specs.Delivered.{Delivers};
 ghost use Rattle.rept_app.specs.Ends.{EndsSession};
 ghost use Rattle.rept_opening.specs.Loading.{NamesNone, FaultsEnd};
 ghost use Rattle.rept_app.specs.Promise.{Promise};
-ghost use Rattle.rept_app.specs.Claims.{AskedHolds, BitsKnowMore, ComeToReport, ReportHolds, NoExecution};
+ghost use Rattle.rept_app.specs.Claims.{AskedHolds, BitsKnowMore, ComeToReport, InferKnowsMore, ReportHolds, NoExecution};
 ghost use Rattle.rept_app.specs.Told.{CallWrites, call_input};
 ghost use Rattle.rept_app.specs.Top.{AskedEnds, FileStoreCauses, TopCauses, LoadsOf, EndsByFiles, NoneFails, Completes};
 ghost use Rattle.rept_opening.specs.Words.Words.{meaning_of};
@@ -111,6 +111,10 @@ pub fn rept<H: FileStore, S: Source, K: Sink>(
 
     // Each fact of the report of `open` is told by `bits` of the same files, and no range is wider.
     ensures bits { IfSome (H.port file_store.old).files (λ files. BitsKnowMore (map string_bytes words.now) files) }
+
+    // All that `bits` tells of registers and bytes is told by `infer` of the same files, and no set
+    // is wider. So it is where `infer` analyses a run whose untraced prefix ends earlier.
+    ensures infer { IfSome (H.port file_store.old).files (λ files. InferKnowsMore (map string_bytes words.now) files) }
 {
     conclusions_are_listed();
     reports_are_true::<Range, Atomic>();

@@ -6,7 +6,8 @@ use Rattle.rept_ports.specs.Shelves.{Files, Shelved}
 use Rattle.rept_ports.specs.declared.arguments.Unreadable.{Unreadable}
 use Rattle.rept_streams.specs.Runs.Kind.{is_several}
 use Rattle.rept_opening.proofs.Notes.{some_said}
-use Rattle.rept_opening.proofs.RunLemmas.{IsWhole, whole_run}
+use Rattle.rept_opening.proofs.EndedLemmas.{analysed_whole}
+use Rattle.rept_opening.proofs.RunLemmas.{IsWhole}
 use Rattle.rept_opening.proofs.LoadingLemmas.{Stops}
 use Rattle.rept_opening.proofs.BeyondLemmas.{told_beyond}
 use Rattle.rept_opening.proofs.TrueLemmas.{ReportsAreTrue}
@@ -19,6 +20,7 @@ use Rattle.rept_opening.specs.True.{IsTrue}
 use Rattle.rept_opening.specs.declared.refusal.FileKind.TheVariants as file
 use Rattle.rept_opening.specs.declared.load.OpenOptions.{OpenOptions}
 use Rattle.rept_opening.specs.declared.refusal.Refusal.{Refusal}
+use Rattle.rept_debug.specs.Begin.{beginning}
 use Rattle.rept_debug.specs.Debugged.{HasNoTalk, IsDebugged, IsHeld, IsHeldMapped, IsRefusedLoading, IsUnheld, NameStops, Notices, Streams, streams}
 use Rattle.rept_debug.specs.Process.{MayHaveGreeted, DebugProcess, OpensAs, OpensTalk, RefusesAs, session_words}
 use Rattle.rept_debug.specs.declared.no_talk.GdbError.{GdbError}
@@ -32,7 +34,7 @@ same_bytes exe exe' core core' trace trace' manner P e k t h =
 
 -- the run that was held over is one of some threads, each of which has a note
 held_whole : (bytes : CrashBytes) (io : Streams) (talk : GdbSession) (h : IsHeld bytes io talk) → IsWhole (trace_in bytes h.notes).crash h.held.run
-held_whole bytes io talk h = whole_run (trace_in bytes h.notes).crash bytes.trace talk.from h.held.run (some_said (is_several bytes.trace) bytes.core h.notes h.read.noted) h.held.is
+held_whole bytes io talk h = analysed_whole (trace_in bytes h.notes).crash bytes.trace (beginning bytes.manner talk.from) h.held.run (some_said (is_several bytes.trace) bytes.core h.notes h.read.noted) h.held.is
 
 -- its report is true
 held_true : (bytes : CrashBytes) (io : Streams) (talk : GdbSession) → ReportsAreTrue → (h : IsHeld bytes io talk) → IsTrue (run_in (trace_in bytes h.notes) h.held.run) h.held.over.account.known

@@ -5,8 +5,9 @@ use Rattle.rept_steps.specs.declared.run.Run.{Run}
 use Rattle.rept_path.specs.declared.fault.PathFault.{PathFault}
 use Rattle.rept_path.specs.declared.fault.PathFault.TheVariants as fault
 use Rattle.rept_found.specs.Crash.{Crash}
-use Rattle.rept_opening.specs.TraceRun.{HasNoRunOf, IsRunOf, IsRunRead}
-use Rattle.rept_debug.specs.Begin.{AreBegun, BeginsAt, HasNoStart, IsRefusedAt, IsTooLong, NeverBegins}
+use Rattle.rept_opening.specs.Opened.{CrashTrace}
+use Rattle.rept_opening.specs.TraceRun.{HasNoRunOf, IsRunBy, IsRunOf, IsRunRead}
+use Rattle.rept_debug.specs.Begin.{AreBegun, BeginsAt, HasNoStart, IsAnalysisBegun, IsRefusedAt, IsTooLong, NeverBegins, beginning}
 use Rattle.rept_debug.specs.declared.begin.RunFrom.{RunFrom}
 
 module _ (crash : Crash) (trace : List ℕ) where
@@ -114,3 +115,11 @@ module _ (crash : Crash) (trace : List ℕ) where
   pub too_long_later : (from : ℕ) (e : PathFault) → 0 < from → (e ≡ fault.OutOfMemory) ⊎ HasNoRunOf crash trace from e → (e ≡ fault.OutOfMemory) ⊎ NeverBegins crash trace from e
   too_long_later from e later (inl memory) = inl memory
   too_long_later from e later (inr has) = inr (inl (has, inl later))
+
+-- the run that is analysed, for one that was begun
+module _ (t : CrashTrace) where
+  pub analysis_begun : (told : RunFrom) (run : Run) → AreBegun t.crash t.trace t.manner.from (Ok told) → IsRunBy (beginning t.manner told.from) t.trace told.run run → IsAnalysisBegun t (Ok (record { from = told.from; run = run }))
+  analysis_begun told run are by = record { run = (told.run, are.run, by); from = are.from; refused = tt }
+
+  pub no_analysis : (e : PathFault) → (e ≡ fault.OutOfMemory) ⊎ NeverBegins t.crash t.trace t.manner.from e → IsAnalysisBegun t (Err e)
+  no_analysis e why = record { run = tt; from = tt; refused = why }

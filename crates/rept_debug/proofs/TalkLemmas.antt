@@ -14,11 +14,11 @@ use Rattle.rept_opening.specs.Loading.{crash_bytes}
 use Rattle.rept_opening.specs.Reading.{IsDumpOf}
 use Rattle.rept_opening.specs.Report.{HasNoReport, IsAsked}
 use Rattle.rept_opening.specs.Opened.{CrashRun, CrashTrace, crash_trace, run_in}
-use Rattle.rept_opening.specs.TraceRun.{IsRunOf}
+use Rattle.rept_opening.specs.TraceRun.{IsRunFor}
 use Rattle.rept_opening.specs.declared.load.OpenOptions.{OpenOptions}
 use Rattle.rept_opening.specs.declared.refusal.Refusal.{Refusal}
 use Rattle.rept_opening.specs.declared.refusal.Refusal.TheVariants as refusal
-use Rattle.rept_debug.specs.Begin.{BeginsAt, NeverBegins}
+use Rattle.rept_debug.specs.Begin.{BeginsAt, NeverBegins, beginning}
 use Rattle.rept_debug.specs.Debugged.{HoldsDialog, IsHeld, IsHeldTrace, IsNoticed, IsRefusedCrash, IsRefusedTrace, MayGreet, Streams, TalksOver}
 use Rattle.rept_debug.specs.Dialog.Greeting.{IsGreeting}
 use Rattle.rept_debug.specs.declared.dialog.conversation.SessionEnd.{SessionEnd}
@@ -45,10 +45,10 @@ module _ (t : CrashTrace) where
   pub no_room : IsRefusedTrace t refusal.OutOfMemory
   no_room = inr (inr refl)
 
-  pub run_refused : (from : ℕ) (run : Run) (r : Refusal) → IsRunOf t.crash t.trace from run → BeginsAt t.crash t.trace t.manner.from from → HasNoReport (run_in t run) r → IsRefusedTrace t r
+  pub run_refused : (from : ℕ) (run : Run) (r : Refusal) → IsRunFor t.crash t.trace (beginning t.manner from) run → BeginsAt t.crash t.trace t.manner.from from → HasNoReport (run_in t run) r → IsRefusedTrace t r
   run_refused from run r is begins h = inr (inl (from, run, begins, is, h))
 
-  pub run_held : (files : ProcessFiles) (io : Streams) (talk : GdbSession) (run : Run) → IsRunOf t.crash t.trace talk.from run → BeginsAt t.crash t.trace t.manner.from talk.from → IsNoticed t.manner.from talk.from io.errors → TalksOver (run_in t run) files io.input io.output talk.end → IsHeldTrace t files io talk
+  pub run_held : (files : ProcessFiles) (io : Streams) (talk : GdbSession) (run : Run) → IsRunFor t.crash t.trace (beginning t.manner talk.from) run → BeginsAt t.crash t.trace t.manner.from talk.from → IsNoticed t.manner.from talk.from io.errors → TalksOver (run_in t run) files io.input io.output talk.end → IsHeldTrace t files io talk
   run_held files io talk run is begins noticed over = record { run = run; is = is; begins = begins; noticed = noticed; over = over }
 
 -- what was held over the trace of a dump was held over its files

@@ -1,10 +1,13 @@
--- The packet from which a run is rebuilt for a debugger. This project's own.
+-- The packet from which a run is rebuilt for a debugger, and the run that is analysed for it. This
+-- project's own.
 use Rattle.std.specs.Prelude.{◌≡◌, ◌≢◌, ◌⊎◌, ◌<◌, ◌≤◌, ℕ, suc, List, length, Result, IfOk, IfErr}
 use Rattle.rept_found.specs.Crash.{Crash}
 use Rattle.rept_path.specs.declared.fault.PathFault.{PathFault}
 use Rattle.rept_path.specs.declared.fault.PathFault.TheVariants.{NoStart, OutOfMemory, TooLong}
 use Rattle.rept_steps.specs.declared.run.Run.{Run}
-use Rattle.rept_opening.specs.TraceRun.{HasNoRunOf, IsRunOf}
+use Rattle.rept_opening.specs.Opened.{CrashTrace}
+use Rattle.rept_opening.specs.TraceRun.{HasNoRunOf, IsRunFor, IsRunOf}
+use Rattle.rept_opening.specs.declared.load.OpenOptions.{OpenOptions}
 use Rattle.rept_debug.specs.declared.begin.RunFrom.{RunFrom}
 use Rattle.rept_debug.specs.declared.begin.RefusalKind.{RefusalKind}
 use Rattle.rept_debug.specs.declared.begin.RefusalKind.TheVariants as kind
@@ -71,3 +74,15 @@ pub record AreBegun (crash : Crash) (trace : List ℕ) (asked : ℕ) (result : R
   pub run : IfOk result (λ begun. IsRunOf crash trace begun.from begun.run)
   pub from : IfOk result (λ begun. BeginsAt crash trace asked begun.from)
   pub refused : IfErr result (λ e. (e ≡ OutOfMemory) ⊎ NeverBegins crash trace asked e)
+
+-- how the crash is studied, with the run from the packet of this number on
+abbrev pub beginning : OpenOptions → ℕ → OpenOptions
+beginning manner from = record { from = from; domain = manner.domain }
+
+-- What is begun of the trace of a crash for an analysis: the run that is analysed, from the packet
+-- that is asked for or a later one; or why there is none. Want of memory is none of the
+-- definition's.
+pub record IsAnalysisBegun (t : CrashTrace) (result : Result RunFrom PathFault) : Type 0 where
+  pub run : IfOk result (λ begun. IsRunFor t.crash t.trace (beginning t.manner begun.from) begun.run)
+  pub from : IfOk result (λ begun. BeginsAt t.crash t.trace t.manner.from begun.from)
+  pub refused : IfErr result (λ e. (e ≡ OutOfMemory) ⊎ NeverBegins t.crash t.trace t.manner.from e)

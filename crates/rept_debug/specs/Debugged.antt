@@ -31,7 +31,7 @@ use Rattle.rept_opening.specs.Mapped.{IsMappedAs, ListSays, MappedCrash, mapped_
 use Rattle.rept_opening.specs.Reading.{HasNoCrash}
 use Rattle.rept_opening.specs.Report.{HasNoReport}
 use Rattle.rept_opening.specs.Opened.{CrashRun, CrashTrace, IsAccountOf, IsCrashOf, ReadsNotes, RunAccount, run_in, told_in, trace_in}
-use Rattle.rept_opening.specs.TraceRun.{IsRunOf}
+use Rattle.rept_opening.specs.TraceRun.{IsRunFor}
 use Rattle.rept_opening.specs.True.{IsTrue, IsTrueBeyond}
 use Rattle.rept_opening.specs.declared.refusal.FileKind.{FileKind}
 use Rattle.rept_opening.specs.declared.refusal.FileKind.TheVariants as file
@@ -39,7 +39,7 @@ use Rattle.rept_opening.specs.declared.refusal.Refusal.{Refusal}
 use Rattle.rept_opening.specs.declared.refusal.Refusal.TheVariants as refusal
 use Rattle.rept_opening.specs.declared.status.ExitStatus.{ExitStatus}
 use Rattle.rept_opening.specs.declared.status.ExitStatus.TheVariants as ends
-use Rattle.rept_debug.specs.Begin.{BeginsAt, NeverBegins}
+use Rattle.rept_debug.specs.Begin.{BeginsAt, NeverBegins, beginning}
 use Rattle.rept_debug.specs.declared.no_talk.GdbError.{GdbError}
 use Rattle.rept_debug.specs.declared.no_talk.GdbError.TheVariants as no_talk
 use Rattle.rept_debug.specs.declared.talk.GdbSession.{GdbSession}
@@ -100,10 +100,10 @@ pub record TalksOver {W : Type 0} (p : CrashRun W) (files : ProcessFiles) (sourc
   pub report : IsAccountOf p account
   pub talks : Converses (dialog_over p files account) source sink end
 
--- the run of a trace, and what was answered over it and over the files of the crash
+-- the run that is analysed of a trace, and what was answered over it and over the files of the crash
 pub record IsHeldTrace (t : CrashTrace) (files : ProcessFiles) (io : Streams) (talk : GdbSession) : Type 0 where
   pub run : Run
-  pub is : IsRunOf t.crash t.trace talk.from run
+  pub is : IsRunFor t.crash t.trace (beginning t.manner talk.from) run
   pub begins : BeginsAt t.crash t.trace t.manner.from talk.from
   pub noticed : IsNoticed t.manner.from talk.from io.errors
   pub over : TalksOver (run_in t run) files io.input io.output talk.end
@@ -112,7 +112,7 @@ pub record IsHeldTrace (t : CrashTrace) (files : ProcessFiles) (io : Streams) (t
 abbrev pub IsRefusedTrace : CrashTrace → Refusal → Type 0
 IsRefusedTrace t r =
     ((fault : PathFault) × NeverBegins t.crash t.trace t.manner.from fault × (r ≡ refusal.Path fault))
-    ⊎ ((from : ℕ) × (run : Run) × BeginsAt t.crash t.trace t.manner.from from × IsRunOf t.crash t.trace from run × HasNoReport (run_in t run) r)
+    ⊎ ((from : ℕ) × (run : Run) × BeginsAt t.crash t.trace t.manner.from from × IsRunFor t.crash t.trace (beginning t.manner from) run × HasNoReport (run_in t run) r)
     ⊎ (status_of r ≡ ends.OutOfMemory)
 
 -- the files are accepted, and their trace was answered

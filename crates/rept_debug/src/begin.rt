@@ -1,15 +1,16 @@
-//! The packet from which a run is rebuilt.
+//! The packet from which a run is rebuilt, and the run that is analysed for it.
 
 ghost use Rattle.std.specs.Prelude.{◌≡◌, ◌≢◌, ◌<◌, ◌^◌, ℕ, List, length, true, false, IfOk};
 ghost use Rattle.rept_path.specs.declared.fault.PathFault.TheVariants as faults;
 ghost use Rattle.rept_streams.specs.Runs.Kind.{is_several};
 ghost use Rattle.rept_found.specs.Crash.{crash_of};
+ghost use Rattle.rept_opening.specs.Opened.{crash_trace};
 ghost use Rattle.rept_opening.specs.Reading.{AreNotesOf, HasNotes};
 ghost use Rattle.rept_opening.specs.TraceRun.{FitsDump};
-ghost use Rattle.rept_debug.specs.Begin.{AreBegun, IsKind, IsRefusedAt, IsTooLong};
+ghost use Rattle.rept_debug.specs.Begin.{AreBegun, IsAnalysisBegun, IsKind, IsRefusedAt, IsTooLong};
 
 use rept_dump::Dump;
-use rept_opening::trace_run;
+use rept_opening::{OpenOptions, analysed_run, trace_run};
 use rept_path::PathFault;
 use rept_steps::Run;
 use std::alloc::Global;
@@ -21,6 +22,36 @@ pub struct RunFrom {
     pub from: u32,
     /// the run
     pub run: Run,
+}
+
+/// The run that is analysed for a debugger, and the packet from which it was rebuilt: that of
+/// number `manner.from`, or the later one that `begin_run` takes. By `infer` the untraced prefix of
+/// that run may end earlier (`analysed_run`). It refuses where `begin_run` does, and for want of
+/// memory.
+pub fn begin_analysis(
+    alloc: Global,
+    trace: &[u8],
+    dump: &Dump<'_>,
+    manner: OpenOptions,
+) -> Result<RunFrom, PathFault>
+    requires small { length trace.now < 2 ^ 32 }
+    requires noted { HasNotes (is_several trace.now) dump.now }
+    ensures begun { (notes : List (List ℕ)) → AreNotesOf dump.now notes → IsAnalysisBegun (crash_trace (crash_of dump.now notes) trace.now manner) result }
+    ensures fits { IfOk result (λ begun. FitsDump dump.now begun.run) }
+{
+    let told = match begin_run(alloc, trace, dump, manner.from) {
+        Ok(told) => told,
+        Err(fault) => return Err(fault),
+    };
+    let from = told.from;
+    let beginning = OpenOptions {
+        from,
+        domain: manner.domain,
+    };
+    match analysed_run(alloc, told.run, trace, beginning) {
+        Ok(run) => Ok(RunFrom { from, run }),
+        Err(fault) => Err(fault),
+    }
 }
 
 /// The run of a trace from the packet of this number on. From packet 0 on, where that run has more

@@ -13,7 +13,7 @@ mod process;
 mod talk;
 mod telling;
 
-pub use begin::{RunFrom, begin_run};
+pub use begin::{RunFrom, begin_analysis, begin_run};
 pub use debugging::debug;
 pub use dialog::{Dialog, SessionEnd, converse, take_turn};
 pub use no_talk::GdbError;

@@ -12,7 +12,7 @@ ghost use Rattle.rept_debug.specs.Debugged.{IsHeldTrace, IsRefusedTrace, MayGree
 ghost use Rattle.rept_stub.specs.CrashFiles.{program_of};
 ghost use Rattle.rept_debug.specs.Debugged.{HoldsDialog};
 
-use crate::begin::begin_run;
+use crate::begin::begin_analysis;
 use crate::dialog::{Greeting, SessionEnd, go_on, greet};
 use crate::files::images_of;
 use crate::notice::noticed;
@@ -57,7 +57,7 @@ pub fn debug_trace<S: Source, K: Sink, E: Sink>(
 {
     let greeting = greet(alloc, input, out);
     let mut dialog = OpenDialog { greeting, files };
-    let begun = match begin_run(alloc, trace, dump, manner.from) {
+    let begun = match begin_analysis(alloc, trace, dump, manner) {
         Ok(begun) => begun,
         Err(fault) => return Err(Refusal::Path(fault)),
     };

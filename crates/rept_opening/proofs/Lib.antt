@@ -1,6 +1,11 @@
 pub mod AreaLemmas
 pub mod BeyondLemmas
 pub mod DeliveredLemmas
+pub mod Earlier
+pub mod EarlierLemmas
+pub mod EarlierMoments
+pub mod Embedded
+pub mod EndedLemmas
 pub mod LoadLemmas
 pub mod LoadingLemmas
 pub mod LoneLemmas

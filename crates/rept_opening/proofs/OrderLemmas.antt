@@ -36,11 +36,11 @@ use Rattle.rept_report.specs.Given.{setting_by}
 use Rattle.rept_found.specs.Trip.Trip.{Trip, given_by, setting_on}
 use Rattle.rept_opening.specs.Order.{GoesByOrder, may_store}
 
-and_second : (s v : Bool) → s ≡ true → (s && v) ≡ false → v ≡ false
+pub and_second : (s v : Bool) → s ≡ true → (s && v) ≡ false → v ≡ false
 and_second true v e h = h
 and_second false v e h = absurd (false≢true e)
 
-acts_store : (C : Course) (r : Row) (o : Option Stretch) → may_act_by C r o ≡ true → stores C r ≡ true
+pub acts_store : (C : Course) (r : Row) (o : Option Stretch) → may_act_by C r o ≡ true → stores C r ≡ true
 acts_store C r None e = absurd (false≢true e)
 acts_store C r (Some x) e = (and_parts (stores C r) (may_act_between C (row r) x.from x.to) e).0
 
@@ -89,7 +89,7 @@ module _ {W : Type 0} (sets : Sets W) (moves : Moves W) (rules : Rules) (C : Cou
       let steps = step_by_step C sound (may_store S K C) a m w is its quiet in
       along a steps.0 m w is steps.1
 
-  quiet_so : (a m w : ℕ) → Carries S K (passage a m w) → (x : Stretch) × IsLink C N m w x × IsUntouchedStep C (may_store S K C) x a
+  pub quiet_so : (a m w : ℕ) → Carries S K (passage a m w) → (x : Stretch) × IsLink C N m w x × IsUntouchedStep C (may_store S K C) x a
   quiet_so a m w h =
       let found = some_is (N.link m w) h.next in
       let link = names.links m w found.0 found.1 in
@@ -121,11 +121,11 @@ module _ {W : Type 0} (sets : Sets W) (moves : Moves W) (rules : Rules) (C : Cou
   }
 
 -- the last values of a thread that there is; else of the first one
-abbrev ending_seen : Course → Ending → Ending
+abbrev pub ending_seen : Course → Ending → Ending
 ending_seen C D = record { registers = λ t. D.registers (cond (nat_lt t (length C.threads)) t 0); dump = D.dump; image_end = D.image_end }
 
 -- the setting of a run that isn't one path
-many_setting : {W : Type 0} (t : Trip W) → alone_by t.course.threads t.course.untraced ≡ None → setting_on t ≡ setting_of t.sets t.moves t.rules t.course (ending_seen t.course t.ending) (numbers_of t.course)
+pub many_setting : {W : Type 0} (t : Trip W) → alone_by t.course.threads t.course.untraced ≡ None → setting_on t ≡ setting_of t.sets t.moves t.rules t.course (ending_seen t.course t.ending) (numbers_of t.course)
 many_setting t e = ap (λ (o : Option (List StepRow)). setting_by t.sets t.moves t.rules (given_by t.course t.ending o)) e
 
 pub by_order : {W : Type 0} (t : Trip W) (K : Knowledge) → IsSoundCourse t.course → alone_by t.course.threads t.course.untraced ≡ None → GoesByOrder t.course (numbers_of t.course) (setting_on t) K

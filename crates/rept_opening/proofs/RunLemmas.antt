@@ -62,7 +62,7 @@ module _ (crash : Crash) (trace : List ℕ) (from : ℕ) (several : is_several t
   to_run : (run : Run) → IsTracedRun (traced_in crash trace from) run → IsRunOf crash trace from run
   to_run run is = to_many (IsRunAlone crash trace from run) (is_several trace) several is
 
-  of_run : (run : Run) → IsRunOf crash trace from run → IsTracedRun (traced_in crash trace from) run
+  pub of_run : (run : Run) → IsRunOf crash trace from run → IsTracedRun (traced_in crash trace from) run
   of_run run is = of_many (IsRunAlone crash trace from run) (is_several trace) several is
 
   of_none : (f : PathFault) → HasNoRunOf crash trace from f → HasNoSharedRun crash trace from f

@@ -19,15 +19,16 @@ use Rattle.rept_opening.specs.declared.words.request.Domain.{Domain}
 use Rattle.rept_opening.specs.declared.words.request.Domain.TheVariants as domain
 use Rattle.rept_opening.specs.Domains.{means_of}
 use Rattle.rept_opening.specs.Opened.{Opening, ReadsNotes, crash_at, crash_run}
-use Rattle.rept_opening.specs.TraceRun.{IsRunOf}
+use Rattle.rept_opening.specs.TraceRun.{IsRunFor}
 use Rattle.rept_opening.specs.True.{IsTrue}
+use Rattle.rept_opening.proofs.EndedLemmas.{analysed_whole}
 use Rattle.rept_opening.proofs.LoneLemmas.{lone_run, lone_told}
 use Rattle.rept_opening.proofs.LoneNumbers.{TouchesByStores}
 use Rattle.rept_opening.proofs.LonePaths.{lone_path}
 use Rattle.rept_opening.proofs.LoneShown.{atomic_touches, lone_report, lone_same}
 use Rattle.rept_opening.proofs.Notes.{some_said}
 use Rattle.rept_opening.proofs.OrderLemmas.{by_order}
-use Rattle.rept_opening.proofs.RunLemmas.{IsWhole, whole_run}
+use Rattle.rept_opening.proofs.RunLemmas.{IsWhole}
 
 abbrev pub TrueOf : {W : Type 0} → Means W → Type 0
 TrueOf m = (crash : Crash) (run : Run) (known : Knowledge) → IsWhole crash run → IsReport (setting m crash (course_of run)) known → IsTrue (crash_run m crash run) known
@@ -82,5 +83,5 @@ true_in_both ranges bits domain.KnownBits = bits
 true_in_both ranges bits domain.Inferred = λ crash run known whole report. still_true (means_of domain.KnownBits) crash run known (bits crash run known whole report)
 
 -- what files come to is such a run
-pub opened_whole : (o : Opening) → ReadsNotes o.bytes o.notes → IsRunOf (crash_at o) o.bytes.trace o.bytes.manner.from o.run → IsWhole (crash_at o) o.run
-opened_whole o read told = whole_run (crash_at o) o.bytes.trace o.bytes.manner.from o.run (some_said (is_several o.bytes.trace) o.bytes.core o.notes read.noted) told
+pub opened_whole : (o : Opening) → ReadsNotes o.bytes o.notes → IsRunFor (crash_at o) o.bytes.trace o.bytes.manner o.run → IsWhole (crash_at o) o.run
+opened_whole o read told = analysed_whole (crash_at o) o.bytes.trace o.bytes.manner o.run (some_said (is_several o.bytes.trace) o.bytes.core o.notes read.noted) told

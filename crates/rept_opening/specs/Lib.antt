@@ -9,6 +9,7 @@ pub mod Mapped
 pub mod Opened
 pub mod Order
 pub mod Path
+pub mod Places
 pub mod Reading
 pub mod Report
 pub mod Status

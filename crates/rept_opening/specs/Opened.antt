@@ -32,7 +32,7 @@ use Rattle.rept_opening.specs.Loading.Loading.{Refused, Loaded, LoadedCore, Made
 use Rattle.rept_opening.specs.Mapped.{mapped_crash, IsMappedAs}
 use Rattle.rept_opening.specs.Reading.{NotesSay}
 use Rattle.rept_opening.specs.Taken.{taken_of}
-use Rattle.rept_opening.specs.TraceRun.{IsRunOf}
+use Rattle.rept_opening.specs.TraceRun.{IsRunFor}
 use Rattle.rept_opening.specs.declared.load.OpenOptions.{OpenOptions}
 
 -- a run, the crash in which it ends, and the means by which it is analysed
@@ -162,9 +162,9 @@ IsCrashOf files (Loaded loaded) bytes = bytes ≡ loaded
 IsCrashOf files (LoadedCore core) bytes = IsMappedAs (mapped_crash files core) bytes
 IsCrashOf files (MadeRun seed steps) bytes = ⊥
 
--- the words and the files come to it: the files are accepted, this is what the notes hold, and the
--- trace tells this run
+-- the words and the files come to it: the files are accepted, this is what the notes hold, and of
+-- the run that the trace tells this one is analysed
 pub record Opens (words : List (List ℕ)) (files : Files) (o : Opening) : Type 0 where
   pub loaded : IsCrashOf files (loading words files) o.bytes
   pub read : ReadsNotes o.bytes o.notes
-  pub told : IsRunOf (crash_at o) o.bytes.trace o.bytes.manner.from o.run
+  pub told : IsRunFor (crash_at o) o.bytes.trace o.bytes.manner o.run

@@ -25,7 +25,7 @@ pub use dumping::{CrashImages, crash_images, read_dump};
 pub use listed::{ListStop, ListedFiles, images_in, load_listed};
 pub use load::{CoreFiles, CrashFiles, LoadedRequest, OpenOptions, load_files};
 pub use refusal::{FileKind, Refusal};
-pub use running::trace_run;
+pub use running::{analysed_run, run_for, trace_run};
 pub use status::ExitStatus;
 pub use telling::{deliver, tell, tell_failed, tell_no_memory};
 pub use words::{CoreNames, Domain, FileNames, Request, meaning};

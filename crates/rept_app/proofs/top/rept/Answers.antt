@@ -9,10 +9,11 @@ use Rattle.rept_opening.specs.Mapped.{mapped_crash}
 use Rattle.rept_app.specs.MappedEnds.{ExaminesMapped, MappedEnd, MappedExcludes, MappedHolds, mapped_call}
 use Rattle.rept_app.specs.MadeRun.{Sums}
 use Rattle.rept_opening.specs.declared.load.LoadedRequest.TheVariants as asked
+use Rattle.rept_app.proofs.EarlierLemmas.{infer_knows}
 use Rattle.rept_app.proofs.MadeLemmas.{made_holds}
 use Rattle.rept_app.proofs.WordsLemmas.{asks_few}
 use Rattle.rept_app.proofs.MappedTop.{as_before, both_asks, both_at, both_loads, both_mean, both_named, mapped_causes, mapped_ends, mapped_excludes, mapped_holds, mapped_loads, mapped_once, mapped_stays, mapped_usage, mapped_writes}
-use Rattle.rept_app.specs.Claims.{BitsKnowMore, ComeToReport, ReportHolds, NoExecution}
+use Rattle.rept_app.specs.Claims.{BitsKnowMore, ComeToReport, InferKnowsMore, ReportHolds, NoExecution}
 use Rattle.rept_app.specs.Told.{CallWrites, call_input}
 use Rattle.rept_app.specs.Top.{EndsByFiles}
 use Rattle.rept_opening.specs.Words.Words.{meaning_of}
@@ -299,11 +300,20 @@ returns-in-Err-clause-promise g c =
 pub returns-in-Ok-Files-clause-bits : goal.returns-in-Ok-Files-clause-bits
 returns-in-Ok-Files-clause-bits g c = where_told (g.H.FileStore.port c.args.file_store.now).files (BitsKnowMore (map string_bytes c.args.words.now)) (λ files told. bits_know (map string_bytes c.args.words.now) files c.finer_sets_know_more.ensures c.bits_are_finer.ensures)
 
+pub returns-in-Ok-Files-clause-infer : goal.returns-in-Ok-Files-clause-infer
+returns-in-Ok-Files-clause-infer g c = where_told (g.H.FileStore.port c.args.file_store.now).files (InferKnowsMore (map string_bytes c.args.words.now)) (λ files told. infer_knows (map string_bytes c.args.words.now) files)
+
 pub returns-in-Ok-Made-clause-bits : goal.returns-in-Ok-Made-clause-bits
 returns-in-Ok-Made-clause-bits g c = where_told (g.H.FileStore.port c.args.file_store.now).files (BitsKnowMore (map string_bytes c.args.words.now)) (λ files told. bits_know (map string_bytes c.args.words.now) files c.finer_sets_know_more.ensures c.bits_are_finer.ensures)
 
+pub returns-in-Ok-Made-clause-infer : goal.returns-in-Ok-Made-clause-infer
+returns-in-Ok-Made-clause-infer g c = where_told (g.H.FileStore.port c.args.file_store.now).files (InferKnowsMore (map string_bytes c.args.words.now)) (λ files told. infer_knows (map string_bytes c.args.words.now) files)
+
 pub returns-in-Err-clause-bits : goal.returns-in-Err-clause-bits
 returns-in-Err-clause-bits g c = where_told (g.H.FileStore.port c.args.file_store.now).files (BitsKnowMore (map string_bytes c.args.words.now)) (λ files told. bits_know (map string_bytes c.args.words.now) files c.finer_sets_know_more.ensures c.bits_are_finer.ensures)
+
+pub returns-in-Err-clause-infer : goal.returns-in-Err-clause-infer
+returns-in-Err-clause-infer g c = where_told (g.H.FileStore.port c.args.file_store.now).files (InferKnowsMore (map string_bytes c.args.words.now)) (λ files told. infer_knows (map string_bytes c.args.words.now) files)
 
 pub returns-in-Ok-Maps-clause-causes : goal.returns-in-Ok-Maps-clause-causes
 returns-in-Ok-Maps-clause-causes g c =
@@ -474,6 +484,9 @@ returns-in-Ok-Maps-clause-bits g c =
     let words = map string_bytes c.args.words.now in
     let old = g.H.FileStore.port c.args.file_store.now in
     where_told old.files (BitsKnowMore words) (λ files told. bits_know words files c.finer_sets_know_more.ensures c.bits_are_finer.ensures)
+
+pub returns-in-Ok-Maps-clause-infer : goal.returns-in-Ok-Maps-clause-infer
+returns-in-Ok-Maps-clause-infer g c = where_told (g.H.FileStore.port c.args.file_store.now).files (InferKnowsMore (map string_bytes c.args.words.now)) (λ files told. infer_knows (map string_bytes c.args.words.now) files)
 
 pub returns-in-Ok-Maps-clause-promise : goal.returns-in-Ok-Maps-clause-promise
 returns-in-Ok-Maps-clause-promise g c =
